@@ -1,0 +1,60 @@
+# Read by bench/pages and bench/heap: it takes times and peak memory of commands.
+# A command is a text for `bash -c`, and must end with status 0.
+
+export LC_ALL=C
+
+# The best time of several runs, in microseconds.
+best_time() {
+    local command=$1 best='' from to told
+    bash -c "$command" >/dev/null || { echo "this command fails: $command" >&2; return 1; }
+    if command -v hyperfine >/dev/null; then
+        told=$(mktemp)
+        hyperfine --style none --warmup 1 --min-runs 10 --export-csv "$told" "$command" >/dev/null 2>&1 || return 1
+        # The least time is the last field but one, counted from the end because the command may hold commas.
+        tail -n 1 "$told" | awk -F, '{ printf "%d\n", $(NF - 1) * 1000000 }'
+        rm -f "$told"
+        return
+    fi
+    for _ in 1 2 3 4 5; do
+        from=${EPOCHREALTIME/./}
+        bash -c "exec $command" >/dev/null
+        to=${EPOCHREALTIME/./}
+        if [ -z "$best" ] || [ $((to - from)) -lt "$best" ]; then
+            best=$((to - from))
+        fi
+    done
+    echo "$best"
+}
+
+# The most memory that a command has at a time, in KiB.
+peak_memory() {
+    if [ -x /usr/bin/time ]; then
+        /usr/bin/time -f %M bash -c "exec $1" 2>&1 >/dev/null | tail -n 1
+    else
+        python3 - "$1" <<'PYTHON'
+import resource, subprocess, sys
+subprocess.run(["bash", "-c", "exec " + sys.argv[1]], stdout=subprocess.DEVNULL, check=True)
+print(resource.getrusage(resource.RUSAGE_CHILDREN).ru_maxrss)
+PYTHON
+    fi
+}
+
+# One line: a name, a time and a peak memory.
+print_row() {
+    awk -v name="$1" -v time="$2" -v memory="$3" \
+        'BEGIN { printf "%-28s %9.1f ms %9d KiB\n", name, time / 1000, memory }'
+}
+
+# One line: a name and the ratio of two numbers.
+print_ratio() {
+    awk -v name="$1" -v over="$2" -v under="$3" 'BEGIN { printf "%-28s %9.2f\n", name, over / under }'
+}
+
+# The whole path of the program, which must be there.
+find_program() {
+    if [ ! -x "$1" ]; then
+        echo "the program $1 isn't there or can't be run" >&2
+        return 1
+    fi
+    echo "$(cd "$(dirname "$1")" && pwd)/$(basename "$1")"
+}

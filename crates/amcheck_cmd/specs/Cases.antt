@@ -1,0 +1,61 @@
+-- What is said of a case: the text of its file, and its files.
+use Rattle.std.specs.Prelude.{◌≡◌, ℕ, Bool, List, [], length, nat_lt, if◌then◌else◌, Option, Some, None, Ok, Err}
+use Rattle.outside.specs.Outside.{Names}
+use Rattle.page_layout.specs.declared.rules.Rule.{Rule}
+use Rattle.case_file.specs.Case.{Meaning, case_of}
+use Rattle.case_file.specs.Record.{CaseRecord}
+use Rattle.reports.specs.Lists.{Lists}
+use Rattle.reports.specs.declared.fault.CheckFault.{CheckFault}
+use Rattle.reports.specs.declared.fault.Which.{Which}
+use Rattle.reports.specs.declared.fault.Which.TheVariants as which
+use Rattle.reports.specs.declared.places.Place.{Place}
+use Rattle.reports.specs.declared.places.Reason.{Reason}
+use Rattle.heap_check.specs.Broken.{Breaks, Doubts}
+use Rattle.heap_check.specs.Files.{refusal_of}
+use Rattle.heap_check.specs.Heap.{doubts_of, findings_of}
+
+-- how many bytes a case file may have
+abbrev pub text_limit : ℕ
+text_limit = 1048576
+
+-- the case that a file means, None where it isn't held, is too large, or is refused
+abbrev pub accepted : Meaning → Option CaseRecord
+accepted (Ok case) = Some case
+accepted (Err refusal) = None
+
+abbrev pub case_by : Bool → List ℕ → Option CaseRecord
+case_by large text = if large then None else accepted (case_of text)
+
+unfoldable pub case_in : Option (List ℕ) → Option CaseRecord
+case_in None = None
+case_in (Some text) = case_by (nat_lt text_limit (length text)) text
+
+-- the base name of a file of a case
+abbrev pub file_named : CaseRecord → Which → List ℕ
+file_named case which.Heap = case.heap_file
+file_named case which.Toast = []
+file_named case (which.Index n) = []
+
+-- what is found of the heap of a case, and what can't be judged of it
+abbrev pub heap_lists : CaseRecord → Names → Lists
+heap_lists case names = record { findings = findings_of case names; unjudged = doubts_of case names }
+
+-- the report on a case whose files are there and within their limits
+abbrev pub lists_by : CaseRecord → Names → Option CheckFault → Option Lists
+lists_by case names None = Some (heap_lists case names)
+lists_by case names (Some refusal) = None
+
+abbrev pub lists_in : Names → Option CaseRecord → Option Lists
+lists_in names (Some case) = lists_by case names (refusal_of case names)
+lists_in names None = None
+
+-- a rule is broken, or a place is in doubt, in the files of the case in a file
+pub record BreaksCase (file : Option (List ℕ)) (names : Names) (rule : Rule) (place : Place) : Type 0 where
+  pub case : CaseRecord
+  pub meant : case_in file ≡ Some case
+  pub broken : Breaks case names rule place
+
+pub record DoubtsCase (file : Option (List ℕ)) (names : Names) (reason : Reason) (place : Place) : Type 0 where
+  pub case : CaseRecord
+  pub meant : case_in file ≡ Some case
+  pub doubted : Doubts case names reason place

@@ -1,0 +1,122 @@
+// The command `pages`: judges the pages of one heap file.
+ghost use Rattle.std.specs.Prelude.{◌≡◌, ◌+◌, ◌*◌, ◌/◌, ◌<◌, ◌≤◌, ◌++◌, [], Some, length, IfOk, OnOk};
+ghost use Rattle.outside.specs.declared.files.Part.TheVariants.{Segment};
+ghost use Rattle.outside.specs.Outside.{Causes, IfHeld, IfTold, IsHeldAnd};
+ghost use Rattle.rel_files.specs.Blocks.{block_in};
+ghost use Rattle.heap_check.specs.Below.{each_below};
+ghost use Rattle.amcheck_cmd.specs.Outcome.{pages_outcome, reported};
+ghost use Rattle.amcheck_cmd.specs.Pages.{block_findings, file_findings};
+ghost use Rattle.amcheck_cmd.specs.Seen.{outcome_seen};
+
+use crate::fault::RunFault;
+use crate::output::{Output, no_file_output, report_output, too_large_output};
+use heap_check::judge_page;
+use outside::{FileName, Files, Part};
+use reports::Report;
+use std::alloc::Global;
+
+// How many blocks of a file are judged at most.
+const BLOCK_LIMIT: u64 = 16384;
+
+// Reads one block into the page.
+fn read_block<F: Files>(
+    files: &mut F,
+    file: &str,
+    block: u32,
+    page: &mut [u8; 8192],
+) -> Result<(), RunFault>
+    requires { IsHeldAnd (F.held files.old) file.now (Segment 0) (λ bytes. 8192 * block + 8192 ≤ length bytes) }
+    ensures bytes { OnOk result (IfHeld (F.held files.old) file.now (Segment 0) (λ bytes. page.new ≡ block_in (Some bytes) block)) }
+    ensures same { F.held files.new ≡ F.held files.old }
+    ensures cause { Causes (F.faults files.old) (F.faults files.new) result RunFault.ReadFault }
+{
+    let name = FileName {
+        base: file,
+        part: Part::Segment(0),
+    };
+    files.read_at(name, 8192 * block as u64, page)?;
+    Ok(())
+}
+
+// Reads one block into the page, and judges it.
+fn judge_block<F: Files>(
+    alloc: Global,
+    files: &mut F,
+    file: &str,
+    block: u32,
+    page: &mut [u8; 8192],
+    report: &mut Report,
+) -> Result<(), RunFault>
+    requires { IsHeldAnd (F.held files.old) file.now (Segment 0) (λ bytes. 8192 * block + 8192 ≤ length bytes) }
+    ensures findings { OnOk result (IfHeld (F.held files.old) file.now (Segment 0)
+        (λ bytes. report.new.findings ≡ report.old.findings ++ block_findings (Some bytes) block)) }
+    ensures unjudged { report.new.unjudged ≡ report.old.unjudged }
+    ensures same { F.held files.new ≡ F.held files.old }
+    ensures cause { Causes (F.faults files.old) (F.faults files.new) result RunFault.ReadFault }
+{
+    read_block(files, file, block, page)?;
+    judge_page(alloc, page, block, report)?;
+    Ok(())
+}
+
+// Reads and judges the first blocks, with one page in hand.
+fn judge_blocks<F: Files>(
+    alloc: Global,
+    files: &mut F,
+    file: &str,
+    blocks: u32,
+    report: &mut Report,
+) -> Result<(), RunFault>
+    requires { IsHeldAnd (F.held files.old) file.now (Segment 0) (λ bytes. 8192 * blocks ≤ length bytes) }
+    ensures findings { OnOk result (IfHeld (F.held files.old) file.now (Segment 0)
+        (λ bytes. report.new.findings ≡ report.old.findings ++ each_below (block_findings (Some bytes)) blocks)) }
+    ensures unjudged { report.new.unjudged ≡ report.old.unjudged }
+    ensures same { F.held files.new ≡ F.held files.old }
+    ensures cause { Causes (F.faults files.old) (F.faults files.new) result RunFault.ReadFault }
+{
+    let mut page = [0u8; 8192];
+    for block in 0..blocks {
+        judge_block(alloc, files, file, block, &mut page, report)?;
+    }
+    Ok(())
+}
+
+// The report on a file of this length.
+fn judged_output<F: Files>(
+    alloc: Global,
+    files: &mut F,
+    file: &str,
+    len: u64,
+) -> Result<Output, RunFault>
+    requires held { IsHeldAnd (F.held files.old) file.now (Segment 0) (λ bytes. length bytes ≡ len) }
+    requires few { len / 8192 ≤ 16384 }
+    ensures output { IfOk result (λ o. IfHeld (F.held files.old) file.now (Segment 0)
+        (λ bytes. outcome_seen o ≡ reported (record { findings = file_findings (Some bytes); unjudged = [] }))) }
+    ensures code { IfOk result (λ o. o.code ≤ 6) }
+    ensures same { F.held files.new ≡ F.held files.old }
+    ensures cause { Causes (F.faults files.old) (F.faults files.new) result RunFault.ReadFault }
+{
+    let mut report = Report::new(alloc);
+    judge_blocks(alloc, files, file, (len / 8192) as u32, &mut report)?;
+    Ok(report_output(alloc, &report)?)
+}
+
+/// The output of `pages`: the report on the file's whole blocks of 8192 bytes, or why there is none.
+#[tactic(auto, unfolding(crate::specs::Outcome::pages_outcome))]
+pub fn pages_output<F: Files>(alloc: Global, files: &mut F, file: &str) -> Result<Output, RunFault>
+    ensures output { IfOk result (λ o. IfTold (F.held files.old)
+        (λ names. outcome_seen o ≡ pages_outcome file.now (names file.now (Segment 0)))) }
+    ensures code { IfOk result (λ o. o.code ≤ 6) }
+    ensures same { F.held files.new ≡ F.held files.old }
+    ensures cause { Causes (F.faults files.old) (F.faults files.new) result RunFault.ReadFault }
+{
+    let name = FileName {
+        base: file,
+        part: Part::Segment(0),
+    };
+    match files.length(name)? {
+        None => Ok(no_file_output(alloc, file)?),
+        Some(len) if BLOCK_LIMIT < len / 8192 => Ok(too_large_output(alloc, file, len / 8192)?),
+        Some(len) => judged_output(alloc, files, file, len),
+    }
+}

@@ -1,0 +1,78 @@
+// The top call.
+ghost use Rattle.std.specs.Prelude.{◌≡◌, ◌≢◌, ◌≤◌, ◌⊎◌, Some, false, IfOk, map, string_bytes};
+ghost use Rattle.outside.specs.Outside.{Causes, IfTold, Rose};
+ghost use Rattle.amcheck_cmd.specs.Forms.{form_of};
+ghost use Rattle.amcheck_cmd.specs.Outcome.{FindsOnlyBroken, IsCleanWhereSound, IsSoundWhereClean, Meets, Outcome, alone, outcome, outcome_by};
+ghost use Rattle.amcheck_cmd.specs.Seen.{form_seen, outcome_seen};
+
+use crate::fault::RunFault;
+use crate::heap::heap_output;
+use crate::output::{Output, usage_output};
+use crate::pages::pages_output;
+use crate::status::Status;
+use crate::words::{Command, command_of};
+use crate::write::write_output;
+use outside::{Files, Sink};
+use std::alloc::Global;
+
+// The output of a command: its report, or the refusal that comes first.
+fn output_of<F: Files>(
+    alloc: Global,
+    command: Command<'_>,
+    files: &mut F,
+) -> Result<Output, RunFault>
+    ensures output { IfOk result (λ o. IfTold (F.held files.old) (λ names. outcome_seen o ≡ outcome_by (form_seen command.entry) names)) }
+    ensures alone { (owed : Outcome) → alone (form_seen command.entry) ≡ Some owed → IfOk result (λ o. outcome_seen o ≡ owed) }
+    ensures unread { (owed : Outcome) → alone (form_seen command.entry) ≡ Some owed → result ≢ Err RunFault.ReadFault }
+    ensures code { IfOk result (λ o. o.code ≤ 6) }
+    ensures same { F.held files.new ≡ F.held files.old }
+    ensures cause { Causes (F.faults files.old) (F.faults files.new) result RunFault.ReadFault }
+{
+    match command {
+        Command::NoForm => Ok(usage_output(alloc)?),
+        Command::Pages(file) => pages_output(alloc, files, file),
+        Command::Heap(case) => heap_output(alloc, files, case),
+    }
+}
+
+/// Does what the words ask for, and says how that ended. The words are a command line without the
+/// program's name. The whole output is made before the first byte is written, so that a file that
+/// can't be read, or want of memory, leaves nothing written.
+pub fn run<F: Files, S: Sink>(
+    alloc: Global,
+    words: &[String],
+    files: &mut F,
+    sink: &mut S,
+) -> Status
+    // What is written and answered is the outcome of the words and of the bytes that are held.
+    ensures told { IfTold (F.held files.old) (λ names.
+        Meets (outcome (map string_bytes words.now) names) (S.written sink.old) (S.written sink.new) result.code) }
+    // Some words need nothing of the files: what they owe hangs on no name, and no file is read for them.
+    ensures alone { (owed : Outcome) → alone (form_of (map string_bytes words.now)) ≡ Some owed →
+        Meets owed (S.written sink.old) (S.written sink.new) result.code × (result.code ≢ 7) }
+
+    // Each finding is a rule that is broken at its place, and where nothing stays unjudged there is none exactly where no rule
+    // is broken.
+    ensures found { IfTold (F.held files.old) (λ names. FindsOnlyBroken (form_of (map string_bytes words.now)) names) }
+    ensures clean { IfTold (F.held files.old) (λ names. IsCleanWhereSound (form_of (map string_bytes words.now)) names result.code) }
+    ensures sound { IfTold (F.held files.old) (λ names. IsSoundWhereClean (form_of (map string_bytes words.now)) names result.code) }
+
+    // When a run gives up, and what it leaves.
+    ensures nothing { (result.code ≡ 7) ⊎ (result.code ≡ 9) → S.written sink.new ≡ S.written sink.old }
+    ensures read_fault { result.code ≡ 7 → Rose (F.faults files.old) (F.faults files.new) × (F.refused files.new ≡ false) }
+    ensures write_fault { result.code ≡ 8 → Rose (S.faults sink.old) (S.faults sink.new) }
+    ensures codes { result.code ≤ 10 }
+    ensures same { F.held files.new ≡ F.held files.old }
+{
+    match output_of(alloc, command_of(words), files) {
+        Ok(output) => write_output(sink, &output),
+        Err(RunFault::NoMemory) => Status { code: 9 },
+        Err(RunFault::ReadFault) => {
+            if files.refused_memory() {
+                Status { code: 9 }
+            } else {
+                Status { code: 7 }
+            }
+        }
+    }
+}

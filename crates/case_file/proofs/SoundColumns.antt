@@ -1,0 +1,163 @@
+-- The columns of a document that breaks no rule are sound.
+use Rattle.std.proofs.Common.{◌≡◌, ℕ, ◌≤◌, ◌<◌, ◌+◌, ◌/◌, ◌%◌, List, [], ◌∷◌, length, map, Bool, true, false, not, ◌&&◌, ◌||◌, ◌==◌, cond, nat_le, Option, Some, None, is_some, option_and_then, unwrap_or, refl, sym, codes, arith, lit<}
+use Rattle.std.proofs.lemmas.Bool.{and_parts, eqb-true, false≢true, le-leb, lt-ltb, not-false}
+use Rattle.std.proofs.lemmas.Bool.Decides.{nat_tests}
+use Rattle.std.proofs.lemmas.List.Sums.{AllPass-from_list_all}
+use Rattle.std.specs.Int.{is_in_range, IsInRange}
+use Rattle.std.specs.List.{AllByRecursion, list_all}
+use Rattle.hex.specs.Hex.{is_hex_digit}
+use Rattle.hex.proofs.HexLemmas.{decode_of-digits, decode_of-ok}
+use Rattle.key_orders.specs.declared.columns.ColType.{ColType}
+use Rattle.key_orders.specs.declared.columns.ColType.TheVariants.{Bool as BoolType, Int2, Int4, Int8, Uuid, Text, Bytea, Fixed, Varlena}
+use Rattle.key_orders.specs.Values.{value_in}
+use Rattle.toml.specs.Data.{Data, string, integer, float, boolean, datetime, array, table, Members, get_member, as_str, as_table}
+use Rattle.case_file.specs.declared.keys.Place.TheVariants.{Column}
+use Rattle.case_file.specs.declared.keys.Key.TheVariants.{ColumnType, ColumnLen, ColumnAlign}
+use Rattle.case_file.specs.declared.keys.Kind.TheVariants.{Text as TextKind}
+use Rattle.case_file.specs.declared.keys.Range.TheVariants.{StoredBytes}
+use Rattle.case_file.specs.Columns.{below_or_zero, column_of, decoded, missing_of, stored_type, type_of}
+use Rattle.case_file.specs.Keys.{keys_of, row_of}
+use Rattle.case_file.specs.Rules.{applies, breaks, fails, has_known_type, has_other_kind, has_type, is_align, is_fit, is_missing_text, is_needed, is_of, is_out_of_range, is_stored_len, is_unknown, key_type, may_be_key}
+use Rattle.case_file.specs.Sound.{is_missing_value, is_sound_type, IsSoundColumn}
+use Rattle.case_file.specs.Spots.{column_spots, flat_map_from, in_table, listed}
+use Rattle.case_file.specs.Tables.{number_at, text_at}
+use Rattle.case_file.proofs.Passing.{EachPasses, Passes, passes_after, passes_before}
+use Rattle.case_file.proofs.Rows.{align_found, needed_key, number_in_range}
+
+-- the type that the words of a column name, where a to g say which of the types that may be keys it has
+abbrev pub key_or : (a b c d e f g : Bool) → Option ColType
+key_or a b c d e f g =
+    cond a (Some BoolType) (cond b (Some Int2) (cond c (Some Int4) (cond d (Some Int8) (cond e (Some Uuid) (cond f (Some Text) (cond g (Some Bytea) None))))))
+
+sound_or : (a b c d e f g : Bool) (s : ColType) → (is_some (key_or a b c d e f g) ≡ false → is_sound_type s ≡ true)
+    → is_sound_type (unwrap_or (key_or a b c d e f g) s) ≡ true
+sound_or true b c d e f g s h = refl
+sound_or false true c d e f g s h = refl
+sound_or false false true d e f g s h = refl
+sound_or false false false true e f g s h = refl
+sound_or false false false false true f g s h = refl
+sound_or false false false false false true g s h = refl
+sound_or false false false false false false true s h = refl
+sound_or false false false false false false false s h = h refl
+
+key_or_stored : (t : Members) → (may_be_key t ≡ false → is_sound_type (stored_type t) ≡ true) → is_sound_type (type_of (Some t)) ≡ true
+unfolding key_type type_of
+key_or_stored t h =
+    sound_or (has_type (codes "bool") t) (has_type (codes "int2") t) (has_type (codes "int4") t) (has_type (codes "int8") t) (has_type (codes "uuid") t) (has_type (codes "text") t) (has_type (codes "bytea") t) (stored_type t) h
+
+pub below-kept : (limit n : ℕ) → n < limit → below_or_zero limit n ≡ n
+below-kept limit n l = rw (lt-ltb n limit l) refl
+
+-- an alignment that is one is small
+align_small : (fixed : Bool) (n : ℕ) → cond fixed (n == 1 || n == 2 || n == 4 || n == 8) (n == 4 || n == 8) ≡ true → n < 256
+align_small true n h = grind (arith, nat_tests)
+align_small false n h = grind (arith, nat_tests)
+
+is_in : (low high n : ℕ) → IsInRange low high n → is_in_range low high n ≡ true
+is_in low high n h = rw (le-leb low n h.0, le-leb n high h.1) refl
+
+-- a type that tells its storage, from a length and an alignment
+stored : (fixed : Bool) (len align : ℕ) → (fixed ≡ true → IsInRange 1 8000 len) → cond fixed (align == 1 || align == 2 || align == 4 || align == 8) (align == 4 || align == 8) ≡ true
+    → is_sound_type (cond fixed (Fixed (below_or_zero 65536 len) (below_or_zero 256 align)) (Varlena (below_or_zero 256 align))) ≡ true
+stored true len align l a =
+    let within = l refl in
+    let len_kept = below-kept 65536 len (omega arith) in
+    let align_kept = below-kept 256 align (align_small true align a) in
+    rw (len_kept, align_kept, is_in 1 8000 len within) a
+stored false len align l a = rw (below-kept 256 align (align_small false align a)) a
+
+-- a known type that may be no key tells its storage
+is_stored : (may fixed varlena : Bool) → not (may || (fixed || varlena)) ≡ false → may ≡ false → (fixed || varlena) ≡ true
+is_stored true f v known no_key = absurd (false≢true (sym no_key))
+is_stored false true v known no_key = refl
+is_stored false false true known no_key = refl
+is_stored false false false known no_key = absurd (false≢true (sym known))
+
+-- the length of a column of the type `fixed`
+fixed_len : (top : Members) (k : ℕ) (t : Members) → Passes top (listed (Column k) ColumnLen t) → has_type (codes "fixed") t ≡ true → IsInRange 1 8000 (number_at (codes "len") t)
+unfolding row_of is_needed
+fixed_len top k t len fixed = number_in_range ColumnLen t 1 8000 (needed_key top (Column k) ColumnLen t len fixed) refl refl (lit< tt)
+
+sound_type : (top : Members) (k : ℕ) (t : Members) → Passes top (listed (Column k) ColumnType t) → Passes top (listed (Column k) ColumnLen t) → Passes top (listed (Column k) ColumnAlign t)
+    → is_sound_type (type_of (Some t)) ≡ true
+unfolding breaks is_unknown is_needed row_of has_known_type stored_type is_align number_at
+sound_type top k t ctype len align =
+    key_or_stored t (λ no_key.
+    let fixed : Bool = has_type (codes "fixed") t in
+    let varlena : Bool = has_type (codes "varlena") t in
+    let needed = is_stored (may_be_key t) fixed varlena ctype.c5 no_key in
+    let good = needed_key top (Column k) ColumnAlign t align needed in
+    stored fixed (number_at (codes "len") t) (number_at (codes "align") t) (fixed_len top k t len) (align_found t (get_member (codes "align") t) good.is_there good.kind good.range))
+
+few_bytes : (bytes : List ℕ) (len : ℕ) → length bytes == len ≡ true → len ≤ 8000 → nat_le (length bytes) 8000 ≡ true
+few_bytes bytes len fit l = let same = eqb-true (length bytes) len fit in le-leb (length bytes) 8000 (omega arith)
+
+-- as many bytes as a stored value of the type has are one
+bytes_fit : (a b c d e f g fixed known : Bool) (len kept align : ℕ) (bytes : List ℕ) → (fixed ≡ true → len ≤ 8000) → (fixed ≡ true → kept ≡ len) → known ≡ true
+    → cond a (length bytes == 1) (cond b (length bytes == 2) (cond c (length bytes == 4) (cond d (length bytes == 8) (cond e (length bytes == 16) (cond fixed (length bytes == len) (cond known (nat_le (length bytes) 8000) true)))))) ≡ true
+    → is_missing_value (unwrap_or (key_or a b c d e f g) (cond fixed (Fixed kept align) (Varlena align))) (value_in (unwrap_or (key_or a b c d e f g) (cond fixed (Fixed kept align) (Varlena align))) bytes) ≡ true
+unfolding value_in
+bytes_fit true b c d e f g fixed known len kept align bytes l same is fit = refl
+bytes_fit false true c d e f g fixed known len kept align bytes l same is fit = refl
+bytes_fit false false true d e f g fixed known len kept align bytes l same is fit = refl
+bytes_fit false false false true e f g fixed known len kept align bytes l same is fit = refl
+bytes_fit false false false false true f g fixed known len kept align bytes l same is fit = fit
+bytes_fit false false false false false f g fixed false len kept align bytes l same is fit = absurd (false≢true is)
+bytes_fit false false false false false true g true true len kept align bytes l same is fit = few_bytes bytes len fit (l refl)
+bytes_fit false false false false false true g false true len kept align bytes l same is fit = fit
+bytes_fit false false false false false false true true true len kept align bytes l same is fit = few_bytes bytes len fit (l refl)
+bytes_fit false false false false false false true false true len kept align bytes l same is fit = fit
+bytes_fit false false false false false false false true true len kept align bytes l same is fit = rw (same refl) fit
+bytes_fit false false false false false false false false true len kept align bytes l same is fit = fit
+
+-- digits write half as many bytes
+length-decoded : (s : List ℕ) → list_all is_hex_digit s ≡ true → length s % 2 ≡ 0 → length s / 2 ≡ length (decoded s)
+unfolding decoded
+length-decoded s digits even =
+    let bytes = decode_of-digits s even (AllPass-from_list_all is_hex_digit s digits) in
+    let twice = (decode_of-ok s bytes.0 bytes.1).2 in
+    rw bytes.1 (omega arith)
+
+missing_fits : (t : Members) (s : List ℕ) → has_known_type t ≡ true → (has_type (codes "fixed") t ≡ true → IsInRange 1 8000 (number_at (codes "len") t)) → is_missing_text t s ≡ true
+    → is_missing_value (type_of (Some t)) (value_in (type_of (Some t)) (decoded s)) ≡ true
+unfolding is_missing_text is_stored_len type_of key_type stored_type
+missing_fits t s known len fit =
+    let whole = and_parts (list_all is_hex_digit s && length s % 2 == 0) (is_stored_len t (length s / 2)) fit in
+    let parts = and_parts (list_all is_hex_digit s) (length s % 2 == 0) whole.0 in
+    let half = length-decoded s parts.0 (eqb-true (length s % 2) 0 parts.1) in
+    let fixed : Bool = has_type (codes "fixed") t in
+    bytes_fit (has_type (codes "bool") t) (has_type (codes "int2") t) (has_type (codes "int4") t) (has_type (codes "int8") t) (has_type (codes "uuid") t) (has_type (codes "text") t) (has_type (codes "bytea") t)
+    fixed (has_known_type t) (number_at (codes "len") t) (below_or_zero 65536 (number_at (codes "len") t)) (below_or_zero 256 (number_at (codes "align") t)) (decoded s)
+    (λ is. (len is).1) (λ is. below-kept 65536 (number_at (codes "len") t) (let within = len is in omega arith)) known (rw half at whole.1)
+
+sound_missing : (t : Members) (o : Option Data) → has_known_type t ≡ true → (has_type (codes "fixed") t ≡ true → IsInRange 1 8000 (number_at (codes "len") t)) → fails (is_of TextKind) o ≡ false → fails (is_fit StoredBytes t) o ≡ false
+    → is_missing_value (type_of (Some t)) (missing_of (type_of (Some t)) (option_and_then as_str o)) ≡ true
+unfolding is_of is_fit missing_of
+sound_missing t None known len kind range = refl
+sound_missing t (Some (string s)) known len kind range = missing_fits t s known len (not-false (is_missing_text t s) range)
+sound_missing t (Some (integer z)) known len kind range = absurd (false≢true (sym kind))
+sound_missing t (Some (float x)) known len kind range = absurd (false≢true (sym kind))
+sound_missing t (Some (boolean b)) known len kind range = absurd (false≢true (sym kind))
+sound_missing t (Some (datetime dt)) known len kind range = absurd (false≢true (sym kind))
+sound_missing t (Some (array ds)) known len kind range = absurd (false≢true (sym kind))
+sound_missing t (Some (table ms)) known len kind range = absurd (false≢true (sym kind))
+
+sound_column : (top : Members) (k : ℕ) (d : Data) (o : Option Members) → as_table d ≡ o → EachPasses top (in_table (Column k) o) → IsSoundColumn (column_of d)
+unfolding in_table keys_of column_of type_of missing_of breaks has_other_kind is_out_of_range applies is_unknown row_of text_at
+sound_column top k d None is all = rw is (record { ctype = refl; missing = refl })
+sound_column top k d (Some t) is all =
+    let ctype = all.1.1.0 in
+    let len = all.1.1.1.0 in
+    let align = all.1.1.1.1.0 in
+    let missing = all.1.1.1.1.1.0 in
+    rw is (record {
+      ctype = sound_type top k t ctype len align;
+      missing = sound_missing t (get_member (codes "missing") t) (not-false (has_known_type t) ctype.c5) (fixed_len top k t len) missing.c3 missing.c4;
+    })
+
+pub sound_columns : (top : Members) (k : ℕ) (ds : List Data) → EachPasses top (flat_map_from column_spots k ds) → AllByRecursion IsSoundColumn (map column_of ds)
+sound_columns top k [] all = tt
+sound_columns top k (d ∷ ds) all = (
+  sound_column top k d (as_table d) refl (passes_before top (column_spots k d) _ all),
+  sound_columns top (k + 1) ds (passes_after top (column_spots k d) _ all),
+)

@@ -1,0 +1,125 @@
+-- The indexes of a document that breaks no rule are sound.
+use Rattle.std.proofs.Common.{◌≡◌, ℕ, suc, ◌≤◌, ◌<◌, ◌+◌, List, [], ◌∷◌, ◌++◌, length, map, Bool, true, false, Option, Some, None, is_some, unwrap_or, refl, codes, arith, inl, inr}
+use Rattle.std.proofs.lemmas.Bool.{and_parts, cases_Bool, false≢true, lt-ltb, not-false}
+use Rattle.std.proofs.lemmas.List.{length-map}
+use Rattle.std.proofs.lemmas.Option.{slice_get-map}
+use Rattle.std.specs.List.{AllByRecursion, list_all, list_any, position, position_or_len, slice_get}
+use Rattle.std.specs.Option.{option_map_or}
+use Rattle.key_orders.specs.declared.columns.ColType.{ColType}
+use Rattle.toml.specs.Data.{Data, Members, get_member, as_table}
+use Rattle.case_file.specs.declared.keys.Place.TheVariants.{Index, IndexKey}
+use Rattle.case_file.specs.declared.keys.Key.TheVariants.{IndexName, IndexFile, IndexKeys, KeyColumn}
+use Rattle.case_file.specs.Columns.{column_of, stored_type, type_of}
+use Rattle.case_file.specs.Indexes.{column_named, index_of, key_of}
+use Rattle.case_file.specs.Keys.{keys_of, row_of}
+use Rattle.case_file.specs.Rules.{breaks, has_name, has_type, is_fit, is_key_column, is_needed, is_unknown, key_type, may_be_key}
+use Rattle.case_file.specs.Sound.{is_key_type, IsSoundIndex, IsSoundKey}
+use Rattle.case_file.specs.Spots.{flat_map_from, in_table, index_keys_spots, index_spots, key_spots, listed}
+use Rattle.case_file.specs.Tables.{is_table, tables_at, text_at, text_in}
+use Rattle.case_file.proofs.Passing.{EachPasses, Passes, passes_after, passes_before}
+use Rattle.case_file.proofs.Rows.{needed_key, needed_tables, text_found, text_in_range}
+use Rattle.case_file.proofs.SoundColumns.{below-kept, key_or}
+
+-- the first element that passes a test
+record Found (test : Data → Bool) (ds : List Data) (n : ℕ) : Type 0 where
+  value : Data
+  at : slice_get ds n ≡ Some value
+  passes : test value ≡ true
+  below : n < length ds
+
+found_next : (test : Data → Bool) (d : Data) (ds : List Data) (n : ℕ) → Found test ds n → Found test (d ∷ ds) (1 + n)
+found_next test d ds n found =
+    let next : 1 + n ≡ suc n = omega arith in
+    record { value = found.value; at = rw next found.at; passes = found.passes; below = omega (arith, found.below) }
+
+first_found : (test : Data → Bool) (ds : List Data) → list_any test ds ≡ true → Found test ds (position_or_len test ds)
+first_found test [] any = absurd (false≢true any)
+first_found test (d ∷ ds) any =
+    elim (cases_Bool (test d)) [
+      | inl holds ↦ rw holds (let here : Found test (d ∷ ds) 0 = record { value = d; at = refl; passes = holds; below = omega arith } in here)
+      | inr fails ↦ rw fails (found_next test d ds (position_or_len test ds) (first_found test ds (rw fails at any)))
+    ]
+
+at_position : (test : Data → Bool) (ds : List Data) → position_or_len test ds < length ds → unwrap_or (position test ds) 0 ≡ position_or_len test ds
+at_position test ds l = rw (lt-ltb (position_or_len test ds) (length ds) l) refl
+
+-- a column that may be a key has a type that may be one
+is_key_or : (a b c d e f g : Bool) (s : ColType) → is_some (key_or a b c d e f g) ≡ true → is_key_type (unwrap_or (key_or a b c d e f g) s) ≡ true
+is_key_or true b c d e f g s h = refl
+is_key_or false true c d e f g s h = refl
+is_key_or false false true d e f g s h = refl
+is_key_or false false false true e f g s h = refl
+is_key_or false false false false true f g s h = refl
+is_key_or false false false false false true g s h = refl
+is_key_or false false false false false false true s h = refl
+is_key_or false false false false false false false s h = absurd (false≢true h)
+
+may_be_key-type : (o : Option Members) → option_map_or may_be_key o false ≡ true → is_key_type (type_of o) ≡ true
+unfolding key_type type_of
+may_be_key-type None may = absurd (false≢true may)
+may_be_key-type (Some t) may =
+    is_key_or (has_type (codes "bool") t) (has_type (codes "int2") t) (has_type (codes "int4") t) (has_type (codes "int8") t) (has_type (codes "uuid") t) (has_type (codes "text") t) (has_type (codes "bytea") t) (stored_type t) may
+
+sound_key : (top : Members) (k j : ℕ) (d : Data) (t : Members) → as_table d ≡ Some t → length (tables_at (codes "column") top) ≤ 64
+    → Passes top (listed (IndexKey k j) KeyColumn t)
+    → IsSoundKey (map column_of (tables_at (codes "column") top)) (key_of (tables_at (codes "column") top) d)
+unfolding breaks is_unknown is_needed row_of text_at text_in key_of column_named column_of
+sound_key top k j d t is few passes =
+    let columns : List Data = tables_at (codes "column") top in
+    let name : List ℕ = text_in (Some t) (codes "column") in
+    let test : Data → Bool = is_key_column (Some name) in
+    let good = needed_key top (IndexKey k j) KeyColumn t passes refl in
+    let told : text_at (codes "column") t ≡ Some name = text_found (get_member (codes "column") t) good.is_there good.kind in
+    let any : list_any test columns ≡ true = rw told at (not-false (list_any (is_key_column (text_at (codes "column") t)) columns) passes.c5) in
+    let found = first_found test columns any in
+    let place : column_named columns name ≡ position_or_len test columns = at_position test columns found.below in
+    let kept = below-kept 65536 (position_or_len test columns) (omega (arith, found.below)) in
+    let at = slice_get-map column_of columns (position_or_len test columns) in
+    record {
+      is_there = rw (is, place, kept, at, found.at) refl;
+      may_be_key = rw (is, place, found.at) (may_be_key-type (as_table found.value) (and_parts (has_name (Some name) found.value) _ found.passes).1);
+    }
+
+key_at : (top : Members) (k j : ℕ) (d : Data) (o : Option Members) → as_table d ≡ o → is_some o ≡ true → length (tables_at (codes "column") top) ≤ 64
+    → EachPasses top (in_table (IndexKey k j) o)
+    → IsSoundKey (map column_of (tables_at (codes "column") top)) (key_of (tables_at (codes "column") top) d)
+unfolding in_table keys_of
+key_at top k j d None is there few all = absurd (false≢true there)
+key_at top k j d (Some t) is there few all = sound_key top k j d t is few all.1.0
+
+sound_keys : (top : Members) (k j : ℕ) (ds : List Data) → length (tables_at (codes "column") top) ≤ 64 → list_all is_table ds ≡ true
+    → EachPasses top (flat_map_from (key_spots k) j ds)
+    → AllByRecursion (IsSoundKey (map column_of (tables_at (codes "column") top))) (map (key_of (tables_at (codes "column") top)) ds)
+sound_keys top k j [] few tables all = tt
+sound_keys top k j (d ∷ ds) few tables all =
+    let parts = and_parts (is_table d) (list_all is_table ds) tables in (
+      key_at top k j d (as_table d) refl parts.0 few (passes_before top (key_spots k j d) _ all),
+      sound_keys top k (j + 1) ds few parts.1 (passes_after top (key_spots k j d) _ all),
+    )
+
+sound_index : (top : Members) (k : ℕ) (d : Data) (o : Option Members) → as_table d ≡ o → is_some o ≡ true → length (tables_at (codes "column") top) ≤ 64
+    → EachPasses top (in_table (Index k) o ++ index_keys_spots k o)
+    → IsSoundIndex (map column_of (tables_at (codes "column") top)) (index_of (tables_at (codes "column") top) d)
+unfolding in_table keys_of index_of row_of is_needed is_fit tables_at
+sound_index top k d None is there few all = absurd (false≢true there)
+sound_index top k d (Some t) is there few all =
+    let name = needed_key top (Index k) IndexName t all.1.0 refl in
+    let file = needed_key top (Index k) IndexFile t all.1.1.0 refl in
+    let keys = needed_key top (Index k) IndexKeys t all.1.1.1.0 refl in
+    let tables = needed_tables 1 8 (get_member (codes "key") t) keys.is_there keys.kind keys.range in
+    rw is (record {
+      name = text_in_range IndexName t 1 63 name refl refl;
+      file = text_in_range IndexFile t 1 200 file refl refl;
+      count = rw (length-map (tables_at (codes "key") t) (key_of (tables_at (codes "column") top))) tables.count;
+      keys = sound_keys top k 0 (tables_at (codes "key") t) few tables.are_tables all.1.1.1.1;
+    })
+
+pub sound_indexes : (top : Members) (k : ℕ) (ds : List Data) → length (tables_at (codes "column") top) ≤ 64 → list_all is_table ds ≡ true
+    → EachPasses top (flat_map_from index_spots k ds)
+    → AllByRecursion (IsSoundIndex (map column_of (tables_at (codes "column") top))) (map (index_of (tables_at (codes "column") top)) ds)
+sound_indexes top k [] few tables all = tt
+sound_indexes top k (d ∷ ds) few tables all =
+    let parts = and_parts (is_table d) (list_all is_table ds) tables in (
+      sound_index top k d (as_table d) refl parts.0 few (passes_before top (index_spots k d) _ all),
+      sound_indexes top (k + 1) ds few parts.1 (passes_after top (index_spots k d) _ all),
+    )

@@ -1,0 +1,39 @@
+-- The indexes of a document that breaks no rule.
+use Rattle.std.specs.Prelude.{ℕ, List, [], map, false, Option, Some, None, option_and_then, unwrap_or, position, codes}
+use Rattle.std.specs.List.{slice_get}
+use Rattle.key_orders.specs.declared.columns.KeySpec.{KeySpec}
+use Rattle.toml.specs.Data.{Data, Members, as_table}
+use Rattle.case_file.specs.Columns.{below_or_zero, type_of}
+use Rattle.case_file.specs.Record.{IndexRecord}
+use Rattle.case_file.specs.Rules.{is_key_column}
+use Rattle.case_file.specs.Tables.{flag_in, tables_at, text_in}
+
+-- the number, from 0, of the first column of a name that may be a key
+unfoldable pub column_named : List Data → List ℕ → ℕ
+column_named columns name = unwrap_or (position (is_key_column (Some name)) columns) 0
+
+abbrev pub table_of : List Data → ℕ → Option Members
+table_of columns k = option_and_then as_table (slice_get columns k)
+
+-- a column of a key; nulls stand first where values fall, if the text doesn't say
+unfoldable pub key_of : List Data → Data → KeySpec
+key_of columns d =
+    let column = column_named columns (text_in (as_table d) (codes "column")) in
+    let desc = flag_in (as_table d) (codes "desc") false in
+    record {
+      column = below_or_zero 65536 column;
+      ctype = type_of (table_of columns column);
+      desc = desc;
+      nulls_first = flag_in (as_table d) (codes "nulls_first") desc;
+    }
+
+abbrev pub keys_in : Option Members → List Data
+keys_in (Some t) = tables_at (codes "key") t
+keys_in None = []
+
+unfoldable pub index_of : List Data → Data → IndexRecord
+index_of columns d = record {
+  name = text_in (as_table d) (codes "name");
+  file = text_in (as_table d) (codes "file");
+  keys = map (key_of columns) (keys_in (as_table d));
+}

@@ -1,0 +1,9 @@
+pub mod Keys
+pub mod Tables
+pub mod Spots
+pub mod Rules
+pub mod Record
+pub mod Columns
+pub mod Indexes
+pub mod Case
+pub mod Sound

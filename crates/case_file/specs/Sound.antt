@@ -1,0 +1,81 @@
+-- What every case has: each number and length is in its range, and each key column is a column that may be one.
+use Rattle.std.specs.Prelude.{◌≡◌, ◌≤◌, ◌<◌, ◌==◌, ◌&&◌, ◌||◌, ℕ, Bool, true, false, nat_le, List, length, Some, option_map}
+use Rattle.std.specs.Int.{is_in_range, IsInRange}
+use Rattle.std.specs.List.{AllByRecursion, slice_get}
+use Rattle.std.specs.Option.{ForSome}
+use Rattle.key_orders.specs.declared.columns.ColType.{ColType}
+use Rattle.key_orders.specs.declared.columns.ColType.TheVariants.{Bool as BoolType, Int2, Int4, Int8, Uuid, Text, Bytea, Fixed, Varlena}
+use Rattle.key_orders.specs.declared.columns.KeySpec.{KeySpec}
+use Rattle.key_orders.specs.declared.columns.Value.{Value}
+use Rattle.key_orders.specs.declared.columns.Value.TheVariants.{Null, Bool as BoolValue, Int, Bytes}
+use Rattle.rel_files.specs.Ranges.{distance}
+use Rattle.rel_files.specs.declared.cluster.Cluster.{Cluster}
+use Rattle.case_file.specs.declared.case.Column.{Column}
+use Rattle.case_file.specs.Record.{CaseRecord, IndexRecord}
+
+-- transaction numbers are below 2 ^ 32, and the oldest is less than half of the way round behind the next
+pub record IsSoundCluster (c : Cluster) : Type 0 where
+  pub next_xid : IsInRange 3 4294967295 c.next_xid
+  pub oldest_xid : IsInRange 3 4294967295 c.oldest_xid
+  pub next_multi : IsInRange 1 4294967295 c.next_multi
+  pub oldest_multi : IsInRange 1 4294967295 c.oldest_multi
+  pub next_member : c.next_member ≤ 4294967295
+  pub xids : distance c.oldest_xid c.next_xid < 2147483648
+  pub multis : distance c.oldest_multi c.next_multi < 2147483648
+
+abbrev pub IsPath : List ℕ → Type 0
+IsPath path = IsInRange 1 200 (length path)
+
+-- lengths and alignments are in range
+abbrev pub is_sound_type : ColType → Bool
+is_sound_type (Fixed len align) = is_in_range 1 8000 len && (align == 1 || align == 2 || align == 4 || align == 8)
+is_sound_type (Varlena align) = align == 4 || align == 8
+is_sound_type _ = true
+
+-- null, or a value that a column of the type may have
+abbrev pub is_missing_value : ColType → Value → Bool
+is_missing_value ctype Null = true
+is_missing_value BoolType (BoolValue b) = true
+is_missing_value Int2 (Int z) = true
+is_missing_value Int4 (Int z) = true
+is_missing_value Int8 (Int z) = true
+is_missing_value Uuid (Bytes bytes) = length bytes == 16
+is_missing_value Text (Bytes bytes) = nat_le (length bytes) 8000
+is_missing_value Bytea (Bytes bytes) = nat_le (length bytes) 8000
+is_missing_value (Fixed len align) (Bytes bytes) = length bytes == len
+is_missing_value (Varlena align) (Bytes bytes) = nat_le (length bytes) 8000
+is_missing_value _ _ = false
+
+pub record IsSoundColumn (column : Column) : Type 0 where
+  pub ctype : is_sound_type column.ctype ≡ true
+  pub missing : is_missing_value column.ctype column.missing ≡ true
+
+-- the type may be a key's
+abbrev pub is_key_type : ColType → Bool
+is_key_type (Fixed len align) = false
+is_key_type (Varlena align) = false
+is_key_type _ = true
+
+-- a key column is a column of the case, of a type that may be a key's
+pub record IsSoundKey (columns : List Column) (key : KeySpec) : Type 0 where
+  pub is_there : option_map (λ c. c.ctype) (slice_get columns key.column) ≡ Some key.ctype
+  pub may_be_key : is_key_type key.ctype ≡ true
+
+pub record IsSoundIndex (columns : List Column) (index : IndexRecord) : Type 0 where
+  pub name : IsInRange 1 63 (length index.name)
+  pub file : IsPath index.file
+  pub count : IsInRange 1 8 (length index.keys)
+  pub keys : AllByRecursion (IsSoundKey columns) index.keys
+
+pub record IsSound (case : CaseRecord) : Type 0 where
+  pub segment_blocks : IsInRange 1 131072 case.segment_blocks
+  pub cluster : IsSoundCluster case.cluster
+  pub xact : IsPath case.xact
+  pub offsets : IsPath case.offsets
+  pub members : IsPath case.members
+  pub heap_file : IsPath case.heap_file
+  pub toast : ForSome case.toast (λ toast. IsPath toast.0 × IsInRange 1 4294967295 toast.1)
+  pub column_count : IsInRange 1 64 (length case.columns)
+  pub columns : AllByRecursion IsSoundColumn case.columns
+  pub index_count : length case.indexes ≤ 32
+  pub indexes : AllByRecursion (IsSoundIndex case.columns) case.indexes

@@ -1,0 +1,102 @@
+// The indexes of a document that breaks no rule.
+ghost use Rattle.std.specs.Prelude.{◌≡◌, map, option_map, IfOk, position, Some};
+ghost use Rattle.toml.specs.View.{view, table_view};
+ghost use Rattle.case_file.specs.Indexes.{column_named, index_of, key_of, keys_in, table_of};
+ghost use Rattle.case_file.specs.Rules.{is_key_column};
+
+use crate::case::Index;
+use crate::columns::{below_2_16, type_of};
+use crate::rules::is_key_column;
+use crate::tables::{flag_in, string_in, tables_at, text_in};
+use key_orders::KeySpec;
+use outside::NoMemory;
+use std::alloc::Global;
+use toml::{Table, Value};
+
+fn position_of(columns: &[Value], name: &str) -> Option<usize>
+    ensures { result ≡ position (λ v. is_key_column (Some name.now) (view v)) columns.now }
+{
+    columns
+        .iter()
+        .position(|column| is_key_column(Some(name), column))
+}
+
+#[tactic(auto, unfolding(crate::specs::Indexes::column_named), using(crate::proofs::Values::position_laws))]
+fn column_named(columns: &[Value], name: &str) -> usize
+    ensures { result ≡ column_named (map view columns.now) name.now }
+{
+    match position_of(columns, name) {
+        Some(k) => k,
+        None => 0,
+    }
+}
+
+#[tactic(auto, using(crate::proofs::Values::gets_laws))]
+fn table_of(columns: &[Value], k: usize) -> Option<&Table>
+    ensures { option_map (λ t. table_view t.now) result ≡ table_of (map view columns.now) k }
+{
+    match columns.get(k) {
+        Some(column) => column.as_table(),
+        None => None,
+    }
+}
+
+#[tactic(auto, unfolding(crate::specs::Indexes::key_of))]
+fn key_of(columns: &[Value], key: &Value) -> KeySpec
+    ensures { result ≡ key_of (map view columns.now) (view key.now) }
+{
+    let table = key.as_table();
+    let column = column_named(columns, text_in(table, "column"));
+    let desc = flag_in(table, "desc", false);
+    KeySpec {
+        column: below_2_16(column),
+        ctype: type_of(table_of(columns, column)),
+        desc,
+        nulls_first: flag_in(table, "nulls_first", desc),
+    }
+}
+
+fn keys_of(alloc: Global, columns: &[Value], keys: &[Value]) -> Result<Vec<KeySpec>, NoMemory>
+    ensures { IfOk result (λ v. v.items ≡ map (key_of (map view columns.now)) (map view keys.now)) }
+{
+    let mut out = Vec::new(alloc);
+    for key in keys {
+        out.push(key_of(columns, key))?;
+    }
+    Ok(out)
+}
+
+fn keys_in(index: Option<&Table>) -> &[Value]
+    ensures { map view result.now ≡ keys_in (option_map (λ t. table_view t.now) index.entry) }
+{
+    match index {
+        Some(table) => tables_at(table, "key"),
+        None => &[],
+    }
+}
+
+#[tactic(auto, unfolding(crate::specs::Indexes::index_of))]
+fn index_of(alloc: Global, columns: &[Value], index: &Value) -> Result<Index, NoMemory>
+    ensures { IfOk result (λ i. i ≡ index_of (map view columns.now) (view index.now)) }
+{
+    let table = index.as_table();
+    let name = string_in(alloc, table, "name")?;
+    let file = string_in(alloc, table, "file")?;
+    let keys = keys_of(alloc, columns, keys_in(table))?;
+    Ok(Index::new(name, file, keys))
+}
+
+/// The indexes of a document, in order.
+pub fn indexes_of(
+    alloc: Global,
+    columns: &[Value],
+    indexes: &[Value],
+) -> Result<Vec<Index>, NoMemory>
+    ensures { IfOk result (λ v. v.items ≡ map (index_of (map view columns.now)) (map view indexes.now)) }
+{
+    let mut out = Vec::new(alloc);
+    for index in indexes {
+        out.push(index_of(alloc, columns, index)?)?;
+    }
+    Ok(out)
+}

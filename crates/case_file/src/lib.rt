@@ -1,0 +1,25 @@
+//! The case file: which files belong to a table, and what its cluster was when it was stopped.
+//!
+//! A case file is a TOML document that a person or a script writes. [`read_case`] gives what it
+//! says, or the first rule that it breaks with the key to mend.
+#![tactic(auto)]
+
+mod build;
+mod case;
+mod columns;
+mod fault;
+mod find;
+mod indexes;
+mod keys;
+mod read;
+mod rules;
+mod spots;
+mod tables;
+mod texts;
+
+pub use case::{Case, Column};
+pub use fault::{CaseFault, CaseRule};
+pub use read::read_case;
+
+#[cfg(test)]
+mod tests;

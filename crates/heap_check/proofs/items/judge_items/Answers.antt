@@ -1,0 +1,34 @@
+use Rattle.std.proofs.Common.{◌∙◌, refl, arith}
+use Rattle.std.proofs.lemmas.Result.{err_from_is_err_and}
+use Rattle.heap_check.proofs.Adding.{cut_upto, none_upto, one_more_upto}
+use Rattle.heap_check.proofs.items.judge_items.Goals as goal
+
+pub loop-k-init : goal.loop-k-init
+loop-k-init g c = record {
+  findings = λ names told. none_upto _ _;
+  doubts = λ names told. none_upto _ _;
+  cells = c.requires.free;
+  same = refl;
+  later = omega arith;
+}
+
+pub loop-k-preserved : goal.loop-k-preserved
+loop-k-preserved g c = record {
+  findings = λ names told. one_more_upto _ _ _ _ _ (c.loop-k.invariant.findings names told) (c.in_ok-judge_and_add.ensures.findings names (c.loop-k.invariant.same ∙ told));
+  doubts = λ names told. one_more_upto _ _ _ _ _ (c.loop-k.invariant.doubts names told) (c.in_ok-judge_and_add.ensures.doubts names (c.loop-k.invariant.same ∙ told));
+  cells = c.in_ok-judge_and_add.ensures.after;
+  same = c.in_ok-judge_and_add.ensures.same ∙ c.loop-k.invariant.same;
+  later = omega (arith, c.in_ok-judge_and_add.ensures.cause.later);
+}
+
+pub returns-in_err-judge_and_add-clause-findings : goal.returns-in_err-judge_and_add-clause-findings
+returns-in_err-judge_and_add-clause-findings g c names told =
+    let h = c.in_err-judge_and_add.ensures.findings names (c.loop-k.invariant.same ∙ told) in
+    let p = err_from_is_err_and c.from_residual.result c.from_residual.ensures.1 in
+    rw p.1 (cut_upto _ _ _ _ _ _ h.0 (omega arith) (c.loop-k.invariant.findings names told) h.1)
+
+pub returns-in_err-judge_and_add-clause-doubts : goal.returns-in_err-judge_and_add-clause-doubts
+returns-in_err-judge_and_add-clause-doubts g c names told =
+    let h = c.in_err-judge_and_add.ensures.doubts names (c.loop-k.invariant.same ∙ told) in
+    let p = err_from_is_err_and c.from_residual.result c.from_residual.ensures.1 in
+    rw p.1 (cut_upto _ _ _ _ _ _ h.0 (omega arith) (c.loop-k.invariant.doubts names told) h.1)

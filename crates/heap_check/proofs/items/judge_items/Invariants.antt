@@ -1,0 +1,18 @@
+use Rattle.std.proofs.Common.{◌≡◌, ◌++◌, ◌≤◌}
+use Rattle.outside.specs.Outside.{IfTold}
+use Rattle.page_layout.specs.View.{page_bytes}
+use Rattle.heap_check.specs.Below.{each_upto}
+use Rattle.heap_check.specs.Storage.{AreCells}
+use Rattle.heap_check.specs.Tables.{table_seen}
+use Rattle.heap_check.specs.Verdicts.{item_doubts, item_findings}
+use Rattle.heap_check.proofs.items.judge_items.Given as goal
+
+-- what is found of the items so far is added
+abbrev pub invariant-loop-k : goal.invariant-loop-k
+invariant-loop-k g l = record {
+  findings : IfTold (g.F.Files.held l.initial.files) (λ names. l.report.findings ≡ l.initial.report.findings ++ each_upto (item_findings (table_seen names l.table) l.block (page_bytes l.page)) l.k);
+  doubts : IfTold (g.F.Files.held l.initial.files) (λ names. l.report.unjudged ≡ l.initial.report.unjudged ++ each_upto (item_doubts (table_seen names l.table) l.block (page_bytes l.page)) l.k);
+  cells : AreCells (page_bytes l.page) l.k l.cells;
+  same : g.F.Files.held l.files ≡ g.F.Files.held l.initial.files;
+  later : g.F.Files.faults l.initial.files ≤ g.F.Files.faults l.files;
+}

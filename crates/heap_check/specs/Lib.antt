@@ -1,0 +1,9 @@
+pub mod Below
+pub mod Pages
+pub mod Storage
+pub mod Verdicts
+pub mod Heap
+pub mod Tables
+pub mod Broken
+pub mod Files
+pub mod Faults

@@ -1,0 +1,51 @@
+-- The storage of the items of a heap page: the bytes to which their line pointers point.
+use Rattle.std.specs.Prelude.{◌≡◌, ℕ, zero, suc, ◌+◌, ◌-◌, ◌*◌, ◌≤◌, ◌<◌, Bool, true, false, not, ◌&&◌, ◌||◌, nat_le, nat_lt, List, length, get_or}
+use Rattle.page_layout.specs.Items.{is_misplaced_heap_item, is_normal}
+use Rattle.page_layout.specs.Page.{item_of, upper_of}
+use Rattle.page_layout.specs.declared.page.LinePtr.{LinePtr}
+
+-- a normal item that is where it may be, on a page with this upper place
+abbrev pub has_storage : ℕ → LinePtr → Bool
+has_storage upper p = is_normal p.flag && not (is_misplaced_heap_item upper p)
+
+-- two items have a byte in common
+abbrev pub shares_byte : LinePtr → LinePtr → Bool
+shares_byte p q = nat_lt p.off (q.off + q.len) && nat_lt q.off (p.off + p.len)
+
+-- one of the items 1, .., n of the page has a byte in common with p
+unfoldable pub meets_item_below : List ℕ → ℕ → LinePtr → Bool
+meets_item_below page zero p = false
+meets_item_below page (suc n) p =
+    meets_item_below page n p || (has_storage (upper_of page) (item_of page (suc n)) && shares_byte (item_of page (suc n)) p)
+
+-- H2: a normal item whose storage meets that of a lower normal item that is where it may be
+unfoldable pub overlaps_lower_item : List ℕ → ℕ → Bool
+overlaps_lower_item page i = is_normal (item_of page i).flag && meets_item_below page (i - 1) (item_of page i)
+
+-- A page is 1024 cells of 8 bytes, and storage begins at the start of a cell.
+
+-- the first byte of the cell belongs to the item
+abbrev pub covers : LinePtr → ℕ → Bool
+covers p cell = nat_le p.off (8 * cell) && nat_lt (8 * cell) (p.off + p.len)
+
+-- one of the items 1, .., n of the page covers the cell
+unfoldable pub is_covered : List ℕ → ℕ → ℕ → Bool
+is_covered page zero cell = false
+is_covered page (suc n) cell =
+    is_covered page n cell || (has_storage (upper_of page) (item_of page (suc n)) && covers (item_of page (suc n)) cell)
+
+-- for each cell, whether one of the items 1, .., n covers it
+pub record AreCells (page : List ℕ) (n : ℕ) (cells : List Bool) : Type 0 where
+  pub long : length cells ≡ 1024
+  pub right : (k : ℕ) → k < 1024 → get_or cells k false ≡ is_covered page n k
+
+-- a cell from `first` to before `end` is taken
+pub record IsTakenBetween (cells : List Bool) (first end : ℕ) : Type 0 where
+  pub cell : ℕ
+  pub after : first ≤ cell
+  pub before : cell < end
+  pub taken : get_or cells cell false ≡ true
+
+-- which cells are taken afterwards
+abbrev pub taken_with : List Bool → ℕ → ℕ → ℕ → Bool
+taken_with cells first end k = get_or cells k false || (nat_le first k && nat_lt k end)

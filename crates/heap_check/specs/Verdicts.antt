@@ -1,0 +1,100 @@
+-- What is found of a line pointer of a heap page and of the tuple that it points to.
+use Rattle.std.specs.Prelude.{ℕ, List, [], ◌∷◌, length, if◌then◌else◌, Option, Some, None}
+use Rattle.key_orders.specs.declared.columns.ColType.{ColType}
+use Rattle.page_layout.specs.Items.{is_misplaced_heap_item}
+use Rattle.page_layout.specs.Page.{item_of, piece_of, upper_of}
+use Rattle.page_layout.specs.declared.page.LineFlag.{LineFlag}
+use Rattle.page_layout.specs.declared.page.LineFlag.TheVariants as flag
+use Rattle.page_layout.specs.declared.page.LinePtr.{LinePtr}
+use Rattle.page_layout.specs.declared.rules.Rule.{Rule}
+use Rattle.page_layout.specs.declared.rules.Rule.TheVariants.{H1, H2}
+use Rattle.tuple_head.specs.Head.{head_rule_of, is_old_form, tuple_head_of}
+use Rattle.tuple_head.specs.declared.HeapHead.{HeapHead}
+use Rattle.liveness.specs.Life.{judged_of}
+use Rattle.liveness.specs.Logs.{Logs}
+use Rattle.liveness.specs.declared.states.Doubt.{Doubt}
+use Rattle.liveness.specs.declared.states.Doubt.TheVariants as doubt
+use Rattle.liveness.specs.declared.states.ItemState.TheVariants.{Unused, Dead, Redirect, Tuple}
+use Rattle.liveness.specs.declared.states.Judged.{Judged}
+use Rattle.liveness.specs.declared.states.Life.{Life}
+use Rattle.liveness.specs.declared.states.Life.TheVariants as life
+use Rattle.reports.specs.declared.places.Finding.{Finding}
+use Rattle.reports.specs.declared.places.Place.{Place}
+use Rattle.reports.specs.declared.places.Place.TheVariants.{Item}
+use Rattle.reports.specs.declared.places.Reason.{Reason}
+use Rattle.reports.specs.declared.places.Reason.TheVariants as reason
+use Rattle.reports.specs.declared.places.Rel.{Rel}
+use Rattle.reports.specs.declared.places.UnjudgedPlace.{UnjudgedPlace}
+use Rattle.heap_check.specs.declared.verdict.ItemVerdict.{ItemVerdict}
+use Rattle.heap_check.specs.declared.verdict.ItemVerdict.TheVariants.{Passes, Breaks, InDoubt}
+use Rattle.heap_check.specs.Pages.{finding_at}
+use Rattle.heap_check.specs.Storage.{overlaps_lower_item}
+
+-- what the rules of a heap need to know of its table: how reports call it, its columns, and what the logs say
+pub record Table : Type 0 where
+  pub rel : Rel
+  pub columns : List ColType
+  pub logs : Logs
+
+abbrev pub reason_of : Doubt → Reason
+reason_of doubt.U1 = reason.U1
+reason_of doubt.U2 = reason.U2
+reason_of doubt.U3 = reason.U3
+
+-- what the life of a tuple says
+abbrev pub life_verdict : HeapHead → Judged → Life → ItemVerdict
+life_verdict head judged life.Live = Passes (Tuple head judged)
+life_verdict head judged life.Dead = Passes (Tuple head judged)
+life_verdict head judged (life.Unjudged u) = InDoubt (reason_of u)
+life_verdict head judged (life.Broken rule) = Breaks rule
+
+abbrev pub header_verdict : Table → HeapHead → Option Rule → ItemVerdict
+header_verdict table head (Some rule) = Breaks rule
+header_verdict table head None = life_verdict head (judged_of table.logs head) (judged_of table.logs head).life
+
+-- a tuple of so many bytes: nothing more is asked of a header of old form; else its rules come first, and then its life
+unfoldable pub tuple_verdict : Table → ℕ → HeapHead → ItemVerdict
+tuple_verdict table len head =
+    if is_old_form head then InDoubt reason.U1
+    else header_verdict table head (head_rule_of (length table.columns) len head)
+
+-- the header of the tuple to which a pointer points
+unfoldable pub head_at : List ℕ → LinePtr → HeapHead
+head_at page p = tuple_head_of (piece_of page p.off p.len)
+
+-- a normal item: where it lies, and then its tuple
+unfoldable pub normal_verdict : Table → List ℕ → ℕ → ItemVerdict
+normal_verdict table page i =
+    if is_misplaced_heap_item (upper_of page) (item_of page i) then Breaks H1
+    else if overlaps_lower_item page i then Breaks H2
+    else tuple_verdict table (item_of page i).len (head_at page (item_of page i))
+
+abbrev pub flag_verdict : Table → List ℕ → ℕ → LineFlag → ItemVerdict
+flag_verdict table page i flag.Unused = Passes Unused
+flag_verdict table page i flag.Normal = normal_verdict table page i
+flag_verdict table page i flag.Redirect = Passes (Redirect (item_of page i).off)
+flag_verdict table page i flag.Dead = Passes Dead
+
+unfoldable pub item_verdict : Table → List ℕ → ℕ → ItemVerdict
+item_verdict table page i = flag_verdict table page i (item_of page i).flag
+
+-- what a verdict adds to a report
+abbrev pub doubt_at : Place → Option Reason → List UnjudgedPlace
+doubt_at place (Some reason) = record { reason = reason; place = place } ∷ []
+doubt_at place None = []
+
+abbrev pub rule_in : ItemVerdict → Option Rule
+rule_in (Breaks rule) = Some rule
+rule_in (Passes state) = None
+rule_in (InDoubt reason) = None
+
+abbrev pub reason_in : ItemVerdict → Option Reason
+reason_in (InDoubt reason) = Some reason
+reason_in (Passes state) = None
+reason_in (Breaks rule) = None
+
+unfoldable pub item_findings : Table → ℕ → List ℕ → ℕ → List Finding
+item_findings table block page i = finding_at (Item table.rel block i) (rule_in (item_verdict table page i))
+
+unfoldable pub item_doubts : Table → ℕ → List ℕ → ℕ → List UnjudgedPlace
+item_doubts table block page i = doubt_at (Item table.rel block i) (reason_in (item_verdict table page i))

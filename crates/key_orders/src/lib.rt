@@ -1,0 +1,33 @@
+//! Values of columns, and the orders of index keys.
+#![tactic(auto)]
+
+mod columns;
+mod compare;
+mod laws;
+mod octets;
+mod orders;
+mod refs;
+mod scans;
+mod separators;
+mod values;
+
+pub use columns::{ColType, KeySpec, Value, ValueRef};
+pub use compare::{cmp_entry, cmp_sep, cmp_two_seps, cmp_values, fits_columns};
+pub use laws::{goes_right_has_the_laws, key_orders_are_total, keys_are_searchable};
+pub use octets::Octets;
+pub use orders::{BoolOrder, BytesOrder, IntOrder, KeyOrder, NullPlace, Reversed};
+pub use refs::{KeyRefs, MAX_KEY_COLUMNS};
+pub use scans::{Scan, ScanFault, goes_right, matches, past_high};
+pub use separators::{SepRef, Separator};
+pub use values::fits_type;
+
+/// The place of a tuple in its table (`ctid`): its block, counted from 0, and its item, counted
+/// from 1.
+#[derive(Clone, Copy, Debug, PartialEq, Eq)]
+pub struct Tid {
+    pub block: u32,
+    pub item: u16,
+}
+
+#[cfg(test)]
+mod tests;

@@ -1,0 +1,206 @@
+//! What no clause says: texts, calls with ample memory, and the real file system.
+use crate::files::{Failed, FileName, Files, Part, Sink};
+use crate::{DiskFiles, MemFiles, MemSink, OutSink, path_of};
+use std::fs;
+use std::test::Fail;
+
+fn segment(base: &str, number: u32) -> FileName<'_> {
+    FileName {
+        base,
+        part: Part::Segment(number),
+    }
+}
+
+fn log(base: &str, number: u32) -> FileName<'_> {
+    FileName {
+        base,
+        part: Part::Slru(number),
+    }
+}
+
+// Reads bytes of a file, and says whether it has so many.
+fn read<F: Files>(
+    files: &mut F,
+    name: FileName<'_>,
+    at: u64,
+    out: &mut [u8],
+) -> Result<bool, Failed> {
+    let Some(length) = files.length(name)? else {
+        return Ok(false);
+    };
+    if length < at || length - at < out.len() as u64 {
+        return Ok(false);
+    }
+    files.read_at(name, at, out)?;
+    Ok(true)
+}
+
+#[test]
+fn paths_have_their_parts(rt: HostRuntime) -> Result<(), Fail> {
+    let rows = [
+        (segment("base/5/16384", 0), "base/5/16384"),
+        (segment("base/5/16384", 3), "base/5/16384.3"),
+        (segment("t", 4294967295), "t.4294967295"),
+        (log("xact", 0), "xact/0000"),
+        (log("xact", 10), "xact/000A"),
+        (log("xact", 0xABCDE), "xact/ABCDE"),
+        (log("", 0xFFFF), "/FFFF"),
+    ];
+    for (name, path) in rows {
+        let built = path_of(rt.alloc(), name)?;
+        assert_eq!(rt; built.as_str(), path);
+    }
+    Ok(())
+}
+
+#[test]
+fn files_in_memory_hold_what_was_added_last(rt: HostRuntime) -> Result<(), Fail> {
+    let mut files = MemFiles::new(rt.alloc());
+    files.add("t", Part::Segment(0), b"first")?;
+    files.add("t", Part::Segment(1), b"second")?;
+    files.add("t", Part::Slru(0), b"log")?;
+    files.add("t", Part::Segment(0), b"another one")?;
+    assert_eq!(rt; files.length(segment("t", 0))?, Some(11));
+    assert_eq!(rt; files.length(segment("t", 1))?, Some(6));
+    assert_eq!(rt; files.length(log("t", 0))?, Some(3));
+    assert_eq!(rt; files.length(segment("t", 2))?, None);
+    assert_eq!(rt; files.length(segment("u", 0))?, None);
+    let mut piece = [0; 3];
+    assert_eq!(rt; read(&mut files, segment("t", 0), 8, &mut piece), Ok(true));
+    assert_eq!(rt; piece, *b"one");
+    assert!(rt; !files.refused_memory());
+    Ok(())
+}
+
+#[test]
+fn planned_failures_count_later_calls(rt: HostRuntime) -> Result<(), Fail> {
+    let mut files = MemFiles::new(rt.alloc());
+    files.add("t", Part::Segment(0), b"abc")?;
+    files.length(segment("t", 0))?;
+    files.length(segment("t", 0))?;
+    files.fail_length(2)?;
+    files.fail_length(0)?;
+    assert_eq!(rt; files.length(segment("t", 0)), Ok(Some(3)));
+    assert_eq!(rt; files.length(segment("t", 0)), Err(Failed));
+    assert_eq!(rt; files.length(segment("t", 0)), Ok(Some(3)));
+
+    let mut piece = [0; 1];
+    files.fail_read(1)?;
+    assert_eq!(rt;
+        read(&mut files, segment("t", 0), 2, &mut piece),
+        Err(Failed)
+    );
+    assert_eq!(rt; read(&mut files, segment("t", 0), 2, &mut piece), Ok(true));
+    assert_eq!(rt; piece, *b"c");
+    Ok(())
+}
+
+#[test]
+fn a_sink_takes_grain_by_grain(rt: HostRuntime) -> Result<(), Fail> {
+    let mut sink = MemSink::new(rt.alloc(), 4)?;
+    assert_eq!(rt; sink.put(b"abcdef"), Ok(4));
+    sink.fail_put(2)?;
+    assert_eq!(rt; sink.put(b"ef"), Ok(2));
+    assert_eq!(rt; sink.put(b"g"), Err(Failed));
+    assert_eq!(rt; sink.put(b""), Ok(0));
+    assert_eq!(rt; sink.bytes(), b"abcdef".as_slice());
+    Ok(())
+}
+
+#[test]
+fn a_sink_fills_up(rt: HostRuntime) -> Result<(), Fail> {
+    let mut sink = MemSink::new(rt.alloc(), 1 << 20)?;
+    let piece = vec![in rt.alloc(); 7u8; 1048575]?;
+    assert_eq!(rt; sink.put(&piece), Ok(1048575));
+    assert_eq!(rt; sink.put(b"xy"), Ok(1));
+    assert_eq!(rt; sink.put(b""), Ok(0));
+    assert_eq!(rt; sink.put(b"z"), Err(Failed));
+    Ok(())
+}
+
+#[test]
+fn real_files_are_read(rt: HostRuntime) -> Result<(), Fail> {
+    fs::write(&rt, "ten_bytes", b"ten bytes.")?;
+    fs::create_dir(&rt, "a_folder")?;
+    let mut files = DiskFiles::new(rt, rt.alloc());
+    let mut piece = [0; 5];
+    assert_eq!(rt; files.length(segment("ten_bytes", 0)), Ok(Some(10)));
+    assert_eq!(rt;
+        files.read_at(segment("ten_bytes", 0), 4, &mut piece),
+        Ok(())
+    );
+    assert_eq!(rt; piece, *b"bytes");
+    assert_eq!(rt;
+        files.read_at(segment("ten_bytes", 0), 6, &mut piece),
+        Err(Failed)
+    );
+    assert_eq!(rt; files.length(segment("ten_bytes", 1)), Ok(None));
+    assert_eq!(rt; files.length(segment("a_folder", 0)), Err(Failed));
+    assert_eq!(rt; files.length(segment("ten_bytes\0", 0)), Err(Failed));
+    assert_eq!(rt; files.length(log("ten_bytes", 0)), Err(Failed));
+    assert!(rt; !files.refused_memory());
+    fs::remove_file(&rt, "ten_bytes")?;
+    fs::remove_dir(&rt, "a_folder")?;
+    Ok(())
+}
+
+#[test]
+fn a_real_log_is_read_by_pages(rt: HostRuntime) -> Result<(), Fail> {
+    let mut bytes = vec![in rt.alloc(); b'a'; 8192]?;
+    bytes.extend_from_slice(b"bbbbbbbbbb")?;
+    fs::create_dir(&rt, "a_log")?;
+    fs::write(&rt, "a_log/000A", bytes.as_slice())?;
+    let mut files = DiskFiles::new(rt, rt.alloc());
+    let name = log("a_log", 10);
+    assert_eq!(rt; files.length(name), Ok(Some(8202)));
+    assert_eq!(rt; files.length(log("a_log", 9)), Ok(None));
+    let mut byte = [0; 1];
+    for (at, want) in [
+        (0, b'a'),
+        (8191, b'a'),
+        (8192, b'b'),
+        (8201, b'b'),
+        (17, b'a'),
+    ] {
+        assert_eq!(rt; files.read_at(name, at, &mut byte), Ok(()));
+        assert_eq!(rt; byte, [want]);
+    }
+    let mut pair = [0; 2];
+    assert_eq!(rt; files.read_at(name, 8191, &mut pair), Ok(()));
+    assert_eq!(rt; pair, *b"ab");
+    assert_eq!(rt; files.read_at(name, 8202, &mut byte), Err(Failed));
+    assert_eq!(rt; files.read_at(name, u64::MAX, &mut pair), Err(Failed));
+    fs::remove_file(&rt, "a_log/000A")?;
+    fs::remove_dir(&rt, "a_log")?;
+    Ok(())
+}
+
+// More files than may be open at once, twice over: each that was closed is opened again.
+#[test]
+fn more_real_files_than_stay_open(rt: HostRuntime) -> Result<(), Fail> {
+    fs::create_dir(&rt, "many")?;
+    for number in 0..70u8 {
+        let path = path_of(rt.alloc(), log("many", u32::from(number)))?;
+        fs::write(&rt, path.as_str(), [number].as_slice())?;
+    }
+    let mut files = DiskFiles::new(rt, rt.alloc());
+    for turn in 0..140u8 {
+        let number = turn % 70;
+        let mut byte = [255];
+        let name = log("many", u32::from(number));
+        assert_eq!(rt; files.read_at(name, 0, &mut byte), Ok(()));
+        assert_eq!(rt; byte, [number]);
+    }
+    for number in 0..70u8 {
+        let path = path_of(rt.alloc(), log("many", u32::from(number)))?;
+        fs::remove_file(&rt, path.as_str())?;
+    }
+    fs::remove_dir(&rt, "many")?;
+    Ok(())
+}
+
+#[test]
+fn standard_output_takes_bytes(rt: HostRuntime) {
+    let mut sink = OutSink::new(&rt);
+    assert_eq!(rt; sink.put(b"\n"), Ok(1));
+}

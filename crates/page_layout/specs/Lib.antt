@@ -1,0 +1,4 @@
+pub mod Rules
+pub mod Page
+pub mod Items
+pub mod View

@@ -1,0 +1,149 @@
+// A relation in segments.
+ghost use Rattle.std.specs.Prelude.{◌≡◌, ◌<◌, ◌≤◌, ◌⊎◌, IfErr, IfOk, IfSome, OnOk};
+ghost use Rattle.outside.specs.Outside.{Causes, HasCause, IfTold};
+ghost use Rattle.rel_files.specs.Blocks.{block_of};
+
+use crate::fault::{AttachFault, ReadFault};
+use crate::segments::find_last;
+use outside::{FileName, Files, Part};
+use std::alloc::Global;
+
+/// The blocks of a relation (a table, an index, a map or a TOAST table) in its segment files, as
+/// `storage/smgr/md.c` lays them. It keeps the relation's name and numbers, and none of its bytes:
+/// each call is given the files anew.
+#[derive(Drop)]
+pub struct Relation {
+    base: String,
+    segment_blocks: u32,
+    blocks: u32,
+    long: Option<u32>,
+    ghost some: { 1 ≤ segment_blocks },
+}
+
+impl Relation {
+    ghost use Rattle.rel_files.specs.Relation.{FindsFront, IsAttached, IsRefused, IsRelationOf, base_of, count_of, long_of, size_of};
+
+    /// Attaches a relation, whose name without a segment's number is `base`. `segment_blocks` is the
+    /// number of blocks of a full segment, 1 to 131072 (131072 in a server as it is built by
+    /// default), and `limit` the most blocks that are accepted, at most 4194304.
+    ///
+    /// It asks for the length of one segment after another, and of none after one that isn't full.
+    /// A part of a block at a segment's end doesn't count. A segment that is longer than a full one
+    /// counts as full, ends the relation, and is told by `long_segment`.
+    ///
+    /// `NoFile` comes exactly where segment 0 isn't held, `TooLarge` exactly where the relation has
+    /// more than `limit` blocks, with the count at the first segment where it does, and `ReadFault`
+    /// only where a segment couldn't be asked for.
+    pub fn attach<F: Files>(
+        alloc: Global,
+        files: &mut F,
+        base: &str,
+        segment_blocks: u32,
+        limit: u32,
+    ) -> Result<Relation, AttachFault>
+        requires some { 1 ≤ segment_blocks }
+        requires small { segment_blocks ≤ 131072 }
+        requires few { limit ≤ 4194304 }
+        ensures base { IfOk result (λ r. base_of r ≡ base.now) }
+        ensures size { IfOk result (λ r. size_of r ≡ segment_blocks) }
+        ensures within { IfOk result (λ r. count_of r ≤ limit) }
+        ensures told { IfOk result (λ r. IfTold (F.held files.old) (λ names.
+            IsRelationOf names base.now segment_blocks limit r)) }
+        ensures refused { IfErr result (λ e. IfTold (F.held files.old) (λ names.
+            IsRefused names base.now segment_blocks limit e)) }
+        ensures same { F.held files.new ≡ F.held files.old }
+        ensures cause { Causes (F.faults files.old) (F.faults files.new) result AttachFault.ReadFault }
+    {
+        let Some(last) = find_last(files, base, segment_blocks, limit / segment_blocks)? else {
+            return Err(AttachFault::NoFile);
+        };
+        let blocks = last.count(segment_blocks);
+        if blocks > limit {
+            return Err(AttachFault::TooLarge { blocks, limit });
+        }
+        Ok(Relation {
+            base: String::from_str(alloc, base)?,
+            segment_blocks,
+            blocks,
+            long: last.long(segment_blocks),
+        })
+    }
+
+    /// Attaches the front of a relation: its blocks below `limit`. It asks for segment 0, and for
+    /// each next segment while the last one was full and `limit` isn't reached. `base`,
+    /// `segment_blocks` and the ranges are those of `attach`.
+    ///
+    /// `None` comes exactly where segment 0 isn't held, and `ReadFault` only where a segment
+    /// couldn't be asked for. It never answers `NoFile` or `TooLarge`.
+    pub fn attach_front<F: Files>(
+        alloc: Global,
+        files: &mut F,
+        base: &str,
+        segment_blocks: u32,
+        limit: u32,
+    ) -> Result<Option<Relation>, AttachFault>
+        requires some { 1 ≤ segment_blocks }
+        requires small { segment_blocks ≤ 131072 }
+        requires few { limit ≤ 4194304 }
+        ensures base { IfOk result (λ front. IfSome front (λ r. base_of r ≡ base.now)) }
+        ensures size { IfOk result (λ front. IfSome front (λ r. size_of r ≡ segment_blocks)) }
+        ensures within { IfOk result (λ front. IfSome front (λ r. count_of r ≤ limit)) }
+        ensures told { IfOk result (λ front. IfTold (F.held files.old) (λ names.
+            FindsFront names base.now segment_blocks limit front)) }
+        // Neither NoFile nor TooLarge.
+        ensures refused { IfErr result (λ e. e ≡ AttachFault.ReadFault ⊎ e ≡ AttachFault.NoMemory) }
+        ensures same { F.held files.new ≡ F.held files.old }
+        ensures cause { Causes (F.faults files.old) (F.faults files.new) result AttachFault.ReadFault }
+    {
+        let reach = limit.saturating_sub(1) / segment_blocks;
+        let Some(last) = find_last(files, base, segment_blocks, reach)? else {
+            return Ok(None);
+        };
+        Ok(Some(Relation {
+            base: String::from_str(alloc, base)?,
+            segment_blocks,
+            blocks: last.count(segment_blocks).min(limit),
+            long: last.long(segment_blocks),
+        }))
+    }
+
+    /// The number of its blocks.
+    pub fn blocks(&self) -> u32
+        ensures { result ≡ count_of self.now }
+    {
+        self.blocks
+    }
+
+    /// The first of the segments asked for that has more blocks than a full one, `None` exactly
+    /// where none has.
+    pub fn long_segment(&self) -> Option<u32>
+        ensures { result ≡ long_of self.now }
+    {
+        self.long
+    }
+
+    /// Reads a block into `out`; blocks count from 0. `ReadFault` comes only where the files
+    /// couldn't be read, and `out` is then unspecified.
+    pub fn read_block<F: Files>(
+        &self,
+        files: &mut F,
+        b: u32,
+        out: &mut [u8; 8192],
+    ) -> Result<(), ReadFault>
+        requires attached { IfTold (F.held files.old) (λ names. IsAttached names self.now) }
+        requires below { b < count_of self.now }
+        ensures bytes { OnOk result (IfTold (F.held files.old) (λ names.
+            out.new ≡ block_of names (base_of self.now) (size_of self.now) b)) }
+        ensures same { F.held files.new ≡ F.held files.old }
+        ensures cause { HasCause (F.faults files.old) (F.faults files.new) result }
+    {
+        let segment = b / self.segment_blocks;
+        let place = b % self.segment_blocks;
+        let name = FileName {
+            base: self.base.as_str(),
+            part: Part::Segment(segment),
+        };
+        files.read_at(name, 8192 * place as u64, out)?;
+        Ok(())
+    }
+}

@@ -1,0 +1,53 @@
+// Why a file of the case can't be judged at all.
+ghost use Rattle.std.specs.Prelude.{◌≡◌};
+ghost use Rattle.reports.specs.declared.fault.CheckFault.TheVariants as fault;
+
+use outside::{Failed, NoMemory};
+use thiserror::Error;
+
+/// The file that is meant.
+#[derive(Clone, Copy, Debug, PartialEq, Eq)]
+pub enum Which {
+    Heap,
+    Toast,
+    /// An index, counted from 1 in the order of the case.
+    Index(u16),
+}
+
+/// Why the files of a table or of an index can't be judged.
+#[derive(Clone, Copy, Debug, PartialEq, Eq, Error)]
+pub enum CheckFault {
+    /// The file's first segment isn't there.
+    #[error("a file isn't there")]
+    NoFile(Which),
+    /// The file has more blocks than are judged: `blocks` is the count at the first segment where
+    /// it passes `limit`.
+    #[error("a file has {blocks} blocks, and the limit is {limit}")]
+    TooLarge {
+        which: Which,
+        blocks: u32,
+        limit: u32,
+    },
+    /// A file couldn't be read: the count of the files' faults rose.
+    #[error("a file couldn't be read")]
+    ReadFault,
+    /// Memory ran out.
+    #[error("out of memory")]
+    NoMemory,
+}
+
+impl From<Failed> for CheckFault {
+    ghost from_gives = { λ _ e. e ≡ fault.ReadFault };
+
+    fn from(_: Failed) -> Self {
+        CheckFault::ReadFault
+    }
+}
+
+impl From<NoMemory> for CheckFault {
+    ghost from_gives = { λ _ e. e ≡ fault.NoMemory };
+
+    fn from(_: NoMemory) -> Self {
+        CheckFault::NoMemory
+    }
+}

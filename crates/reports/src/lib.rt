@@ -1,0 +1,21 @@
+//! What the program has to say: findings and their places, the text of a report, and the text of one
+//! page.
+#![tactic(auto)]
+
+mod fault;
+mod heap_page;
+mod page_parts;
+mod places;
+mod report;
+#[cfg(test)]
+mod show_tests;
+#[cfg(test)]
+mod tests;
+mod texts;
+mod tree_page;
+
+pub use fault::{CheckFault, Which};
+pub use heap_page::show_heap;
+pub use places::{Finding, Place, Reason, Rel, UnjudgedPlace, Verdict};
+pub use report::Report;
+pub use tree_page::show_tree;

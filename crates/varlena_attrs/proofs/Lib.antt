@@ -1,0 +1,5 @@
+pub mod ReadFrom
+pub mod Varlena
+pub mod Stored
+pub mod Law
+pub mod First

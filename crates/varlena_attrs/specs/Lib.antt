@@ -1,0 +1,6 @@
+pub mod Forms
+pub mod Attributes
+pub mod Reading
+pub mod Shown
+pub mod Values
+pub mod Laws

@@ -1,0 +1,22 @@
+//! The attributes of a tuple: where each column's value lies in a row of a table, and what form it
+//! has there.
+//!
+//! Sources: the sections "Database Page Layout" and "TOAST" of the PostgreSQL manual, and the
+//! server's headers `access/tupmacs.h` (alignment, null bits) and `varatt.h` (the forms of a
+//! varlena).
+#![tactic(auto)]
+
+mod buffer;
+mod fault;
+mod forms;
+mod places;
+mod reading;
+#[cfg(test)]
+mod tests;
+mod values;
+
+pub use buffer::AttrBuffer;
+pub use fault::AttrFault;
+pub use places::{Attr, AttrPlace, ToastPointer};
+pub use reading::{Attrs, attributes, attributes_are_unique};
+pub use values::value_of;
