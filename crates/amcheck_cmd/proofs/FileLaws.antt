@@ -19,10 +19,13 @@ use Rattle.reports.specs.declared.fault.CheckFault.{CheckFault}
 use Rattle.heap_check.specs.Broken.{Breaks, Doubts}
 use Rattle.heap_check.specs.Files.{refusal_of}
 use Rattle.heap_check.specs.Heap.{doubts_of, findings_of}
-use Rattle.heap_check.proofs.CaseLaws.{case_complete, case_doubts_sound, case_sound}
-use Rattle.amcheck_cmd.specs.Cases.{BreaksCase, DoubtsCase, accepted, case_by, case_in, heap_lists, lists_by, lists_in, text_limit}
-use Rattle.amcheck_cmd.specs.Forms.{Form, NoForm, Pages, Heap}
-use Rattle.amcheck_cmd.specs.Outcome.{BreaksNothing, DoubtsNothing, FindsOnlyBroken, IsInDoubt, Outcome, heap_outcome, outcome_by, outcome_of_files, outcome_of_meaning, outcome_of_text, pages_outcome, report_in, reported, too_large, verdict_code}
+use Rattle.heap_check.proofs.CaseLaws.{case_doubts_sound, case_sound}
+use Rattle.heap_check.proofs.HeldLaws.{case_values}
+use Rattle.heap_check.proofs.QuietLaws.{case_bits, case_chains, case_complete, case_roots, case_states}
+use Rattle.outside.specs.declared.files.Part.TheVariants.{Segment}
+use Rattle.amcheck_cmd.specs.Cases.{BreaksCase, DoubtsCase, IsTrueHeap, accepted, case_by, case_in, heap_lists, lists_by, lists_in, text_limit}
+use Rattle.amcheck_cmd.specs.Forms.{Form, NoForm, Pages, Heap, Show}
+use Rattle.amcheck_cmd.specs.Outcome.{BreaksNothing, DoubtsNothing, FindsOnlyBroken, IsInDoubt, IsTrueWhereClean, Outcome, file_refusal, heap_outcome, outcome_by, outcome_of_files, outcome_of_meaning, outcome_of_text, pages_outcome, refused_or, report_in, reported, too_large, verdict_code}
 use Rattle.amcheck_cmd.specs.Pages.{BreaksFile, block_findings, block_limit, file_findings, pages_report}
 use Rattle.outside.specs.Outside.{Names}
 
@@ -112,12 +115,14 @@ finds_only_broken (Heap name) names lists e =
       findings = case_report_sound _ names lists has;
       unjudged = case_report_doubts _ names lists has;
     }
+finds_only_broken (Show kind name block) names lists e = cc
 
 -- a report without findings, and with nothing in doubt, tells that nothing is broken
 pub empty_is_sound : (form : Form) (names : Names) (lists : Lists) → report_in form names ≡ Some lists → lists.findings ≡ [] → lists.unjudged ≡ [] → BreaksNothing form names
 empty_is_sound NoForm names lists e none sure = cc
 empty_is_sound (Pages name) names lists e none sure = file_complete _ (listed _ lists e ∙ none)
 empty_is_sound (Heap name) names lists e none sure = case_report_complete _ names lists (the_case _ names lists e) none sure
+empty_is_sound (Show kind name block) names lists e none sure = cc
 
 -- what never comes isn't listed
 none_of : {X : Type 0} {P : X → Type 0} (xs : List X) → All P xs → ((x : X) → P x → ⊥) → xs ≡ []
@@ -125,12 +130,12 @@ none_of [] all never = refl
 none_of {P = P} (x ∷ xs) all never = absurd (never x (All-head P x xs all))
 
 -- where a report is given it is the outcome
-reported_or : (large : Bool) (refusal : Outcome) (lists shown : Lists) → (if large then None else Some lists) ≡ Some shown → (if large then refusal else reported lists) ≡ reported shown
+reported_or : (large : Bool) (refusal : Outcome) (lists shown : Lists) → (if large then None else Some lists) ≡ Some shown → refused_or (if large then Some refusal else None) (reported lists) ≡ reported shown
 reported_or true refusal lists shown e = cc
 reported_or false refusal lists shown e = let same : lists ≡ shown = cc in ap reported same
 
 pages_reported : (name : List ℕ) (file : Option (List ℕ)) (lists : Lists) → pages_report file ≡ Some lists → pages_outcome name file ≡ reported lists
-unfolding pages_outcome pages_report
+unfolding pages_outcome pages_report file_refusal
 pages_reported name None lists e = cc
 pages_reported name (Some bytes) lists e =
     reported_or (nat_lt block_limit (blocks_in (Some bytes))) (too_large name (blocks_in (Some bytes))) (record { findings = file_findings (Some bytes); unjudged = [] }) lists e
@@ -156,6 +161,7 @@ pub report_is_outcome : (form : Form) (names : Names) (lists : Lists) → report
 report_is_outcome NoForm names lists e = cc
 report_is_outcome (Pages name) names lists e = pages_reported name _ lists e
 report_is_outcome (Heap name) names lists e = heap_reported name names _ lists e
+report_is_outcome (Show kind name block) names lists e = cc
 
 clean_has_none : (fs : List Finding) (us : List UnjudgedPlace) → verdict_code (verdict_of fs us) ≡ 0 → (fs ≡ []) × (us ≡ [])
 unfolding verdict_of
@@ -179,3 +185,26 @@ pub sound_code : (form : Form) (names : Names) (o : Outcome) → o ≡ outcome_b
 sound_code form names o owed nought lists e =
     let none = clean_has_none lists.findings lists.unjudged (sym (ap (λ (p : Outcome). p.code) (owed ∙ report_is_outcome form names lists e)) ∙ nought) in
     empty_is_sound form names lists e none.0 none.1
+
+-- a heap of which nothing is found, and of which everything can be judged
+true_heap : (case : CaseRecord) (names : Names) → findings_of case names ≡ [] → doubts_of case names ≡ [] → IsTrueHeap case names
+true_heap case names none sure = record {
+  states = case_states case names none sure;
+  bits = case_bits case names none sure;
+  chains = case_chains case names none sure;
+  roots = case_roots case names none sure;
+  values = case_values case names none sure;
+}
+
+the_report : (names : Names) (found : Option CaseRecord) (case : CaseRecord) → found ≡ Some case → refusal_of case names ≡ None → lists_in names found ≡ Some (heap_lists case names)
+the_report names found case meant kept = rw (meant, kept) refl
+
+-- the code 0 of `heap` tells that what is said of the heap is true
+pub true_code : (form : Form) (names : Names) (o : Outcome) → o ≡ outcome_by form names → (code : ℕ) → (code ≡ 0 → o.code ≡ 0) → IsTrueWhereClean form names code
+true_code NoForm names o owed code nought = tt
+true_code (Pages name) names o owed code nought = tt
+true_code (Show kind name block) names o owed code nought = tt
+true_code (Heap name) names o owed code nought = λ e case meant kept.
+    let shown = the_report names (case_in (names name (Segment 0))) case meant kept in
+    let none = clean_has_none (findings_of case names) (doubts_of case names) (sym (ap (λ (p : Outcome). p.code) (owed ∙ report_is_outcome (Heap name) names (heap_lists case names) shown)) ∙ nought e) in
+    true_heap case names none.0 none.1

@@ -1,9 +1,9 @@
 -- What a run writes and answers.
-use Rattle.std.specs.Prelude.{◌≡◌, ◌≢◌, ℕ, List, [], ◌++◌, ◌⊎◌, length, take, codes, decimal, nat_lt, if◌then◌else◌, Option, Some, None, All, Bool, Ok, Err}
+use Rattle.std.specs.Prelude.{◌≡◌, ◌≢◌, ℕ, ◌≤◌, List, [], ◌++◌, ◌⊎◌, length, take, codes, decimal, nat_lt, if◌then◌else◌, Option, Some, None, All, Bool, Ok, Err}
 use Rattle.outside.specs.Outside.{Names, appended}
 use Rattle.outside.specs.declared.files.Part.TheVariants.{Segment}
 use Rattle.page_layout.specs.declared.rules.Rule.{Rule}
-use Rattle.rel_files.specs.Blocks.{blocks_in}
+use Rattle.rel_files.specs.Blocks.{block_in, blocks_in}
 use Rattle.case_file.specs.Case.{Meaning, case_of}
 use Rattle.case_file.specs.Record.{CaseRecord}
 use Rattle.case_file.specs.Rules.{rule_code}
@@ -17,9 +17,11 @@ use Rattle.reports.specs.Texts.{report_text, verdict_of}
 use Rattle.reports.specs.declared.places.Place.{Place}
 use Rattle.reports.specs.declared.places.Verdict.{Verdict}
 use Rattle.reports.specs.declared.places.Verdict.TheVariants.{Clean, Findings, Unjudged}
-use Rattle.amcheck_cmd.specs.Forms.{Form, NoForm, Pages, Heap, form_of}
-use Rattle.amcheck_cmd.specs.Cases.{BreaksCase, DoubtsCase, case_in, file_named, heap_lists, lists_in, text_limit}
+use Rattle.amcheck_cmd.specs.Forms.{Form, NoForm, Pages, Heap, Show, form_of}
+use Rattle.amcheck_cmd.specs.Cases.{BreaksCase, DoubtsCase, IsTrueHeap, case_in, file_named, heap_lists, lists_in, text_limit}
 use Rattle.amcheck_cmd.specs.Pages.{BreaksFile, block_limit, file_findings, pages_report}
+use Rattle.amcheck_cmd.specs.Show.{shown_text}
+use Rattle.amcheck_cmd.specs.declared.words.Shown.{Shown}
 
 -- the bytes and the code that a run owes
 pub record Outcome : Type 0 where
@@ -46,6 +48,21 @@ text_too_large name bytes =
 abbrev pub case_refused : CaseRule → List ℕ → Outcome
 case_refused rule place = record { bytes = codes "refused case " ++ rule_code rule ++ codes " " ++ place ++ codes "\n"; code = 4 }
 
+-- a block past the last of a file
+abbrev pub no_block : ℕ → ℕ → Outcome
+no_block block blocks = record { bytes = codes "refused no block " ++ decimal block ++ codes " of " ++ decimal blocks ++ codes "\n"; code = 10 }
+
+-- why a file that is read by itself is refused, if it is
+unfoldable pub file_refusal : List ℕ → Option (List ℕ) → Option Outcome
+file_refusal name None = Some (no_file name)
+file_refusal name (Some bytes) =
+    if nat_lt block_limit (blocks_in (Some bytes)) then Some (too_large name (blocks_in (Some bytes))) else None
+
+-- a refusal, or else what is owed without one
+abbrev pub refused_or : Option Outcome → Outcome → Outcome
+refused_or (Some refusal) owed = refusal
+refused_or None owed = owed
+
 -- REPORTS
 
 abbrev pub verdict_code : Verdict → ℕ
@@ -63,10 +80,18 @@ reported lists = record {
 
 -- `pages` on a file that is held or not
 unfoldable pub pages_outcome : List ℕ → Option (List ℕ) → Outcome
-pages_outcome name None = no_file name
-pages_outcome name (Some bytes) =
-    if nat_lt block_limit (blocks_in (Some bytes)) then too_large name (blocks_in (Some bytes))
-    else reported (record { findings = file_findings (Some bytes); unjudged = [] })
+pages_outcome name file =
+    refused_or (file_refusal name file) (reported (record { findings = file_findings file; unjudged = [] }))
+
+-- a page that is shown
+abbrev pub page_shown : Shown → ℕ → List ℕ → Outcome
+page_shown kind block page = record { bytes = shown_text kind block page; code = 0 }
+
+-- `show` on a file that is held or not: one block of it, if it has that many
+unfoldable pub show_outcome : Shown → List ℕ → ℕ → Option (List ℕ) → Outcome
+show_outcome kind name block file =
+    refused_or (file_refusal name file)
+    (if nat_lt block (blocks_in file) then page_shown kind block (block_in file block) else no_block block (blocks_in file))
 
 -- a case whose files can't be judged, or else its report; a fault of reading is no refusal
 abbrev pub outcome_of_files : CaseRecord → Names → Option CheckFault → Outcome
@@ -94,6 +119,7 @@ abbrev pub outcome_by : Form → Names → Outcome
 outcome_by NoForm names = usage
 outcome_by (Pages name) names = pages_outcome name (names name (Segment 0))
 outcome_by (Heap name) names = heap_outcome name names (names name (Segment 0))
+outcome_by (Show kind name block) names = show_outcome kind name block (names name (Segment 0))
 
 -- what these words owe over files that hold this
 abbrev pub outcome : List (List ℕ) → Names → Outcome
@@ -104,6 +130,11 @@ abbrev pub alone : Form → Option Outcome
 alone NoForm = Some usage
 alone (Pages name) = None
 alone (Heap name) = None
+alone (Show kind name block) = None
+
+-- the codes of outcomes; the others tell that a run gave up
+abbrev pub IsOutcomeCode : ℕ → Type 0
+IsOutcomeCode code = (code ≤ 6) ⊎ (code ≡ 10)
 
 -- what a run has answered and written is what it owes, but for faults and want of memory
 pub record Meets (owed : Outcome) (old new : Option (List ℕ)) (code : ℕ) : Type 0 where
@@ -112,23 +143,26 @@ pub record Meets (owed : Outcome) (old new : Option (List ℕ)) (code : ℕ) : T
 
 -- WHAT A REPORT IS WORTH
 
--- the report of a command, where nothing refuses it
+-- the report of a command that makes one, where nothing refuses it
 abbrev pub report_in : Form → Names → Option Lists
 report_in NoForm names = None
 report_in (Pages name) names = pages_report (names name (Segment 0))
 report_in (Heap name) names = lists_in names (case_in (names name (Segment 0)))
+report_in (Show kind name block) names = None
 
 -- a rule of the command is broken at a place
 abbrev pub IsBroken : Form → Names → Rule → Place → Type 0
 IsBroken NoForm names rule place = ⊥
 IsBroken (Pages name) names rule place = BreaksFile (names name (Segment 0)) rule place
 IsBroken (Heap name) names rule place = BreaksCase (names name (Segment 0)) names rule place
+IsBroken (Show kind name block) names rule place = ⊥
 
 -- a place of the command's files can't be judged
 abbrev pub IsInDoubt : Form → Names → Reason → Place → Type 0
 IsInDoubt NoForm names reason place = ⊥
 IsInDoubt (Pages name) names reason place = ⊥
 IsInDoubt (Heap name) names reason place = DoubtsCase (names name (Segment 0)) names reason place
+IsInDoubt (Show kind name block) names reason place = ⊥
 
 -- each finding of the report is a rule that is broken at its place, and each place that it calls unjudged is in doubt
 pub record IsSound (form : Form) (names : Names) (lists : Lists) : Type 0 where
@@ -156,3 +190,11 @@ IsCleanWhereSound form names code =
 -- files that are clean break no rule
 abbrev pub IsSoundWhereClean : Form → Names → ℕ → Type 0
 IsSoundWhereClean form names code = code ≡ 0 → (lists : Lists) → report_in form names ≡ Some lists → BreaksNothing form names
+
+-- a case whose heap is clean: what is said of it is true
+abbrev pub IsTrueWhereClean : Form → Names → ℕ → Type 0
+IsTrueWhereClean NoForm names code = Unit {0}
+IsTrueWhereClean (Pages name) names code = Unit {0}
+IsTrueWhereClean (Show kind name block) names code = Unit {0}
+IsTrueWhereClean (Heap name) names code =
+    code ≡ 0 → (case : CaseRecord) → case_in (names name (Segment 0)) ≡ Some case → refusal_of case names ≡ None → IsTrueHeap case names

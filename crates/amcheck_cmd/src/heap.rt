@@ -1,10 +1,10 @@
-// The command `heap`: judges the heap of a case.
+// The command `heap`: judges the heap of a case, with its visibility map and its TOAST table.
 ghost use Rattle.std.specs.Prelude.{◌≡◌, ◌≤◌, ℕ, List, Some, length, IfOk};
 ghost use Rattle.outside.specs.declared.files.Part.TheVariants.{Segment};
 ghost use Rattle.outside.specs.Outside.{Causes, IfTold, IsHeldAnd, Names};
 ghost use Rattle.case_file.specs.Case.{case_of};
 ghost use Rattle.heap_check.specs.Files.{AreFilesOf, BelongTo, refusal_of};
-ghost use Rattle.amcheck_cmd.specs.Cases.{file_named, heap_lists};
+ghost use Rattle.amcheck_cmd.specs.Cases.{file_named, heap_lists, toast_named};
 ghost use Rattle.amcheck_cmd.specs.Outcome.{heap_outcome, outcome_of_files, outcome_of_meaning, reported};
 ghost use Rattle.amcheck_cmd.specs.Seen.{outcome_seen};
 
@@ -23,13 +23,24 @@ use std::alloc::Global;
 // How many bytes a case file may have.
 const TEXT_LIMIT: u64 = 1_048_576;
 
+// The base name of a case's TOAST table, where it has one.
+fn toast_named(case: &Case) -> &str
+    ensures { result.now ≡ toast_named case.now.toast }
+{
+    match case.toast() {
+        None => "",
+        Some((file, _)) => file,
+    }
+}
+
 // The base name of a file of a case.
 fn file_named(case: &Case, which: Which) -> &str
     ensures { result.now ≡ file_named case.now which }
 {
     match which {
         Which::Heap => case.heap_file(),
-        Which::Toast | Which::Index(_) => "",
+        Which::Toast => toast_named(case),
+        Which::Index(_) => "",
     }
 }
 
@@ -106,7 +117,7 @@ fn file_output<F: Files>(
 }
 
 /// The output of `heap`: the report on the heap of the case in a file, or the refusal that comes
-/// first: of the file, of its text, or of the heap.
+/// first: of the file, of its text, of the heap, or of the TOAST table.
 #[tactic(auto, unfolding(crate::specs::Outcome::heap_outcome))]
 pub fn heap_output<F: Files>(alloc: Global, files: &mut F, file: &str) -> Result<Output, RunFault>
     ensures output { IfOk result (λ o. IfTold (F.held files.old)

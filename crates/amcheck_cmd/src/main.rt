@@ -1,11 +1,16 @@
 //! Judges the files of a cleanly stopped PostgreSQL cluster, without a server.
 #![tactic(auto)]
 
+mod blocks;
 mod fault;
 mod heap;
+#[cfg(test)]
+mod heap_tests;
+mod numbers;
 mod output;
 mod pages;
 mod run;
+mod show;
 mod status;
 #[cfg(test)]
 mod tests;

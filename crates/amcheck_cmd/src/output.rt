@@ -1,6 +1,6 @@
 // What a run is to write, and the code that it answers.
 ghost use Rattle.std.specs.Prelude.{◌≡◌, IfOk};
-ghost use Rattle.amcheck_cmd.specs.Outcome.{case_refused, no_file, reported, text_too_large, too_large, usage, verdict_code};
+ghost use Rattle.amcheck_cmd.specs.Outcome.{case_refused, no_block, no_file, reported, text_too_large, too_large, usage, verdict_code};
 ghost use Rattle.amcheck_cmd.specs.Seen.{outcome_seen};
 
 use case_file::CaseRule;
@@ -76,6 +76,19 @@ pub fn case_refused_output(
     text.push_slice(place.as_slice())?;
     text.push_slice(b"\n")?;
     Ok(Output { text, code: 4 })
+}
+
+/// The refusal of a block that isn't among so many.
+pub fn no_block_output(alloc: Global, block: u32, blocks: u32) -> Result<Output, NoMemory>
+    ensures { IfOk result (λ o. outcome_seen o ≡ no_block block blocks) }
+{
+    let mut text = Octets::new(alloc);
+    text.push_slice(b"refused no block ")?;
+    text.push_decimal(block as u64)?;
+    text.push_slice(b" of ")?;
+    text.push_decimal(blocks as u64)?;
+    text.push_slice(b"\n")?;
+    Ok(Output { text, code: 10 })
 }
 
 // The code of a verdict.

@@ -1,42 +1,19 @@
 // The command `pages`: judges the pages of one heap file.
-ghost use Rattle.std.specs.Prelude.{◌≡◌, ◌+◌, ◌*◌, ◌/◌, ◌<◌, ◌≤◌, ◌++◌, [], Some, length, IfOk, OnOk};
+ghost use Rattle.std.specs.Prelude.{◌≡◌, ◌+◌, ◌*◌, ◌/◌, ◌≤◌, ◌++◌, [], Some, length, IfOk, OnOk};
 ghost use Rattle.outside.specs.declared.files.Part.TheVariants.{Segment};
 ghost use Rattle.outside.specs.Outside.{Causes, IfHeld, IfTold, IsHeldAnd};
-ghost use Rattle.rel_files.specs.Blocks.{block_in};
 ghost use Rattle.heap_check.specs.Below.{each_below};
 ghost use Rattle.amcheck_cmd.specs.Outcome.{pages_outcome, reported};
 ghost use Rattle.amcheck_cmd.specs.Pages.{block_findings, file_findings};
 ghost use Rattle.amcheck_cmd.specs.Seen.{outcome_seen};
 
+use crate::blocks::{Opening, open_file, read_block};
 use crate::fault::RunFault;
-use crate::output::{Output, no_file_output, report_output, too_large_output};
+use crate::output::{Output, report_output};
 use heap_check::judge_page;
-use outside::{FileName, Files, Part};
+use outside::Files;
 use reports::Report;
 use std::alloc::Global;
-
-// How many blocks of a file are judged at most.
-const BLOCK_LIMIT: u64 = 16384;
-
-// Reads one block into the page.
-fn read_block<F: Files>(
-    files: &mut F,
-    file: &str,
-    block: u32,
-    page: &mut [u8; 8192],
-) -> Result<(), RunFault>
-    requires { IsHeldAnd (F.held files.old) file.now (Segment 0) (λ bytes. 8192 * block + 8192 ≤ length bytes) }
-    ensures bytes { OnOk result (IfHeld (F.held files.old) file.now (Segment 0) (λ bytes. page.new ≡ block_in (Some bytes) block)) }
-    ensures same { F.held files.new ≡ F.held files.old }
-    ensures cause { Causes (F.faults files.old) (F.faults files.new) result RunFault.ReadFault }
-{
-    let name = FileName {
-        base: file,
-        part: Part::Segment(0),
-    };
-    files.read_at(name, 8192 * block as u64, page)?;
-    Ok(())
-}
 
 // Reads one block into the page, and judges it.
 fn judge_block<F: Files>(
@@ -81,15 +58,14 @@ fn judge_blocks<F: Files>(
     Ok(())
 }
 
-// The report on a file of this length.
+// The report on a file of so many blocks.
 fn judged_output<F: Files>(
     alloc: Global,
     files: &mut F,
     file: &str,
-    len: u64,
+    blocks: u32,
 ) -> Result<Output, RunFault>
-    requires held { IsHeldAnd (F.held files.old) file.now (Segment 0) (λ bytes. length bytes ≡ len) }
-    requires few { len / 8192 ≤ 16384 }
+    requires { IsHeldAnd (F.held files.old) file.now (Segment 0) (λ bytes. length bytes / 8192 ≡ blocks) }
     ensures output { IfOk result (λ o. IfHeld (F.held files.old) file.now (Segment 0)
         (λ bytes. outcome_seen o ≡ reported (record { findings = file_findings (Some bytes); unjudged = [] }))) }
     ensures code { IfOk result (λ o. o.code ≤ 6) }
@@ -97,7 +73,7 @@ fn judged_output<F: Files>(
     ensures cause { Causes (F.faults files.old) (F.faults files.new) result RunFault.ReadFault }
 {
     let mut report = Report::new(alloc);
-    judge_blocks(alloc, files, file, (len / 8192) as u32, &mut report)?;
+    judge_blocks(alloc, files, file, blocks, &mut report)?;
     Ok(report_output(alloc, &report)?)
 }
 
@@ -110,13 +86,8 @@ pub fn pages_output<F: Files>(alloc: Global, files: &mut F, file: &str) -> Resul
     ensures same { F.held files.new ≡ F.held files.old }
     ensures cause { Causes (F.faults files.old) (F.faults files.new) result RunFault.ReadFault }
 {
-    let name = FileName {
-        base: file,
-        part: Part::Segment(0),
-    };
-    match files.length(name)? {
-        None => Ok(no_file_output(alloc, file)?),
-        Some(len) if BLOCK_LIMIT < len / 8192 => Ok(too_large_output(alloc, file, len / 8192)?),
-        Some(len) => judged_output(alloc, files, file, len),
+    match open_file(alloc, files, file)? {
+        Opening::Refused(output) => Ok(output),
+        Opening::Blocks(blocks) => judged_output(alloc, files, file, blocks),
     }
 }

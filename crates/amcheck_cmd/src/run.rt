@@ -2,20 +2,21 @@
 ghost use Rattle.std.specs.Prelude.{◌≡◌, ◌≢◌, ◌≤◌, ◌⊎◌, Some, false, IfOk, map, string_bytes};
 ghost use Rattle.outside.specs.Outside.{Causes, IfTold, Rose};
 ghost use Rattle.amcheck_cmd.specs.Forms.{form_of};
-ghost use Rattle.amcheck_cmd.specs.Outcome.{FindsOnlyBroken, IsCleanWhereSound, IsSoundWhereClean, Meets, Outcome, alone, outcome, outcome_by};
+ghost use Rattle.amcheck_cmd.specs.Outcome.{FindsOnlyBroken, IsCleanWhereSound, IsOutcomeCode, IsSoundWhereClean, IsTrueWhereClean, Meets, Outcome, alone, outcome, outcome_by};
 ghost use Rattle.amcheck_cmd.specs.Seen.{form_seen, outcome_seen};
 
 use crate::fault::RunFault;
 use crate::heap::heap_output;
 use crate::output::{Output, usage_output};
 use crate::pages::pages_output;
+use crate::show::show_output;
 use crate::status::Status;
 use crate::words::{Command, command_of};
 use crate::write::write_output;
 use outside::{Files, Sink};
 use std::alloc::Global;
 
-// The output of a command: its report, or the refusal that comes first.
+// The output of a command: its report or page, or the refusal that comes first.
 fn output_of<F: Files>(
     alloc: Global,
     command: Command<'_>,
@@ -24,7 +25,7 @@ fn output_of<F: Files>(
     ensures output { IfOk result (λ o. IfTold (F.held files.old) (λ names. outcome_seen o ≡ outcome_by (form_seen command.entry) names)) }
     ensures alone { (owed : Outcome) → alone (form_seen command.entry) ≡ Some owed → IfOk result (λ o. outcome_seen o ≡ owed) }
     ensures unread { (owed : Outcome) → alone (form_seen command.entry) ≡ Some owed → result ≢ Err RunFault.ReadFault }
-    ensures code { IfOk result (λ o. o.code ≤ 6) }
+    ensures code { IfOk result (λ o. IsOutcomeCode o.code) }
     ensures same { F.held files.new ≡ F.held files.old }
     ensures cause { Causes (F.faults files.old) (F.faults files.new) result RunFault.ReadFault }
 {
@@ -32,6 +33,7 @@ fn output_of<F: Files>(
         Command::NoForm => Ok(usage_output(alloc)?),
         Command::Pages(file) => pages_output(alloc, files, file),
         Command::Heap(case) => heap_output(alloc, files, case),
+        Command::Show { of, file, block } => show_output(alloc, files, of, file, block),
     }
 }
 
@@ -56,6 +58,9 @@ pub fn run<F: Files, S: Sink>(
     ensures found { IfTold (F.held files.old) (λ names. FindsOnlyBroken (form_of (map string_bytes words.now)) names) }
     ensures clean { IfTold (F.held files.old) (λ names. IsCleanWhereSound (form_of (map string_bytes words.now)) names result.code) }
     ensures sound { IfTold (F.held files.old) (λ names. IsSoundWhereClean (form_of (map string_bytes words.now)) names result.code) }
+    // Where `heap` is clean, each set bit of the map and each set page flag is true, each live tuple has one root, and each of its values
+    // that stand in the TOAST table is whole.
+    ensures heap { IfTold (F.held files.old) (λ names. IsTrueWhereClean (form_of (map string_bytes words.now)) names result.code) }
 
     // When a run gives up, and what it leaves.
     ensures nothing { (result.code ≡ 7) ⊎ (result.code ≡ 9) → S.written sink.new ≡ S.written sink.old }

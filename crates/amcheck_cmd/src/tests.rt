@@ -40,8 +40,18 @@ fn written_new_page() -> [u8; 8192] {
     page
 }
 
+// Writes bytes at a place of a page.
+pub(crate) fn put(page: &mut [u8; 8192], at: u16, bytes: &[u8]) {
+    for (k, byte) in bytes.iter().enumerate() {
+        let place = at as usize + k;
+        if place < 8192 {
+            page[place] = *byte;
+        }
+    }
+}
+
 // Runs the words over the files, and compares what is written and answered.
-fn expect(
+pub(crate) fn expect(
     rt: &impl Abort,
     alloc: Global,
     words: &[&str],
@@ -252,4 +262,105 @@ fn cases_are_refused(rt: HostRuntime) -> Result<(), Fail> {
             "refused too large long.toml bytes 1048577 limit 1048576\n",
         ),
     )
+}
+
+// The index of those three tuples: its metapage, and a leaf that is the root.
+fn index_of_three() -> [u8; 16384] {
+    let mut file = [0u8; 16384];
+    file[12..20].copy_from_slice(&[0x48, 0, 0xf0, 0x1f, 0xf0, 0x1f, 4, 0x20]);
+    file[24..36].copy_from_slice(&[0x62, 0x31, 5, 0, 4, 0, 0, 0, 1, 0, 0, 0]);
+    file[40] = 1;
+    file[8188] = 8;
+    let leaf = [
+        0x24, 0, 0xc0, 0x1f, 0xf0, 0x1f, 4, 0x20, 0, 0, 0, 0, 0xe0, 0x9f, 0x20, 0, 0xd0, 0x9f,
+        0x20, 0, 0xc0, 0x9f, 0x20, 0,
+    ];
+    file[8204..8228].copy_from_slice(&leaf);
+    for (place, item, key) in [(16352usize, 1u8, 5u8), (16336, 2, 7), (16320, 3, 9)] {
+        file[place + 4] = item;
+        file[place + 6] = 0x10;
+        file[place + 8] = key;
+    }
+    file[16380] = 3;
+    file
+}
+
+const HEAP_PAGE: &str =
+    "page lsn 0 0 checksum 0 flags 0000 lower 36 upper 8096 special 8192 version 2004 prune 0\n\
+item 1 normal off 8160 len 28 xmin 700 xmax 0 field3 0 ctid 0 1 infomask2 0001 infomask 0900 hoff 24\n\
+item 2 normal off 8128 len 28 xmin 700 xmax 0 field3 0 ctid 0 2 infomask2 0001 infomask 0900 hoff 24\n\
+item 3 normal off 8096 len 28 xmin 700 xmax 0 field3 0 ctid 0 3 infomask2 0001 infomask 0900 hoff 24\n";
+
+const METAPAGE: &str = "meta magic 00053162 version 4 root 1 level 0 fastroot 1 fastlevel 0\n";
+
+const LEAF: &str = "page prev 0 next 0 level 0 flags 0003 lower 36 upper 8128 special 8176\n\
+item 1 normal off 8160 len 16 tid 0 1 info 0010 plain\n\
+item 2 normal off 8144 len 16 tid 0 2 info 0010 plain\n\
+item 3 normal off 8128 len 16 tid 0 3 info 0010 plain\n";
+
+#[test]
+fn pages_that_are_shown(rt: HostRuntime) -> Result<(), Fail> {
+    let alloc = rt.alloc();
+    let mut files = MemFiles::new(alloc);
+    files.add("t", Part::Segment(0), &three_tuples())?;
+    files.add("i", Part::Segment(0), &index_of_three())?;
+    files.add("p", Part::Segment(0), &written_new_page())?;
+    files.add("part", Part::Segment(0), &[0u8; 8191])?;
+    let many = vec![in alloc; 0u8; 16385 * 8192]?;
+    files.add("b", Part::Segment(0), &many)?;
+    let rows: [(&str, &str, &str, u8, &str); 9] = [
+        ("heap", "t", "0", 0, HEAP_PAGE),
+        ("heap", "t", "1", 10, "refused no block 1 of 1\n"),
+        ("tree", "i", "0", 0, METAPAGE),
+        ("tree", "i", "1", 0, LEAF),
+        ("tree", "i", "2", 10, "refused no block 2 of 2\n"),
+        ("heap", "p", "0", 0, "page rule P4\n"),
+        ("heap", "part", "0", 10, "refused no block 0 of 0\n"),
+        ("tree", "q", "4294967295", 5, "refused no file q\n"),
+        (
+            "heap",
+            "b",
+            "16385",
+            6,
+            "refused too large b blocks 16385 limit 16384\n",
+        ),
+    ];
+    for (kind, file, block, code, text) in rows {
+        expect(
+            &rt,
+            alloc,
+            &["show", kind, file, block],
+            &mut files,
+            (code, text),
+        )?;
+    }
+    let words = ["show", "tree", "i", "1"];
+    files.fail_read(1)?;
+    expect(&rt, alloc, &words, &mut files, (7, ""))?;
+    // No block but the one that is shown is read.
+    files.fail_read(2)?;
+    expect(&rt, alloc, &words, &mut files, (0, LEAF))
+}
+
+#[test]
+fn words_that_show_nothing(rt: HostRuntime) -> Result<(), Fail> {
+    let alloc = rt.alloc();
+    let mut files = MemFiles::new(alloc);
+    files.add("t", Part::Segment(0), &three_tuples())?;
+    let rows: [[&str; 4]; 8] = [
+        ["show", "heap", "t", "00"],
+        ["show", "heap", "t", "+0"],
+        ["show", "heap", "t", "4294967296"],
+        ["show", "heap", "t", ""],
+        ["show", "heap", "", "0"],
+        ["show", "map", "t", "0"],
+        ["Show", "heap", "t", "0"],
+        ["show", "heap", "t", "--help"],
+    ];
+    for words in rows {
+        expect(&rt, alloc, &words, &mut files, (3, "refused usage\n"))?;
+    }
+    let five = ["show", "heap", "t", "0", "0"];
+    expect(&rt, alloc, &five[..3], &mut files, (3, "refused usage\n"))?;
+    expect(&rt, alloc, &five, &mut files, (3, "refused usage\n"))
 }

@@ -1,7 +1,7 @@
 // Writes the whole output.
-ghost use Rattle.std.specs.Prelude.{◌≡◌, ◌≤◌, ◌⊎◌, ℕ, take, OnOk, OnErr};
+ghost use Rattle.std.specs.Prelude.{◌≡◌, ◌⊎◌, ℕ, take, OnOk, OnErr};
 ghost use Rattle.outside.specs.Outside.{HasCause, Rose, appended};
-ghost use Rattle.amcheck_cmd.specs.Outcome.{Meets};
+ghost use Rattle.amcheck_cmd.specs.Outcome.{IsOutcomeCode, Meets};
 ghost use Rattle.amcheck_cmd.specs.Seen.{outcome_seen};
 
 use crate::output::Output;
@@ -28,7 +28,7 @@ fn put_all<S: Sink>(sink: &mut S, bytes: &[u8]) -> Result<(), Failed>
 
 /// Writes the output, and says how that ended.
 pub fn write_output<S: Sink>(sink: &mut S, output: &Output) -> Status
-    requires { output.now.code ≤ 6 }
+    requires { IsOutcomeCode output.now.code }
     ensures meets { Meets (outcome_seen output.now) (S.written sink.old) (S.written sink.new) result.code }
     ensures write_fault { result.code ≡ 8 → Rose (S.faults sink.old) (S.faults sink.new) }
     ensures codes { (result.code ≡ output.now.code) ⊎ (result.code ≡ 8) }

@@ -1,7 +1,6 @@
 -- The first eight bytes of an index tuple.
 use Rattle.std.specs.Prelude.{ℕ, ◌+◌, ◌*◌, if◌then◌else◌, List}
-use Rattle.page_layout.specs.Page.{u16_at}
-use Rattle.bt_meta.specs.Flags.{has_flag}
+use Rattle.page_layout.specs.Page.{has_bit, u16_at}
 use Rattle.bt_meta.specs.declared.records.HeadKind.{HeadKind}
 use Rattle.bt_meta.specs.declared.records.HeadKind.TheVariants.{Pivot, Plain, Posting}
 use Rattle.bt_meta.specs.declared.records.TreeHead.{TreeHead}
@@ -9,7 +8,7 @@ use Rattle.bt_meta.specs.declared.records.TreeHead.{TreeHead}
 -- the form of a tuple, by the item number of its TID and its info word: 0x2000 in the info word says that the TID is none, and
 -- then the same bit of the item number says what it is
 unfoldable pub kind_of : ℕ → ℕ → HeadKind
-kind_of item info = if has_flag info 0x2000 then (if has_flag item 0x2000 then Posting else Pivot) else Plain
+kind_of item info = if has_bit info 0x2000 then (if has_bit item 0x2000 then Posting else Pivot) else Plain
 
 -- the head of the index tuple in these bytes
 unfoldable pub tree_head_of : List ℕ → TreeHead

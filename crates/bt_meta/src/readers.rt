@@ -4,8 +4,8 @@ ghost use Rattle.page_layout.specs.View.{page_bytes};
 ghost use Rattle.bt_meta.specs.Heads.{kind_of, tree_head_of};
 ghost use Rattle.bt_meta.specs.Pages.{KeepsMetaRules, has_bad_root, is_foreign, is_idle, is_no_metapage, meta_of, meta_rule_of, opaque_of};
 
-use crate::records::{HeadKind, Meta, Opaque, TreeHead, has_flag};
-use page_layout::{PageView, Rule, u16_at};
+use crate::records::{HeadKind, Meta, Opaque, TreeHead};
+use page_layout::{PageView, Rule, has_bit, u16_at};
 
 // The magic number of a B-tree.
 const MAGIC: u32 = 0x0005_3162;
@@ -68,9 +68,9 @@ pub fn tree_head(bytes: &[u8]) -> TreeHead
 fn kind_by(item: u16, info: u16) -> HeadKind
     ensures { result ≡ kind_of item info }
 {
-    if !has_flag(info, 0x2000) {
+    if !has_bit(info, 0x2000) {
         HeadKind::Plain
-    } else if has_flag(item, 0x2000) {
+    } else if has_bit(item, 0x2000) {
         HeadKind::Posting
     } else {
         HeadKind::Pivot

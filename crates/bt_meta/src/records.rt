@@ -1,6 +1,8 @@
 // What stands at fixed places of a tree's pages and tuples.
 ghost use Rattle.std.specs.Prelude.{◌≡◌};
-ghost use Rattle.bt_meta.specs.Flags.{has_flag, is_deleted, is_half_dead, is_leaf, is_meta, is_split_unfinished};
+ghost use Rattle.bt_meta.specs.Flags.{is_deleted, is_half_dead, is_leaf, is_meta, is_split_unfinished};
+
+use page_layout::has_bit;
 
 /// The numbers of a tree in its metapage, block 0 (`access/nbtree.h`, `BTMetaPageData`; its later
 /// fields aren't read). Blocks and levels count from 0, levels from the leaves upward.
@@ -62,15 +64,6 @@ pub struct TreeHead {
     pub kind: HeadKind,
 }
 
-// Whether a flag, given by its bit, is set in a number.
-#[inline]
-#[tactic(auto, unfolding(crate::specs::Flags::has_flag))]
-pub fn has_flag(number: u16, flag: u16) -> bool
-    ensures { result ≡ has_flag number flag }
-{
-    number & flag != 0
-}
-
 impl Opaque {
     /// Whether the page is a leaf (`BTP_LEAF`).
     #[inline]
@@ -78,7 +71,7 @@ impl Opaque {
     pub fn is_leaf(self) -> bool
         ensures { result ≡ is_leaf self }
     {
-        has_flag(self.flags, 0x0001)
+        has_bit(self.flags, 0x0001)
     }
 
     /// Whether the page was deleted from the tree (`BTP_DELETED`).
@@ -87,7 +80,7 @@ impl Opaque {
     pub fn is_deleted(self) -> bool
         ensures { result ≡ is_deleted self }
     {
-        has_flag(self.flags, 0x0004)
+        has_bit(self.flags, 0x0004)
     }
 
     /// Whether the page is marked as the metapage (`BTP_META`).
@@ -96,7 +89,7 @@ impl Opaque {
     pub fn is_meta(self) -> bool
         ensures { result ≡ is_meta self }
     {
-        has_flag(self.flags, 0x0008)
+        has_bit(self.flags, 0x0008)
     }
 
     /// Whether the page's deletion was begun and not finished (`BTP_HALF_DEAD`).
@@ -105,7 +98,7 @@ impl Opaque {
     pub fn is_half_dead(self) -> bool
         ensures { result ≡ is_half_dead self }
     {
-        has_flag(self.flags, 0x0010)
+        has_bit(self.flags, 0x0010)
     }
 
     /// Whether the page was split, and its right half isn't linked from the level above yet
@@ -115,6 +108,6 @@ impl Opaque {
     pub fn is_split_unfinished(self) -> bool
         ensures { result ≡ is_split_unfinished self }
     {
-        has_flag(self.flags, 0x0080)
+        has_bit(self.flags, 0x0080)
     }
 }

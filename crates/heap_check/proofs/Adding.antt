@@ -68,3 +68,7 @@ cut_before {X = X} old new rest xs ys now =
 -- the same things are owed
 pub Adds-same : {X T E : Type 0} (result : Result T E) (old new owed other : List X) → owed ≡ other → Adds result old new owed → Adds result old new other
 Adds-same {X = X} result old new owed other e adds = subst (λ (xs : List X). Adds result old new xs) e adds
+
+-- an error after all of it was added
+pub added : {X : Type 0} (old new owed : List X) → new ≡ old ++ owed → (rest : List X) × (new ++ rest ≡ old ++ owed)
+added old new owed e = ([], append-nil new ∙ e)

@@ -1,107 +1,121 @@
 -- What is found of the files of a case is what is broken there.
-use Rattle.std.proofs.Common.{◌≡◌, ℕ, ◌<◌, [], refl, subst, ◌∙◌}
-use Rattle.std.specs.Prelude.{Option, Some, None}
+use Rattle.std.proofs.Common.{◌≡◌, ℕ, ◌<◌, Bool, true, false, List, [], ◌∷◌, refl, subst}
+use Rattle.std.specs.Prelude.{Option, Some, None, Contains, if◌then◌else◌}
 use Rattle.std.specs.List.{All}
-use Rattle.std.proofs.lemmas.List.Elements.{All-nil, All-append, All-weaker}
+use Rattle.std.proofs.lemmas.Bool.{both_ways}
+use Rattle.std.proofs.lemmas.List.Elements.{All-append, All-contains_itself, All-head, All-nil, All-tail}
 use Rattle.outside.specs.Outside.{Names}
-use Rattle.page_layout.specs.Page.{count_of, page_rule_of}
+use Rattle.page_layout.specs.Page.{page_rule_of}
+use Rattle.page_layout.specs.declared.page.PageKind.TheVariants.{Map}
 use Rattle.page_layout.specs.declared.rules.Rule.{Rule}
-use Rattle.page_layout.specs.declared.rules.Rule.TheVariants.{S1}
-use Rattle.page_layout.specs.declared.page.PageKind.TheVariants.{Heap}
+use Rattle.page_layout.specs.declared.rules.Rule.TheVariants.{H21}
 use Rattle.case_file.specs.Record.{CaseRecord}
-use Rattle.reports.specs.declared.places.Place.{Place}
-use Rattle.reports.specs.declared.places.Place.TheVariants.{Block, Segment}
-use Rattle.reports.specs.declared.places.Rel.TheVariants.{Heap as heap}
-use Rattle.heap_check.specs.Broken.{Breaks, long_segment, on_page, on_item, BreaksItem, Doubts, of_item, DoubtsItem, heap_page}
-use Rattle.heap_check.specs.Heap.{block_doubts, block_findings, doubts_by_rule, doubts_of, findings_by_rule, findings_of, heap_blocks, heap_long_segment, page_doubts, page_findings, segment_findings, table_of}
-use Rattle.heap_check.specs.Pages.{BreaksHeader}
-use Rattle.heap_check.specs.Verdicts.{item_doubts, item_findings}
-use Rattle.heap_check.proofs.ItemLaws.{item_complete, item_doubts_sound, item_sound}
-use Rattle.heap_check.proofs.PageLaws.{All-finding_at, no_header_is_broken, page_rule_is_broken}
-use Rattle.heap_check.proofs.Places.{All-each_below, All-each_upto, each_below_is_empty, each_upto_is_empty, first_is_empty, second_is_empty}
+use Rattle.toast_chunks.specs.Chunks.{IsWhole, is_whole}
+use Rattle.toast_chunks.specs.declared.map.Chunk.{Chunk}
+use Rattle.toast_chunks.proofs.Finding.{is_whole-sentence}
+use Rattle.reports.specs.declared.places.Place.TheVariants.{Block, Column}
+use Rattle.reports.specs.declared.places.Rel.TheVariants.{Heap as heap, Map as vis_map, Toast as toast}
+use Rattle.heap_check.specs.declared.kept.ExternalValue.{ExternalValue}
+use Rattle.heap_check.specs.Broken.{Breaks, long_map_segment, in_map, long_segment, in_heap, long_toast_segment, in_toast, in_value, Doubts, of_heap, of_toast_table, case_page}
+use Rattle.heap_check.specs.Heap.{chunks_of, doubts_of, external_findings, externals_of, file_findings, findings_of, heap_blocks, heap_doubts, heap_findings, heap_long_segment, map_blocks, map_findings, map_long_segment, of_toast, table_of, toast_blocks, toast_doubts, toast_doubts_in, toast_findings, toast_findings_in, toast_long_segment, toast_table_of, value_findings}
+use Rattle.heap_check.specs.Map.{map_block_findings, map_name, map_page_findings}
+use Rattle.heap_check.proofs.PageLaws.{All-finding_at, page_rule_is_broken}
+use Rattle.heap_check.proofs.Places.{All-each_below}
+use Rattle.heap_check.proofs.TableLaws.{blocks_doubts_sound, blocks_sound, segments_sound, with_joint_sound}
 
--- A BLOCK
+-- EACH FINDING IS A BROKEN RULE
 
-sound_by : (case : CaseRecord) (names : Names) (block : ℕ) (found : Option Rule) → block < heap_blocks case names → page_rule_of Heap (heap_page case names block) ≡ found → All (λ f. Breaks case names f.rule f.place) (findings_by_rule (table_of case names) block (heap_page case names block) found)
-unfolding table_of
-sound_by case names block (Some rule) inside e =
-    All-finding_at (λ f. Breaks case names f.rule f.place) (Block heap block) (Some rule)
-    (λ q same. on_page block q (Block heap block) inside (page_rule_is_broken heap block (heap_page case names block) q (e ∙ same)))
-sound_by case names block None inside e =
-    All-weaker (λ f. BreaksItem (table_of case names) block (heap_page case names block) f.rule f.place) (λ f. Breaks case names f.rule f.place)
-    (λ f broken. on_item block f.rule f.place inside broken) _
-    (All-each_upto (λ f. BreaksItem (table_of case names) block (heap_page case names block) f.rule f.place) (item_findings (table_of case names) block (heap_page case names block)) (count_of (heap_page case names block)) (item_sound (table_of case names) block (heap_page case names block)))
+-- a case that has a TOAST table has this one
+pub of_toast_sound : {X : Type 0} (P : X → Type 0) (f : List ℕ → List X) (has : Option (List ℕ × ℕ)) → ((file : List ℕ) (oid : ℕ) → ◌≡◌ {A = Option (List ℕ × ℕ)} has (Some (file, oid)) → All P (f file)) → All P (of_toast f has)
+of_toast_sound P f None each = All-nil P
+of_toast_sound P f (Some t) each = each t.0 t.1 refl
 
-block_sound : (case : CaseRecord) (names : Names) (block : ℕ) → block < heap_blocks case names → All (λ f. Breaks case names f.rule f.place) (block_findings (table_of case names) names case.heap_file case.segment_blocks block)
-unfolding block_findings page_findings
-block_sound case names block inside = sound_by case names block _ inside refl
+module _ (case : CaseRecord) (names : Names) where
+  map_block_sound : (block : ℕ) → block < map_blocks case names → All (λ f. Breaks case names f.rule f.place) (map_block_findings names (map_name case.heap_file) case.segment_blocks block)
+  unfolding map_block_findings map_page_findings
+  map_block_sound block inside =
+      All-finding_at (λ f. Breaks case names f.rule f.place) (Block vis_map block) (page_rule_of Map (case_page case names (map_name case.heap_file) block))
+      (λ rule e. in_map block rule (Block vis_map block) inside (page_rule_is_broken Map vis_map block (case_page case names (map_name case.heap_file) block) rule e))
 
-doubts_by : (case : CaseRecord) (names : Names) (block : ℕ) (found : Option Rule) → block < heap_blocks case names → All (λ u. Doubts case names u.reason u.place) (doubts_by_rule (table_of case names) block (heap_page case names block) found)
-doubts_by case names block (Some rule) inside = All-nil (λ u. Doubts case names u.reason u.place)
-doubts_by case names block None inside =
-    All-weaker (λ u. DoubtsItem (table_of case names) block (heap_page case names block) u.reason u.place) (λ u. Doubts case names u.reason u.place)
-    (λ u doubted. of_item block u.reason u.place inside doubted) _
-    (All-each_upto (λ u. DoubtsItem (table_of case names) block (heap_page case names block) u.reason u.place) (item_doubts (table_of case names) block (heap_page case names block)) (count_of (heap_page case names block)) (item_doubts_sound (table_of case names) block (heap_page case names block)))
+  map_sound : All (λ f. Breaks case names f.rule f.place) (map_findings case names)
+  unfolding map_findings
+  map_sound =
+      All-append (λ f. Breaks case names f.rule f.place) _ _
+      (segments_sound (λ f. Breaks case names f.rule f.place) vis_map (map_long_segment case names) (λ k e. long_map_segment k e))
+      (All-each_below (λ f. Breaks case names f.rule f.place) (map_block_findings names (map_name case.heap_file) case.segment_blocks) (map_blocks case names) map_block_sound)
 
-block_doubts_sound : (case : CaseRecord) (names : Names) (block : ℕ) → block < heap_blocks case names → All (λ u. Doubts case names u.reason u.place) (block_doubts (table_of case names) names case.heap_file case.segment_blocks block)
-unfolding block_doubts page_doubts
-block_doubts_sound case names block inside = doubts_by case names block _ inside
+  heap_sound : All (λ f. Breaks case names f.rule f.place) (heap_findings case names)
+  unfolding heap_findings
+  heap_sound =
+      All-append (λ f. Breaks case names f.rule f.place) _ _
+      (segments_sound (λ f. Breaks case names f.rule f.place) heap (heap_long_segment case names) (λ k e. long_segment k e))
+      (blocks_sound (table_of case names) names case.heap_file case.segment_blocks (heap_blocks case names) (λ rule place. Breaks case names rule place)
+      (λ block rule place inside broken. in_heap block rule place inside broken))
 
--- a block of which nothing is found breaks nothing
-record KeepsBlock (case : CaseRecord) (names : Names) (block : ℕ) : Type 0 where
-  header : (rule : Rule) (place : Place) → BreaksHeader heap block (heap_page case names block) rule place → ⊥
-  items : (rule : Rule) (place : Place) → BreaksItem (table_of case names) block (heap_page case names block) rule place → ⊥
+  toast_in_sound : (file : List ℕ) (oid : ℕ) → ◌≡◌ {A = Option (List ℕ × ℕ)} case.toast (Some (file, oid)) → All (λ f. Breaks case names f.rule f.place) (toast_findings_in case names file)
+  unfolding toast_findings_in
+  toast_in_sound file oid has =
+      All-append (λ f. Breaks case names f.rule f.place) _ _
+      (segments_sound (λ f. Breaks case names f.rule f.place) toast (toast_long_segment case names file) (λ k e. long_toast_segment file oid k has e))
+      (blocks_sound (toast_table_of case names) names file case.segment_blocks (toast_blocks case names file) (λ rule place. Breaks case names rule place)
+      (λ block rule place inside broken. in_toast file oid block rule place has inside broken))
 
-keeps_by : (case : CaseRecord) (names : Names) (block : ℕ) (found : Option Rule) → page_rule_of Heap (heap_page case names block) ≡ found → findings_by_rule (table_of case names) block (heap_page case names block) found ≡ [] → doubts_by_rule (table_of case names) block (heap_page case names block) found ≡ [] → KeepsBlock case names block
-keeps_by case names block (Some rule) is none sure = cc
-keeps_by case names block None is none sure = record {
-  header = no_header_is_broken heap block (heap_page case names block) is;
-  items = item_complete (table_of case names) block (heap_page case names block) (λ i first last.
-      (each_upto_is_empty (item_findings (table_of case names) block (heap_page case names block)) _ i none first last, each_upto_is_empty (item_doubts (table_of case names) block (heap_page case names block)) _ i sure first last));
-}
+  toast_sound : All (λ f. Breaks case names f.rule f.place) (toast_findings case names)
+  unfolding toast_findings
+  toast_sound = of_toast_sound (λ f. Breaks case names f.rule f.place) (toast_findings_in case names) case.toast toast_in_sound
 
-block_keeps : (case : CaseRecord) (names : Names) (block : ℕ) → block_findings (table_of case names) names case.heap_file case.segment_blocks block ≡ [] → block_doubts (table_of case names) names case.heap_file case.segment_blocks block ≡ [] → KeepsBlock case names block
-unfolding block_findings page_findings block_doubts page_doubts
-block_keeps case names block none sure = keeps_by case names block _ refl none sure
+  files_sound : All (λ f. Breaks case names f.rule f.place) (file_findings case names)
+  unfolding file_findings
+  files_sound =
+      All-append (λ f. Breaks case names f.rule f.place) _ _
+      (All-append (λ f. Breaks case names f.rule f.place) _ _ map_sound heap_sound)
+      toast_sound
 
--- A CASE
+-- a value that is found isn't whole
+not_whole : (whole : Bool) (rule : Rule) → (if whole then None else Some H21) ≡ Some rule → (whole ≡ false) × (H21 ≡ rule)
+not_whole true rule e = cc
+not_whole false rule e = (refl, cc)
 
-segments_sound : (case : CaseRecord) (names : Names) (found : Option ℕ) → heap_long_segment case names ≡ found → All (λ f. Breaks case names f.rule f.place) (segment_findings heap found)
-segments_sound case names None is = All-nil (λ f. Breaks case names f.rule f.place)
-segments_sound case names (Some k) is =
-    All-finding_at (λ f. Breaks case names f.rule f.place) (Segment heap k) (Some S1)
-    (λ rule e. let same : S1 ≡ rule = cc in subst (λ (q : Rule). Breaks case names q (Segment heap k)) same (long_segment k is))
+is_not_whole : (chunks : List Chunk) (v : ExternalValue) → is_whole chunks v.pointer ≡ false → ¬ IsWhole chunks v.pointer
+is_not_whole chunks v e whole = both_ways (is_whole chunks v.pointer) e ((is_whole-sentence chunks v.pointer).1 whole)
+
+values_sound : (case : CaseRecord) (names : Names) → file_findings case names ≡ [] → doubts_of case names ≡ [] → (values : List ExternalValue) → All (Contains (externals_of case names)) values → All (λ f. Breaks case names f.rule f.place) (value_findings (chunks_of case names) values)
+unfolding value_findings external_findings
+values_sound case names none sure [] inside = All-nil (λ f. Breaks case names f.rule f.place)
+values_sound case names none sure (v ∷ values) inside =
+    All-append (λ f. Breaks case names f.rule f.place) _ _
+    (All-finding_at (λ f. Breaks case names f.rule f.place) (Column v.block v.item v.column) (if is_whole (chunks_of case names) v.pointer then None else Some H21) (λ rule e.
+    let broken = not_whole (is_whole (chunks_of case names) v.pointer) rule e in
+    subst (λ (q : Rule). Breaks case names q (Column v.block v.item v.column)) broken.1
+    (in_value v none sure (All-head (Contains (externals_of case names)) v values inside) (is_not_whole (chunks_of case names) v broken.0))))
+    (values_sound case names none sure values (All-tail (Contains (externals_of case names)) v values inside))
 
 -- each finding is a rule that is broken at its place
 pub case_sound : (case : CaseRecord) (names : Names) → All (λ f. Breaks case names f.rule f.place) (findings_of case names)
 unfolding findings_of
 case_sound case names =
-    All-append (λ f. Breaks case names f.rule f.place) _ _ (segments_sound case names _ refl)
-    (All-each_below (λ f. Breaks case names f.rule f.place) (block_findings (table_of case names) names case.heap_file case.segment_blocks) (heap_blocks case names) (block_sound case names))
+    with_joint_sound (λ f. Breaks case names f.rule f.place) (file_findings case names) (doubts_of case names) (value_findings (chunks_of case names) (externals_of case names))
+    (files_sound case names)
+    (λ none sure. values_sound case names none sure (externals_of case names) (All-contains_itself (externals_of case names)))
 
--- each place that can't be judged is in doubt
-pub case_doubts_sound : (case : CaseRecord) (names : Names) → All (λ u. Doubts case names u.reason u.place) (doubts_of case names)
-unfolding doubts_of
-case_doubts_sound case names =
-    All-each_below (λ u. Doubts case names u.reason u.place) (block_doubts (table_of case names) names case.heap_file case.segment_blocks) (heap_blocks case names) (block_doubts_sound case names)
+-- EACH DOUBT IS ONE
 
--- files of which nothing is found, and of which everything can be judged, break no rule
-no_segment : (found : Option ℕ) (k : ℕ) → segment_findings heap found ≡ [] → found ≡ Some k → ⊥
-no_segment None k none e = cc
-no_segment (Some j) k none e = cc
+module _ (case : CaseRecord) (names : Names) where
+  heap_doubts_sound : All (λ u. Doubts case names u.reason u.place) (heap_doubts case names)
+  unfolding heap_doubts
+  heap_doubts_sound =
+      blocks_doubts_sound (table_of case names) names case.heap_file case.segment_blocks (heap_blocks case names) (λ reason place. Doubts case names reason place)
+      (λ block reason place inside header doubted. of_heap block reason place inside header doubted)
 
-blocks_keep : (case : CaseRecord) (names : Names) (block : ℕ) → findings_of case names ≡ [] → doubts_of case names ≡ [] → block < heap_blocks case names → KeepsBlock case names block
-unfolding findings_of doubts_of
-blocks_keep case names block none sure inside =
-    block_keeps case names block
-    (each_below_is_empty (block_findings (table_of case names) names case.heap_file case.segment_blocks) (heap_blocks case names) block (second_is_empty _ _ none) inside)
-    (each_below_is_empty (block_doubts (table_of case names) names case.heap_file case.segment_blocks) (heap_blocks case names) block sure inside)
+  toast_doubts_in_sound : (file : List ℕ) (oid : ℕ) → ◌≡◌ {A = Option (List ℕ × ℕ)} case.toast (Some (file, oid)) → All (λ u. Doubts case names u.reason u.place) (toast_doubts_in case names file)
+  unfolding toast_doubts_in
+  toast_doubts_in_sound file oid has =
+      blocks_doubts_sound (toast_table_of case names) names file case.segment_blocks (toast_blocks case names file) (λ reason place. Doubts case names reason place)
+      (λ block reason place inside header doubted. of_toast_table file oid block reason place has inside header doubted)
 
-segment_keeps : (case : CaseRecord) (names : Names) (k : ℕ) → findings_of case names ≡ [] → heap_long_segment case names ≡ Some k → ⊥
-unfolding findings_of
-segment_keeps case names k none e = no_segment _ k (first_is_empty _ _ none) e
-
-pub case_complete : (case : CaseRecord) (names : Names) → findings_of case names ≡ [] → doubts_of case names ≡ [] → (rule : Rule) (place : Place) → Breaks case names rule place → ⊥
-case_complete case names none sure _ _ (long_segment k e) = segment_keeps case names k none e
-case_complete case names none sure _ _ (on_page block rule place inside broken) = (blocks_keep case names block none sure inside).header rule place broken
-case_complete case names none sure _ _ (on_item block rule place inside broken) = (blocks_keep case names block none sure inside).items rule place broken
+  -- each place that can't be judged is in doubt
+  pub case_doubts_sound : All (λ u. Doubts case names u.reason u.place) (doubts_of case names)
+  unfolding doubts_of toast_doubts
+  case_doubts_sound =
+      All-append (λ u. Doubts case names u.reason u.place) _ _ heap_doubts_sound
+      (of_toast_sound (λ u. Doubts case names u.reason u.place) (toast_doubts_in case names) case.toast toast_doubts_in_sound)

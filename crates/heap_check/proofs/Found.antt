@@ -1,35 +1,48 @@
--- What a verdict adds is what is found of the item.
-use Rattle.std.proofs.Common.{◌≡◌, ℕ, List, ◌++◌, refl, ap}
-use Rattle.std.specs.Prelude.{map}
+-- What the code adds and keeps of an item, a page and a relation is what is found and kept of them.
+use Rattle.std.proofs.Common.{◌≡◌, ℕ, List, ◌++◌, ap}
 use Rattle.outside.specs.Outside.{Names}
-use Rattle.key_orders.specs.declared.columns.ColType.{ColType}
+use Rattle.varlena_attrs.specs.Tuples.{attributes_in}
 use Rattle.rel_files.specs.Blocks.{block_of}
-use Rattle.rel_files.specs.Relation.{IsRelationOf, base_of, count_of, long_of, size_of}
+use Rattle.rel_files.specs.Relation.{base_of, count_of, long_of, size_of}
 use Rattle.rel_files.specs.declared.relation.Relation.{Relation}
-use Rattle.case_file.specs.Record.{CaseRecord}
-use Rattle.liveness.specs.LogFiles.{LogFiles}
-use Rattle.rel_files.specs.declared.cluster.Cluster.{Cluster}
+use Rattle.toast_chunks.specs.Stored.{tuple_at}
 use Rattle.reports.specs.declared.places.Finding.{Finding}
 use Rattle.reports.specs.declared.places.Place.TheVariants.{Item}
-use Rattle.reports.specs.declared.places.Rel.TheVariants.{Heap as heap}
 use Rattle.heap_check.specs.Below.{each_below}
-use Rattle.heap_check.specs.Heap.{block_doubts, block_findings, block_limit, doubts_of, findings_of, heap_blocks, heap_long_segment, log_files_in, page_doubts, page_findings, segment_findings, table_of}
+use Rattle.heap_check.specs.Heap.{block_chunks, block_doubts, block_externals, block_findings, page_chunks, page_doubts, page_externals, page_findings, segment_findings}
+use Rattle.heap_check.specs.Kept.{attributes_by, chunks_by, externals_by, item_chunks, item_externals, item_state, live_attributes, state_in}
 use Rattle.heap_check.specs.Pages.{finding_at}
-use Rattle.heap_check.specs.Tables.{table_doubts, table_findings, table_seen, table_with}
+use Rattle.heap_check.specs.Tables.{table_findings}
 use Rattle.heap_check.specs.Verdicts.{Table, doubt_at, item_doubts, item_findings, item_verdict, reason_in, rule_in}
-use Rattle.heap_check.specs.declared.table.TableRules.{TableRules}
 use Rattle.heap_check.specs.declared.verdict.ItemVerdict.{ItemVerdict}
 use Rattle.heap_check.proofs.Adding.{cut_before}
 
-pub found_is : (names : Names) (table : TableRules) (block : ℕ) (page : List ℕ) (i : ℕ) (verdict : ItemVerdict) → verdict ≡ item_verdict (table_seen names table) page i → finding_at (Item table.rel block i) (rule_in verdict) ≡ item_findings (table_seen names table) block page i
-unfolding item_findings table_seen
-found_is names table block page i verdict e = ap (λ (v : ItemVerdict). finding_at (Item table.rel block i) (rule_in v)) e
+-- AN ITEM, whose verdict is known
 
-pub doubt_is : (names : Names) (table : TableRules) (block : ℕ) (page : List ℕ) (i : ℕ) (verdict : ItemVerdict) → verdict ≡ item_verdict (table_seen names table) page i → doubt_at (Item table.rel block i) (reason_in verdict) ≡ item_doubts (table_seen names table) block page i
-unfolding item_doubts table_seen
-doubt_is names table block page i verdict e = ap (λ (v : ItemVerdict). doubt_at (Item table.rel block i) (reason_in v)) e
+pub found_is : (table : Table) (block : ℕ) (page : List ℕ) (i : ℕ) (verdict : ItemVerdict) → verdict ≡ item_verdict table page i → finding_at (Item table.rel block i) (rule_in verdict) ≡ item_findings table block page i
+unfolding item_findings
+found_is table block page i verdict e = ap (λ (v : ItemVerdict). finding_at (Item table.rel block i) (rule_in v)) e
 
--- what is found of a page that was read is found of its block
+pub doubt_is : (table : Table) (block : ℕ) (page : List ℕ) (i : ℕ) (verdict : ItemVerdict) → verdict ≡ item_verdict table page i → doubt_at (Item table.rel block i) (reason_in verdict) ≡ item_doubts table block page i
+unfolding item_doubts
+doubt_is table block page i verdict e = ap (λ (v : ItemVerdict). doubt_at (Item table.rel block i) (reason_in v)) e
+
+pub state_is : (table : Table) (page : List ℕ) (i : ℕ) (verdict : ItemVerdict) → verdict ≡ item_verdict table page i → state_in verdict ≡ item_state table page i
+unfolding item_state
+state_is table page i verdict e = ap state_in e
+
+pub externals_are : (table : Table) (block : ℕ) (page : List ℕ) (i : ℕ) (verdict : ItemVerdict) → verdict ≡ item_verdict table page i → externals_by table.rel block i (attributes_by (attributes_in table.columns (tuple_at page i)) verdict) ≡ item_externals table block page i
+unfolding item_externals live_attributes
+externals_are table block page i verdict e =
+    ap (λ (v : ItemVerdict). externals_by table.rel block i (attributes_by (attributes_in table.columns (tuple_at page i)) v)) e
+
+pub chunks_are : (table : Table) (block : ℕ) (page : List ℕ) (i : ℕ) (verdict : ItemVerdict) → verdict ≡ item_verdict table page i → chunks_by table.rel block i (attributes_by (attributes_in table.columns (tuple_at page i)) verdict) ≡ item_chunks table block page i
+unfolding item_chunks live_attributes
+chunks_are table block page i verdict e =
+    ap (λ (v : ItemVerdict). chunks_by table.rel block i (attributes_by (attributes_in table.columns (tuple_at page i)) v)) e
+
+-- A BLOCK, whose page was read
+
 pub block_found : (table : Table) (names : Names) (base : List ℕ) (size block : ℕ) (page : List ℕ) → page ≡ block_of names base size block → page_findings table block page ≡ block_findings table names base size block
 unfolding block_findings
 block_found table names base size block page e = ap (λ (p : List ℕ). page_findings table block p) e
@@ -38,21 +51,17 @@ pub block_doubted : (table : Table) (names : Names) (base : List ℕ) (size bloc
 unfolding block_doubts
 block_doubted table names base size block page e = ap (λ (p : List ℕ). page_doubts table block p) e
 
--- what is found of a relation after an error in its segments
+pub block_has_externals : (table : Table) (names : Names) (base : List ℕ) (size block : ℕ) (page : List ℕ) → page ≡ block_of names base size block → page_externals table block page ≡ block_externals table names base size block
+unfolding block_externals
+block_has_externals table names base size block page e = ap (λ (p : List ℕ). page_externals table block p) e
+
+pub block_has_chunks : (table : Table) (names : Names) (base : List ℕ) (size block : ℕ) (page : List ℕ) → page ≡ block_of names base size block → page_chunks table block page ≡ block_chunks table names base size block
+unfolding block_chunks
+block_has_chunks table names base size block page e = ap (λ (p : List ℕ). page_chunks table block p) e
+
+-- A RELATION, after an error in its segments
+
 pub cut_segment : (table : Table) (names : Names) (r : Relation) (old new rest : List Finding) → new ++ rest ≡ old ++ segment_findings table.rel (long_of r) → (more : List Finding) × (new ++ more ≡ old ++ table_findings table names r)
 unfolding table_findings
 cut_segment table names r old new rest now =
     cut_before old new rest (segment_findings table.rel (long_of r)) (each_below (block_findings table names (base_of r) (size_of r)) (count_of r)) now
-
--- what is found of the heap of a case is what is found of the case
-pub table_is_case : (names : Names) (case : CaseRecord) (columns : List ColType) (files : LogFiles) (r : Relation) → columns ≡ map (λ c. c.ctype) case.columns → files ≡ log_files_in case → base_of r ≡ case.heap_file → size_of r ≡ case.segment_blocks → IsRelationOf names case.heap_file case.segment_blocks block_limit r → table_findings (table_with names heap columns files) names r ≡ findings_of case names
-unfolding table_findings findings_of table_with table_of heap_blocks heap_long_segment
-table_is_case names case columns files r e1 e2 e3 e4 is = rw (is.long, is.count, e1, e2, e3, e4) refl
-
-pub table_doubts_are_case : (names : Names) (case : CaseRecord) (columns : List ColType) (files : LogFiles) (r : Relation) → columns ≡ map (λ c. c.ctype) case.columns → files ≡ log_files_in case → base_of r ≡ case.heap_file → size_of r ≡ case.segment_blocks → IsRelationOf names case.heap_file case.segment_blocks block_limit r → table_doubts (table_with names heap columns files) names r ≡ doubts_of case names
-unfolding table_doubts doubts_of table_with table_of heap_blocks
-table_doubts_are_case names case columns files r e1 e2 e3 e4 is = rw (is.count, e1, e2, e3, e4) refl
-
--- files of these folders and numbers are those of the case
-pub log_files_are : (case : CaseRecord) (xact offsets members : List ℕ) (cluster : Cluster) → xact ≡ case.xact → offsets ≡ case.offsets → members ≡ case.members → cluster ≡ case.cluster → ◌≡◌ {A = LogFiles} (record { xact = xact; offsets = offsets; members = members; cluster = cluster }) (log_files_in case)
-log_files_are case xact offsets members cluster e1 e2 e3 e4 = rw (e1, e2, e3, e4) refl

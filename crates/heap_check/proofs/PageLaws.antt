@@ -1,12 +1,14 @@
 -- The list of a page's findings by itself says what its rules say.
 use Rattle.std.proofs.Common.{◌≡◌, ℕ, ◌≤◌, Bool, true, false, List, [], refl, sym, subst, ◌∙◌}
-use Rattle.std.specs.Prelude.{Option, Some, None, if◌then◌else◌}
+use Rattle.std.specs.Prelude.{Option, Some, None, IfSome, if◌then◌else◌}
 use Rattle.std.specs.List.{All}
+use Rattle.std.proofs.lemmas.Bool.{both_ways}
 use Rattle.std.proofs.lemmas.List.Elements.{All-nil, All-cons}
 use Rattle.page_layout.specs.Items.{is_misplaced_heap_item}
 use Rattle.page_layout.specs.Page.{has_other_version, has_unknown_page_flag, has_bad_places, is_new_but_written, count_of, item_of, page_rule_of, upper_of}
 use Rattle.page_layout.specs.declared.rules.Rule.{Rule}
 use Rattle.page_layout.specs.declared.rules.Rule.TheVariants.{P1, P2, P3, P4, H1}
+use Rattle.page_layout.specs.declared.page.PageKind.{PageKind}
 use Rattle.page_layout.specs.declared.page.PageKind.TheVariants.{Heap}
 use Rattle.reports.specs.declared.places.Finding.{Finding}
 use Rattle.reports.specs.declared.places.Place.{Place}
@@ -18,22 +20,22 @@ use Rattle.heap_check.specs.Pages.{BreaksHeader, other_version, unknown_flag, ba
 use Rattle.heap_check.proofs.Places.{All-each_upto, each_upto_is_empty}
 
 -- a rule that is the first of four, by their tests
-header_by : (rel : Rel) (block : ℕ) (page : List ℕ) (t1 t2 t3 t4 : Bool) → t1 ≡ has_other_version page → t2 ≡ has_unknown_page_flag page → t3 ≡ has_bad_places Heap page → t4 ≡ is_new_but_written page → (rule : Rule) → (if t1 then Some P1 else if t2 then Some P2 else if t3 then Some P3 else if t4 then Some P4 else None) ≡ Some rule → BreaksHeader rel block page rule (Block rel block)
-header_by rel block page true t2 t3 t4 e1 e2 e3 e4 rule e =
-    let r : P1 ≡ rule = cc in subst (λ (q : Rule). BreaksHeader rel block page q (Block rel block)) r (other_version (sym e1))
-header_by rel block page false true t3 t4 e1 e2 e3 e4 rule e =
-    let r : P2 ≡ rule = cc in subst (λ (q : Rule). BreaksHeader rel block page q (Block rel block)) r (unknown_flag (sym e2))
-header_by rel block page false false true t4 e1 e2 e3 e4 rule e =
-    let r : P3 ≡ rule = cc in subst (λ (q : Rule). BreaksHeader rel block page q (Block rel block)) r (bad_places (sym e3))
-header_by rel block page false false false true e1 e2 e3 e4 rule e =
-    let r : P4 ≡ rule = cc in subst (λ (q : Rule). BreaksHeader rel block page q (Block rel block)) r (stray_byte (sym e4))
-header_by rel block page false false false false e1 e2 e3 e4 rule e = cc
+header_by : (kind : PageKind) (rel : Rel) (block : ℕ) (page : List ℕ) (t1 t2 t3 t4 : Bool) → t1 ≡ has_other_version page → t2 ≡ has_unknown_page_flag page → t3 ≡ has_bad_places kind page → t4 ≡ is_new_but_written page → (rule : Rule) → (if t1 then Some P1 else if t2 then Some P2 else if t3 then Some P3 else if t4 then Some P4 else None) ≡ Some rule → BreaksHeader kind rel block page rule (Block rel block)
+header_by kind rel block page true t2 t3 t4 e1 e2 e3 e4 rule e =
+    let r : P1 ≡ rule = cc in subst (λ (q : Rule). BreaksHeader kind rel block page q (Block rel block)) r (other_version (sym e1))
+header_by kind rel block page false true t3 t4 e1 e2 e3 e4 rule e =
+    let r : P2 ≡ rule = cc in subst (λ (q : Rule). BreaksHeader kind rel block page q (Block rel block)) r (unknown_flag (sym e2))
+header_by kind rel block page false false true t4 e1 e2 e3 e4 rule e =
+    let r : P3 ≡ rule = cc in subst (λ (q : Rule). BreaksHeader kind rel block page q (Block rel block)) r (bad_places (sym e3))
+header_by kind rel block page false false false true e1 e2 e3 e4 rule e =
+    let r : P4 ≡ rule = cc in subst (λ (q : Rule). BreaksHeader kind rel block page q (Block rel block)) r (stray_byte (sym e4))
+header_by kind rel block page false false false false e1 e2 e3 e4 rule e = cc
 
 -- the page's rule is broken
-pub page_rule_is_broken : (rel : Rel) (block : ℕ) (page : List ℕ) (rule : Rule) → page_rule_of Heap page ≡ Some rule → BreaksHeader rel block page rule (Block rel block)
+pub page_rule_is_broken : (kind : PageKind) (rel : Rel) (block : ℕ) (page : List ℕ) (rule : Rule) → page_rule_of kind page ≡ Some rule → BreaksHeader kind rel block page rule (Block rel block)
 unfolding page_rule_of
-page_rule_is_broken rel block page rule e =
-    header_by rel block page (has_other_version page) (has_unknown_page_flag page) (has_bad_places Heap page) (is_new_but_written page) refl refl refl refl rule e
+page_rule_is_broken kind rel block page rule e =
+    header_by kind rel block page (has_other_version page) (has_unknown_page_flag page) (has_bad_places kind page) (is_new_but_written page) refl refl refl refl rule e
 
 none_by : (t1 t2 t3 t4 : Bool) → (if t1 then Some P1 else if t2 then Some P2 else if t3 then Some P3 else if t4 then Some P4 else None) ≡ None → (t1 ≡ false) × (t2 ≡ false) × (t3 ≡ false) × (t4 ≡ false)
 none_by true t2 t3 t4 e = cc
@@ -42,28 +44,25 @@ none_by false false true t4 e = cc
 none_by false false false true e = cc
 none_by false false false false e = (refl, refl, refl, refl)
 
-differ : (b : Bool) → b ≡ false → b ≡ true → ⊥
-differ b e f = cc
-
 -- the four tests of a header that breaks no rule
-record KeepsHeaderRules (page : List ℕ) : Type 0 where
+record KeepsHeaderRules (kind : PageKind) (page : List ℕ) : Type 0 where
   version : has_other_version page ≡ false
   flags : has_unknown_page_flag page ≡ false
-  places : has_bad_places Heap page ≡ false
+  places : has_bad_places kind page ≡ false
   bytes : is_new_but_written page ≡ false
 
-refuted : (rel : Rel) (block : ℕ) (page : List ℕ) → KeepsHeaderRules page → (rule : Rule) (place : Place) → BreaksHeader rel block page rule place → ⊥
-refuted rel block page keeps _ _ (other_version t) = differ _ keeps.version t
-refuted rel block page keeps _ _ (unknown_flag t) = differ _ keeps.flags t
-refuted rel block page keeps _ _ (bad_places t) = differ _ keeps.places t
-refuted rel block page keeps _ _ (stray_byte t) = differ _ keeps.bytes t
+refuted : (kind : PageKind) (rel : Rel) (block : ℕ) (page : List ℕ) → KeepsHeaderRules kind page → (rule : Rule) (place : Place) → BreaksHeader kind rel block page rule place → ⊥
+refuted kind rel block page keeps _ _ (other_version t) = both_ways _ keeps.version t
+refuted kind rel block page keeps _ _ (unknown_flag t) = both_ways _ keeps.flags t
+refuted kind rel block page keeps _ _ (bad_places t) = both_ways _ keeps.places t
+refuted kind rel block page keeps _ _ (stray_byte t) = both_ways _ keeps.bytes t
 
 -- where there is no page rule, the header breaks none
-pub no_header_is_broken : (rel : Rel) (block : ℕ) (page : List ℕ) → page_rule_of Heap page ≡ None → (rule : Rule) (place : Place) → BreaksHeader rel block page rule place → ⊥
+pub no_header_is_broken : (kind : PageKind) (rel : Rel) (block : ℕ) (page : List ℕ) → page_rule_of kind page ≡ None → (rule : Rule) (place : Place) → BreaksHeader kind rel block page rule place → ⊥
 unfolding page_rule_of
-no_header_is_broken rel block page e =
-    let none = none_by (has_other_version page) (has_unknown_page_flag page) (has_bad_places Heap page) (is_new_but_written page) e in
-    refuted rel block page (record { version = none.0; flags = none.1; places = none.2; bytes = none.3 })
+no_header_is_broken kind rel block page e =
+    let none = none_by (has_other_version page) (has_unknown_page_flag page) (has_bad_places kind page) (is_new_but_written page) e in
+    refuted kind rel block page (record { version = none.0; flags = none.1; places = none.2; bytes = none.3 })
 
 -- a finding at a place is of the rule there
 pub All-finding_at : (P : Finding → Type 0) (place : Place) (found : Option Rule) → ((rule : Rule) → found ≡ Some rule → P (record { rule = rule; place = place })) → All P (finding_at place found)
@@ -73,6 +72,11 @@ All-finding_at P place (Some rule) each = All-cons P (record { rule = rule; plac
 pub no_finding_at : (place : Place) (found : Option Rule) → finding_at place found ≡ [] → found ≡ None
 no_finding_at place None e = refl
 no_finding_at place (Some rule) e = cc
+
+-- what holds of the rule that is found holds of this one, if it is this one
+pub rule_holds : (found : Option Rule) (rule : Rule) (P : Rule → Type 0) → found ≡ Some rule → IfSome found P → P rule
+rule_holds None rule P e holds = cc
+rule_holds (Some r) rule P e holds = let same : r ≡ rule = cc in subst P same holds
 
 -- a page's own rule and its items' findings
 abbrev pub by_rule : ℕ → List ℕ → Option Rule → List Finding
@@ -102,7 +106,7 @@ item_sound block page i some le =
 
 sound_by : (block : ℕ) (page : List ℕ) (found : Option Rule) → page_rule_of Heap page ≡ found → All (λ f. BreaksAlone block page f.rule f.place) (by_rule block page found)
 sound_by block page (Some rule) e =
-    All-finding_at (λ f. BreaksAlone block page f.rule f.place) (Block heap block) (Some rule) (λ q same. header q (Block heap block) (page_rule_is_broken heap block page q (e ∙ same)))
+    All-finding_at (λ f. BreaksAlone block page f.rule f.place) (Block heap block) (Some rule) (λ q same. header q (Block heap block) (page_rule_is_broken Heap heap block page q (e ∙ same)))
 sound_by block page None e =
     All-each_upto (λ f. BreaksAlone block page f.rule f.place) (lone_item_findings block page) (count_of page) (item_sound block page)
 
@@ -114,11 +118,11 @@ lone_page_sound block page =
 item_complete : (block : ℕ) (page : List ℕ) (i : ℕ) → lone_item_findings block page i ≡ [] → is_misplaced_heap_item (upper_of page) (item_of page i) ≡ true → ⊥
 unfolding lone_item_findings lone_item_rule
 item_complete block page i none broken =
-    differ _ (no_item_is_broken (is_misplaced_heap_item (upper_of page) (item_of page i)) (no_finding_at (Item heap block i) (lone_item_rule page i) none)) broken
+    both_ways _ (no_item_is_broken (is_misplaced_heap_item (upper_of page) (item_of page i)) (no_finding_at (Item heap block i) (lone_item_rule page i) none)) broken
 
 complete_by : (block : ℕ) (page : List ℕ) (found : Option Rule) → page_rule_of Heap page ≡ found → by_rule block page found ≡ [] → (rule : Rule) (place : Place) → BreaksAlone block page rule place → ⊥
 complete_by block page (Some r) e none rule place broken = cc
-complete_by block page None e none _ _ (header rule place broken) = no_header_is_broken heap block page e rule place broken
+complete_by block page None e none _ _ (header rule place broken) = no_header_is_broken Heap heap block page e rule place broken
 complete_by block page None e none _ _ (misplaced i some le t) = item_complete block page i (each_upto_is_empty _ _ i none some le) t
 
 -- a page without a finding breaks no rule

@@ -24,7 +24,7 @@ All-each_upto P f zero each = All-nil P
 All-each_upto P f (suc n) each =
     All-append P (each_upto f n) (f (suc n)) (All-each_upto P f n (λ i some le. each i some (omega arith))) (each (suc n) (omega arith) (omega arith))
 
-last_or_before : (i n : ℕ) → i ≤ suc n → (i ≤ n) ⊎ (i ≡ suc n)
+pub last_or_before : (i n : ℕ) → i ≤ suc n → (i ≤ n) ⊎ (i ≡ suc n)
 last_or_before i n le = search (arith, inl, inr)
 
 pub each_below_is_empty : {X : Type 0} (f : ℕ → List X) (n k : ℕ) → each_below f n ≡ [] → k < n → f k ≡ []

@@ -1,6 +1,7 @@
--- A refusal to attach the heap is the refusal of the case.
-use Rattle.std.proofs.Common.{◌≡◌, ℕ, zero, suc, ◌/◌, ◌<◌, ◌≤◌, Bool, true, false, List, refl, ◌∙◌, arith}
+-- A refusal to attach a file is the refusal of the case.
+use Rattle.std.proofs.Common.{◌≡◌, ℕ, zero, suc, ◌/◌, ◌<◌, ◌≤◌, ◌⊎◌, inl, inr, Bool, true, false, List, refl, subst, sym, ◌∙◌, arith}
 use Rattle.std.specs.Prelude.{Option, Some, None, IsSome, nat_lt, ◌==◌, if◌then◌else◌, Err}
+use Rattle.std.specs.Option.{option_or}
 use Rattle.std.proofs.lemmas.Grind.{common_steps}
 use Rattle.outside.specs.Outside.{Names}
 use Rattle.outside.specs.declared.files.Part.TheVariants.{Segment}
@@ -9,15 +10,18 @@ use Rattle.rel_files.specs.Relation.{IsRefused, IsRelationOf, count_of}
 use Rattle.rel_files.specs.declared.fault.AttachFault.{AttachFault}
 use Rattle.rel_files.specs.declared.fault.AttachFault.TheVariants as attach
 use Rattle.rel_files.specs.declared.relation.Relation.{Relation}
-use Rattle.case_file.specs.Record.{CaseRecord}
-use Rattle.reports.specs.declared.fault.CheckFault.TheVariants.{TooLarge}
-use Rattle.reports.specs.declared.fault.Which.TheVariants.{Heap}
+use Rattle.reports.specs.declared.fault.CheckFault.{CheckFault}
+use Rattle.reports.specs.declared.fault.CheckFault.TheVariants.{NoFile, TooLarge, ReadFault, NoMemory}
+use Rattle.reports.specs.declared.fault.Which.{Which}
 use Rattle.heap_check.specs.Faults.{fault_of}
-use Rattle.heap_check.specs.Files.{TellsRefusal, large_by, refused_by, refusal_of}
-use Rattle.heap_check.specs.Heap.{block_limit, heap_blocks}
+use Rattle.case_file.specs.Record.{CaseRecord}
+use Rattle.reports.specs.declared.fault.Which.TheVariants.{Heap}
+use Rattle.heap_check.specs.declared.files.HeapFiles.{HeapFiles}
+use Rattle.heap_check.specs.Files.{TellsRefusal, file_refusal, large_by, refusal_of, refused_by, toast_refusal}
+use Rattle.heap_check.specs.Heap.{block_limit}
 
 -- a relation whose first segment isn't held has no blocks
-first_is_last : (len : ℕ → ℕ) (size n : ℕ) → 1 ≤ size → len 0 ≡ 0 → first_not_full len size 0 n ≡ 0
+pub first_is_last : (len : ℕ → ℕ) (size n : ℕ) → 1 ≤ size → len 0 ≡ 0 → first_not_full len size 0 n ≡ 0
 unfolding first_not_full
 first_is_last len size zero some none = refl
 first_is_last len size (suc n) some none = rw none (by_test (0 == size) (grind (arith, common_steps)))
@@ -25,39 +29,85 @@ first_is_last len size (suc n) some none = rw none (by_test (0 == size) (grind (
     by_test : (t : Bool) → t ≡ false → (if t then first_not_full len size 1 n else 0) ≡ 0
     by_test t e = rw e refl
 
-no_blocks : (names : Names) (base : List ℕ) (size limit : ℕ) → 1 ≤ size → names base (Segment 0) ≡ None → blocks_of names base size limit ≡ 0
+pub no_blocks : (names : Names) (base : List ℕ) (size limit : ℕ) → 1 ≤ size → names base (Segment 0) ≡ None → blocks_of names base size limit ≡ 0
 unfolding blocks_of last_segment blocks_below
 no_blocks names base size limit some none =
     let empty : segment_length names base 0 ≡ 0 = rw none refl in
     rw (first_is_last (segment_length names base) size (limit / size) some empty, empty) (omega arith)
 
-large_is : (large : Bool) (blocks : ℕ) → large ≡ true → large_by Heap large blocks ≡ Some (TooLarge Heap blocks block_limit)
-large_is large blocks e = rw e refl
+-- A FILE
 
-held_is_large : (o : Option (List ℕ)) (blocks : ℕ) → (o ≡ None → blocks ≡ 0) → block_limit < blocks → refused_by Heap o blocks ≡ Some (TooLarge Heap blocks block_limit)
-held_is_large None blocks none lt = absurd (omega (arith, none refl))
-held_is_large (Some bytes) blocks none lt = large_is (nat_lt block_limit blocks) blocks (grind (arith, common_steps))
+large_is : (which : Which) (large : Bool) (blocks : ℕ) → large ≡ true → large_by which large blocks ≡ Some (TooLarge which blocks block_limit)
+large_is which large blocks e = rw e refl
 
-held_is_small : (o : Option (List ℕ)) (blocks : ℕ) → IsSome o → blocks ≤ block_limit → refused_by Heap o blocks ≡ None
-held_is_small None blocks held le = cc
-held_is_small (Some bytes) blocks held le = small (nat_lt block_limit blocks) (grind (arith, common_steps))
+held_is_large : (which : Which) (o : Option (List ℕ)) (blocks : ℕ) → (o ≡ None → blocks ≡ 0) → block_limit < blocks → refused_by which o blocks ≡ Some (TooLarge which blocks block_limit)
+held_is_large which None blocks none lt = absurd (omega (arith, none refl))
+held_is_large which (Some bytes) blocks none lt = large_is which (nat_lt block_limit blocks) blocks (grind (arith, common_steps))
+
+held_is_small : (which : Which) (o : Option (List ℕ)) (blocks : ℕ) → IsSome o → blocks ≤ block_limit → refused_by which o blocks ≡ None
+held_is_small which None blocks held le = cc
+held_is_small which (Some bytes) blocks held le = small (nat_lt block_limit blocks) (grind (arith, common_steps))
   where
-    small : (large : Bool) → large ≡ false → large_by Heap large blocks ≡ None
+    small : (large : Bool) → large ≡ false → large_by which large blocks ≡ None
     small large e = rw e refl
 
 -- a relation that is attached is refused by nothing
-pub attached_is_not_refused : (case : CaseRecord) (names : Names) (r : Relation) → IsRelationOf names case.heap_file case.segment_blocks block_limit r → count_of r ≤ block_limit → refusal_of case names ≡ None
-unfolding refusal_of heap_blocks
-attached_is_not_refused case names r is within =
-    let few : blocks_of names case.heap_file case.segment_blocks block_limit ≤ block_limit = omega (arith, is.count, within) in
-    held_is_small _ _ is.held few
+pub attached_is_not_refused : (which : Which) (names : Names) (base : List ℕ) (size : ℕ) (r : Relation) → IsRelationOf names base size block_limit r → count_of r ≤ block_limit → file_refusal which names base size ≡ None
+unfolding file_refusal
+attached_is_not_refused which names base size r is within =
+    let few : blocks_of names base size block_limit ≤ block_limit = omega (arith, is.count, within) in
+    held_is_small which _ _ is.held few
 
--- a refusal to attach it is the refusal of the case
-pub refused_is_refusal : (case : CaseRecord) (names : Names) (fault : AttachFault) → 1 ≤ case.segment_blocks → IsRefused names case.heap_file case.segment_blocks block_limit fault → TellsRefusal {T = Relation} (refusal_of case names) (Err (fault_of Heap fault))
-unfolding refusal_of heap_blocks
-refused_is_refusal case names attach.NoFile some none = rw none refl
-refused_is_refusal case names (attach.TooLarge blocks limit) some large =
-    held_is_large _ _ (no_blocks names case.heap_file case.segment_blocks block_limit some) large.0
+-- a refusal to attach it is its refusal
+pub refused_is_refusal : (which : Which) (names : Names) (base : List ℕ) (size : ℕ) (fault : AttachFault) → 1 ≤ size → IsRefused names base size block_limit fault → TellsRefusal {T = Relation} (file_refusal which names base size) (Err (fault_of which fault))
+unfolding file_refusal
+refused_is_refusal which names base size attach.NoFile some none = rw none refl
+refused_is_refusal which names base size (attach.TooLarge blocks limit) some large =
+    held_is_large which _ _ (no_blocks names base size block_limit some) large.0
     ∙ rw (large.1, large.2) refl
-refused_is_refusal case names attach.ReadFault some is = tt
-refused_is_refusal case names attach.NoMemory some is = tt
+refused_is_refusal which names base size attach.ReadFault some is = tt
+refused_is_refusal which names base size attach.NoMemory some is = tt
+
+-- A CASE: the heap's refusal, or else the TOAST table's
+
+-- an error tells the same refusal, whatever its call would have answered
+pub tells_alike : (T U : Type 0) (refusal : Option CheckFault) (fault : CheckFault) → TellsRefusal {T = T} refusal (Err fault) → TellsRefusal {T = U} refusal (Err fault)
+tells_alike T U refusal (NoFile which) tells = tells
+tells_alike T U refusal (TooLarge which blocks limit) tells = tells
+tells_alike T U refusal ReadFault tells = tt
+tells_alike T U refusal NoMemory tells = tt
+
+pub first_tells : (T U : Type 0) (first second : Option CheckFault) (fault : CheckFault) → TellsRefusal {T = T} first (Err fault) → TellsRefusal {T = U} (option_or first second) (Err fault)
+first_tells T U first second (NoFile which) tells = rw tells refl
+first_tells T U first second (TooLarge which blocks limit) tells = rw tells refl
+first_tells T U first second ReadFault tells = tt
+first_tells T U first second NoMemory tells = tt
+
+pub second_tells : (T U : Type 0) (first second : Option CheckFault) (fault : CheckFault) → first ≡ None → TellsRefusal {T = T} second (Err fault) → TellsRefusal {T = U} (option_or first second) (Err fault)
+second_tells T U first second (NoFile which) none tells = rw none tells
+second_tells T U first second (TooLarge which blocks limit) none tells = rw none tells
+second_tells T U first second ReadFault none tells = tt
+second_tells T U first second NoMemory none tells = tt
+
+-- a fault and want of memory tell of no refusal
+pub nothing_told : (T : Type 0) (refusal : Option CheckFault) (fault : CheckFault) → (fault ≡ ReadFault) ⊎ (fault ≡ NoMemory) → TellsRefusal {T = T} refusal (Err fault)
+nothing_told T refusal fault (inl e) = subst (λ (f : CheckFault). TellsRefusal {T = T} refusal (Err f)) (sym e) tt
+nothing_told T refusal fault (inr e) = subst (λ (f : CheckFault). TellsRefusal {T = T} refusal (Err f)) (sym e) tt
+
+-- the heap's refusal is that of the case
+pub heap_tells : (case : CaseRecord) (names : Names) (base : List ℕ) (size : ℕ) (fault : CheckFault) → base ≡ case.heap_file → size ≡ case.segment_blocks → TellsRefusal {T = Relation} (file_refusal Heap names base size) (Err fault) → TellsRefusal {T = HeapFiles} (refusal_of case names) (Err fault)
+unfolding refusal_of
+heap_tells case names base size fault called sized tells =
+    let by_name = subst (λ (b : List ℕ). TellsRefusal {T = Relation} (file_refusal Heap names b size) (Err fault)) called tells in
+    first_tells Relation HeapFiles _ (toast_refusal names case.segment_blocks case.toast) fault
+    (subst (λ (n : ℕ). TellsRefusal {T = Relation} (file_refusal Heap names case.heap_file n) (Err fault)) sized by_name)
+
+-- where the heap isn't refused, the TOAST table's refusal is that of the case
+pub toast_tells : (case : CaseRecord) (names : Names) (base : List ℕ) (size : ℕ) (fault : CheckFault) → base ≡ case.heap_file → size ≡ case.segment_blocks → file_refusal Heap names base size ≡ None → TellsRefusal {T = Option Relation} (toast_refusal names case.segment_blocks case.toast) (Err fault) → TellsRefusal {T = HeapFiles} (refusal_of case names) (Err fault)
+unfolding refusal_of
+toast_tells case names base size fault called sized none tells =
+    second_tells (Option Relation) HeapFiles (file_refusal Heap names case.heap_file case.segment_blocks) (toast_refusal names case.segment_blocks case.toast) fault (rw (called, sized) at none) tells
+
+pub none_tells : (case : CaseRecord) (names : Names) (base : List ℕ) (size : ℕ) → base ≡ case.heap_file → size ≡ case.segment_blocks → file_refusal Heap names base size ≡ None → toast_refusal names case.segment_blocks case.toast ≡ None → refusal_of case names ≡ None
+unfolding refusal_of
+none_tells case names base size called sized none also = rw (rw (called, sized) at none) also

@@ -4,6 +4,7 @@ use Rattle.page_layout.specs.Items.{is_misplaced_heap_item}
 use Rattle.page_layout.specs.Page.{has_other_version, has_unknown_page_flag, has_bad_places, is_new_but_written, count_of, item_of, page_rule_of, upper_of}
 use Rattle.page_layout.specs.declared.rules.Rule.{Rule}
 use Rattle.page_layout.specs.declared.rules.Rule.TheVariants.{P1, P2, P3, P4, H1}
+use Rattle.page_layout.specs.declared.page.PageKind.{PageKind}
 use Rattle.page_layout.specs.declared.page.PageKind.TheVariants.{Heap}
 use Rattle.reports.specs.declared.places.Finding.{Finding}
 use Rattle.reports.specs.declared.places.Place.{Place}
@@ -14,16 +15,16 @@ use Rattle.heap_check.specs.Below.{each_upto}
 
 -- THE RULES, each by its sentence, with the place where it is broken
 
--- what the header of a page alone may break
-pub data BreaksHeader (rel : Rel) (block : ℕ) (page : List ℕ) : Rule → Place → Type 0 where
-  other_version : has_other_version page ≡ true → BreaksHeader rel block page P1 (Block rel block)
-  unknown_flag : has_unknown_page_flag page ≡ true → BreaksHeader rel block page P2 (Block rel block)
-  bad_places : has_bad_places Heap page ≡ true → BreaksHeader rel block page P3 (Block rel block)
-  stray_byte : is_new_but_written page ≡ true → BreaksHeader rel block page P4 (Block rel block)
+-- what the header of a page of this kind may break
+pub data BreaksHeader (kind : PageKind) (rel : Rel) (block : ℕ) (page : List ℕ) : Rule → Place → Type 0 where
+  other_version : has_other_version page ≡ true → BreaksHeader kind rel block page P1 (Block rel block)
+  unknown_flag : has_unknown_page_flag page ≡ true → BreaksHeader kind rel block page P2 (Block rel block)
+  bad_places : has_bad_places kind page ≡ true → BreaksHeader kind rel block page P3 (Block rel block)
+  stray_byte : is_new_but_written page ≡ true → BreaksHeader kind rel block page P4 (Block rel block)
 
 -- what a page of the heap may break without a look at its tuples
 pub data BreaksAlone (block : ℕ) (page : List ℕ) : Rule → Place → Type 0 where
-  header : (rule : Rule) (place : Place) → BreaksHeader heap block page rule place → BreaksAlone block page rule place
+  header : (rule : Rule) (place : Place) → BreaksHeader Heap heap block page rule place → BreaksAlone block page rule place
   misplaced : (i : ℕ) → 1 ≤ i → i ≤ count_of page → is_misplaced_heap_item (upper_of page) (item_of page i) ≡ true → BreaksAlone block page H1 (Item heap block i)
 
 -- THE LIST, in the order in which a report has it

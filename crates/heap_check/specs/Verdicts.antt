@@ -2,13 +2,15 @@
 use Rattle.std.specs.Prelude.{ℕ, List, [], ◌∷◌, length, if◌then◌else◌, Option, Some, None}
 use Rattle.key_orders.specs.declared.columns.ColType.{ColType}
 use Rattle.page_layout.specs.Items.{is_misplaced_heap_item}
-use Rattle.page_layout.specs.Page.{item_of, piece_of, upper_of}
+use Rattle.page_layout.specs.Page.{item_of, upper_of}
 use Rattle.page_layout.specs.declared.page.LineFlag.{LineFlag}
 use Rattle.page_layout.specs.declared.page.LineFlag.TheVariants as flag
-use Rattle.page_layout.specs.declared.page.LinePtr.{LinePtr}
 use Rattle.page_layout.specs.declared.rules.Rule.{Rule}
 use Rattle.page_layout.specs.declared.rules.Rule.TheVariants.{H1, H2}
 use Rattle.tuple_head.specs.Head.{head_rule_of, is_old_form, tuple_head_of}
+use Rattle.varlena_attrs.specs.Tuples.{attributes_in}
+use Rattle.vis_map.specs.declared.bits.MapBits.{MapBits}
+use Rattle.toast_chunks.specs.Stored.{tuple_at}
 use Rattle.tuple_head.specs.declared.HeapHead.{HeapHead}
 use Rattle.liveness.specs.Life.{judged_of}
 use Rattle.liveness.specs.Logs.{Logs}
@@ -29,11 +31,15 @@ use Rattle.heap_check.specs.declared.verdict.ItemVerdict.{ItemVerdict}
 use Rattle.heap_check.specs.declared.verdict.ItemVerdict.TheVariants.{Passes, Breaks, InDoubt}
 use Rattle.heap_check.specs.Pages.{finding_at}
 use Rattle.heap_check.specs.Storage.{overlaps_lower_item}
+use Rattle.heap_check.specs.Values.{values_rule}
 
--- what the rules of a heap need to know of its table: how reports call it, its columns, and what the logs say
+-- what the rules of a heap need to know of its table: how reports call it, its columns, the oid of its TOAST table, what the
+-- visibility map says of each block, and what the logs say
 pub record Table : Type 0 where
   pub rel : Rel
   pub columns : List ColType
+  pub toast : Option ℕ
+  pub bits : ℕ → MapBits
   pub logs : Logs
 
 abbrev pub reason_of : Doubt → Reason
@@ -41,33 +47,40 @@ reason_of doubt.U1 = reason.U1
 reason_of doubt.U2 = reason.U2
 reason_of doubt.U3 = reason.U3
 
--- what the life of a tuple says
-abbrev pub life_verdict : HeapHead → Judged → Life → ItemVerdict
-life_verdict head judged life.Live = Passes (Tuple head judged)
-life_verdict head judged life.Dead = Passes (Tuple head judged)
-life_verdict head judged (life.Unjudged u) = InDoubt (reason_of u)
-life_verdict head judged (life.Broken rule) = Breaks rule
+-- what the values of a live tuple say
+abbrev pub values_verdict : HeapHead → Judged → Option Rule → ItemVerdict
+values_verdict head judged (Some rule) = Breaks rule
+values_verdict head judged None = Passes (Tuple head judged)
 
-abbrev pub header_verdict : Table → HeapHead → Option Rule → ItemVerdict
-header_verdict table head (Some rule) = Breaks rule
-header_verdict table head None = life_verdict head (judged_of table.logs head) (judged_of table.logs head).life
+-- what the life of a tuple says: the values of a live one are asked too
+abbrev pub life_verdict : Option ℕ → List ColType → List ℕ → HeapHead → Judged → Life → ItemVerdict
+life_verdict toast columns tuple head judged life.Live = values_verdict head judged (values_rule toast head (attributes_in columns tuple))
+life_verdict toast columns tuple head judged life.Dead = Passes (Tuple head judged)
+life_verdict toast columns tuple head judged (life.Unjudged u) = InDoubt (reason_of u)
+life_verdict toast columns tuple head judged (life.Broken rule) = Breaks rule
 
--- a tuple of so many bytes: nothing more is asked of a header of old form; else its rules come first, and then its life
-unfoldable pub tuple_verdict : Table → ℕ → HeapHead → ItemVerdict
-tuple_verdict table len head =
-    if is_old_form head then InDoubt reason.U1
-    else header_verdict table head (head_rule_of (length table.columns) len head)
+abbrev pub header_verdict : Table → List ℕ → HeapHead → Option Rule → ItemVerdict
+header_verdict table tuple head (Some rule) = Breaks rule
+header_verdict table tuple head None =
+    life_verdict table.toast table.columns tuple head (judged_of table.logs head) (judged_of table.logs head).life
 
--- the header of the tuple to which a pointer points
-unfoldable pub head_at : List ℕ → LinePtr → HeapHead
-head_at page p = tuple_head_of (piece_of page p.off p.len)
+-- a tuple of so many bytes: nothing more is asked of a header of old form; else its rules come first, then its life, and then,
+-- where it is live, its values
+unfoldable pub tuple_verdict : Table → ℕ → List ℕ → ItemVerdict
+tuple_verdict table len tuple =
+    if is_old_form (tuple_head_of tuple) then InDoubt reason.U1
+    else header_verdict table tuple (tuple_head_of tuple) (head_rule_of (length table.columns) len (tuple_head_of tuple))
+
+-- the header of the tuple of an item
+abbrev pub head_at : List ℕ → ℕ → HeapHead
+head_at page i = tuple_head_of (tuple_at page i)
 
 -- a normal item: where it lies, and then its tuple
 unfoldable pub normal_verdict : Table → List ℕ → ℕ → ItemVerdict
 normal_verdict table page i =
     if is_misplaced_heap_item (upper_of page) (item_of page i) then Breaks H1
     else if overlaps_lower_item page i then Breaks H2
-    else tuple_verdict table (item_of page i).len (head_at page (item_of page i))
+    else tuple_verdict table (item_of page i).len (tuple_at page i)
 
 abbrev pub flag_verdict : Table → List ℕ → ℕ → LineFlag → ItemVerdict
 flag_verdict table page i flag.Unused = Passes Unused

@@ -1,43 +1,91 @@
-// Judges a tuple: its header, and whether it is live.
-ghost use Rattle.std.specs.Prelude.{◌≡◌, ◌≤◌, length, IfOk};
-ghost use Rattle.outside.specs.Outside.{HasCause, IfTold};
+// Judges a tuple: its header, whether it is live, and the values of a live one.
+ghost use Rattle.std.specs.Prelude.{◌≡◌, ◌++◌, ◌≤◌, ◌<◌, All, length, false, IfOk};
+ghost use Rattle.outside.specs.Outside.{Causes, IfTold};
 ghost use Rattle.tuple_head.specs.Head.{tuple_head_of};
+ghost use Rattle.varlena_attrs.specs.Shown.{HasAlignment};
+ghost use Rattle.varlena_attrs.specs.Tuples.{attributes_in};
+ghost use Rattle.heap_check.specs.Kept.{attributes_by, chunks_by, externals_by};
 ghost use Rattle.heap_check.specs.Tables.{table_seen};
-ghost use Rattle.heap_check.specs.Verdicts.{life_verdict, tuple_verdict};
+ghost use Rattle.heap_check.specs.Verdicts.{life_verdict, tuple_verdict, values_verdict};
 
+use crate::fault::RowFault;
+use crate::kept::Kept;
 use crate::table::TableRules;
+use crate::values::judge_values;
 use crate::verdict::{ItemVerdict, reason_of};
+use key_orders::Tid;
 use liveness::{ItemState, Judged, Life, life};
-use outside::Files;
-use rel_files::ReadFault;
+use outside::{Files, NoMemory};
+use page_layout::Rule;
 use reports::Reason;
-use tuple_head::{HeapHead, heap_head};
+use tuple_head::{HeapHead, heap_head, kept_rules_place_attributes};
+use varlena_attrs::AttrBuffer;
 
-// What the life of a tuple says.
-fn life_verdict(head: HeapHead, judged: Judged) -> ItemVerdict
-    ensures { result ≡ life_verdict head judged judged.life }
+// What the values of a live tuple say.
+fn values_verdict(head: HeapHead, judged: Judged, rule: Option<Rule>) -> ItemVerdict
+    ensures { result ≡ values_verdict head judged rule }
+{
+    match rule {
+        Some(rule) => ItemVerdict::Breaks(rule),
+        None => ItemVerdict::Passes(ItemState::Tuple { head, judged }),
+    }
+}
+
+// What the life of a tuple says, whose header keeps its rules: the values of a live one are asked too.
+#[tactic(auto, using(crate::proofs::KeptRules::no_externals, crate::proofs::KeptRules::no_chunks))]
+fn life_verdict(
+    table: &TableRules<'_>,
+    tuple: &[u8],
+    head: HeapHead,
+    judged: Judged,
+    tid: Tid,
+    attrs: &mut AttrBuffer,
+    kept: &mut Kept,
+) -> Result<ItemVerdict, NoMemory>
+    requires few { length table.now.columns.now ≤ 64 }
+    requires aligned { All HasAlignment table.now.columns.now }
+    requires header { head ≡ tuple_head_of tuple.now }
+    requires begins { 23 ≤ head.hoff }
+    requires within { head.hoff ≤ length tuple.now }
+    requires page { length tuple.now ≤ 8192 }
+    ensures verdict { IfOk result (λ verdict. verdict ≡ life_verdict table.now.toast table.now.columns.now tuple.now head judged judged.life) }
+    ensures externals { IfOk result (λ verdict. kept.new.externals.items ≡ kept.old.externals.items ++ externals_by table.now.rel tid.block tid.item (attributes_by (attributes_in table.now.columns.now tuple.now) verdict)) }
+    ensures chunks { IfOk result (λ verdict. kept.new.chunks ≡ kept.old.chunks ++ chunks_by table.now.rel tid.block tid.item (attributes_by (attributes_in table.now.columns.now tuple.now) verdict)) }
 {
     match judged.life {
-        Life::Live | Life::Dead => ItemVerdict::Passes(ItemState::Tuple { head, judged }),
-        Life::Unjudged(doubt) => ItemVerdict::InDoubt(reason_of(doubt)),
-        Life::Broken(rule) => ItemVerdict::Breaks(rule),
+        Life::Live => {
+            let rule = judge_values(table, tuple, head, tid, attrs, kept)?;
+            Ok(values_verdict(head, judged, rule))
+        }
+        Life::Dead => Ok(ItemVerdict::Passes(ItemState::Tuple { head, judged })),
+        Life::Unjudged(doubt) => Ok(ItemVerdict::InDoubt(reason_of(doubt))),
+        Life::Broken(rule) => Ok(ItemVerdict::Breaks(rule)),
     }
 }
 
 /// Judges the tuple in these bytes, of which there are `len`: old headers are in doubt, then come the
-/// rules of headers (H4 to H8), and then the tuple's life (H9 to H13).
-#[tactic(auto, unfolding(crate::specs::Verdicts::tuple_verdict, crate::specs::Tables::table_seen))]
+/// rules of headers (H4 to H8), the tuple's life (H9 to H13), and the values of a live one (H17 to
+/// H20), which are kept where they break none.
+#[tactic(auto, using(crate::proofs::KeptRules::no_externals, crate::proofs::KeptRules::no_chunks), unfolding(crate::specs::Verdicts::tuple_verdict, crate::specs::Tables::table_with))]
 pub fn judge_tuple<F: Files>(
     files: &mut F,
     table: &TableRules<'_>,
     bytes: &[u8],
     len: u16,
-) -> Result<ItemVerdict, ReadFault>
+    tid: Tid,
+    attrs: &mut AttrBuffer,
+    kept: &mut Kept,
+) -> Result<ItemVerdict, RowFault>
     requires bytes { 24 ≤ length bytes.now }
+    requires long { len ≡ length bytes.now }
+    requires page { len ≤ 8192 }
     requires few { length table.now.columns.now ≤ 64 }
-    ensures told { IfOk result (λ verdict. IfTold (F.held files.old) (λ names. verdict ≡ tuple_verdict (table_seen names table.now) len (tuple_head_of bytes.now))) }
+    requires aligned { All HasAlignment table.now.columns.now }
+    ensures told { IfOk result (λ verdict. IfTold (F.held files.old) (λ names. verdict ≡ tuple_verdict (table_seen names table.now) len bytes.now)) }
+    ensures externals { IfOk result (λ verdict. kept.new.externals.items ≡ kept.old.externals.items ++ externals_by table.now.rel tid.block tid.item (attributes_by (attributes_in table.now.columns.now bytes.now) verdict)) }
+    ensures chunks { IfOk result (λ verdict. kept.new.chunks ≡ kept.old.chunks ++ chunks_by table.now.rel tid.block tid.item (attributes_by (attributes_in table.now.columns.now bytes.now) verdict)) }
     ensures same { F.held files.new ≡ F.held files.old }
-    ensures cause { HasCause (F.faults files.old) (F.faults files.new) result }
+    ensures cause { Causes (F.faults files.old) (F.faults files.new) result RowFault.ReadFault }
 {
     let head = heap_head(bytes);
     if head.old_form() {
@@ -46,6 +94,7 @@ pub fn judge_tuple<F: Files>(
     if let Some(rule) = head.head_rule(table.columns.len() as u16, len) {
         return Ok(ItemVerdict::Breaks(rule));
     }
+    kept_rules_place_attributes();
     let judged = life(files, &table.logs, &head)?;
-    Ok(life_verdict(head, judged))
+    Ok(life_verdict(table, bytes, head, judged, tid, attrs, kept)?)
 }

@@ -1,5 +1,5 @@
 -- A page is the list of its 8192 bytes: its header, its rules, and its line pointers.
-use Rattle.std.specs.Prelude.{◌≡◌, ℕ, ◌+◌, ◌-◌, ◌*◌, ◌/◌, ◌%◌, ◌<◌, Bool, true, false, not, ◌==◌, ◌&&◌, ◌||◌, ◌⊎◌, nat_le, if◌then◌else◌, List, drop, take, Option, Some, None}
+use Rattle.std.specs.Prelude.{◌≡◌, ℕ, ◌+◌, ◌-◌, ◌*◌, ◌/◌, ◌%◌, ◌<◌, Bool, true, false, not, ◌==◌, ◌&&◌, ◌||◌, ◌⊎◌, nat_le, bit_and, if◌then◌else◌, List, drop, take, Option, Some, None}
 use Rattle.std.specs.List.{list_any}
 use Rattle.byteorder.specs.Endian.{little_number}
 use Rattle.page_layout.specs.declared.rules.Rule.{Rule}
@@ -17,6 +17,10 @@ u16_at bytes at = little_number 2 (drop at bytes)
 
 unfoldable pub u32_at : List ℕ → ℕ → ℕ
 u32_at bytes at = little_number 4 (drop at bytes)
+
+-- a bit of a word is set; of several bits, one of them
+unfoldable pub has_bit : ℕ → ℕ → Bool
+has_bit word bit = not (bit_and word bit == 0)
 
 -- the fields of the header
 abbrev pub flags_of : List ℕ → ℕ

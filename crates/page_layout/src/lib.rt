@@ -9,6 +9,6 @@ mod rules;
 #[cfg(test)]
 mod tests;
 
-pub use numbers::{u16_at, u32_at};
+pub use numbers::{has_bit, u16_at, u32_at};
 pub use page::{LineFlag, LinePtr, PageHeader, PageKind, PageView};
 pub use rules::Rule;

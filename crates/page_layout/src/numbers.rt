@@ -1,6 +1,6 @@
-// Numbers in bytes, the lowest byte first.
+// Numbers in bytes, the lowest byte first, and bits of numbers.
 ghost use Rattle.std.specs.Prelude.{◌≡◌, ◌+◌, ◌≤◌, length};
-ghost use Rattle.page_layout.specs.Page.{u16_at, u32_at};
+ghost use Rattle.page_layout.specs.Page.{has_bit, u16_at, u32_at};
 
 use byteorder::{ByteOrder, LittleEndian};
 
@@ -22,4 +22,14 @@ pub fn u32_at(bytes: &[u8], at: usize) -> u32
     ensures { result ≡ u32_at bytes.now at }
 {
     LittleEndian::read_u32(&bytes[at..])
+}
+
+/// Whether a bit of a word of flags is set. The bit is given by its value, as 0x0800; of several bits
+/// it says whether one of them is.
+#[inline]
+#[tactic(auto, unfolding(crate::specs::Page::has_bit))]
+pub fn has_bit(word: u16, bit: u16) -> bool
+    ensures { result ≡ has_bit word bit }
+{
+    word & bit != 0
 }

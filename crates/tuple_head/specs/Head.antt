@@ -1,6 +1,6 @@
 -- What the header of a heap tuple says. A word's bits are named as in access/htup_details.h, without their prefix HEAP_.
 use Rattle.std.specs.Prelude.{◌≡◌, ℕ, ◌+◌, ◌-◌, ◌*◌, ◌/◌, ◌≤◌, Bool, true, false, not, ◌==◌, ◌&&◌, ◌||◌, nat_le, nat_lt, bit_and, if◌then◌else◌, List, [], ◌∷◌, get_or, Option, find}
-use Rattle.page_layout.specs.Page.{u16_at, u32_at}
+use Rattle.page_layout.specs.Page.{has_bit, u16_at, u32_at}
 use Rattle.page_layout.specs.declared.rules.Rule.{Rule}
 use Rattle.page_layout.specs.declared.rules.Rule.TheVariants.{H4, H5, H6, H7, H8}
 use Rattle.tuple_head.specs.declared.HeapHead.{HeapHead}
@@ -20,10 +20,6 @@ tuple_head_of bytes = record {
 }
 
 -- THE TESTS
-
--- a bit of a word is set
-unfoldable pub has_bit : ℕ → ℕ → Bool
-has_bit word bit = not (bit_and word bit == 0)
 
 -- HASNULL: there are null bits
 unfoldable pub has_nulls : HeapHead → Bool

@@ -5,7 +5,7 @@
 #![tactic(auto)]
 
 ghost use Rattle.std.specs.Prelude.{◌≡◌, ◌<◌, ◌≤◌, length};
-ghost use Rattle.tuple_head.specs.Head.{has_bit, has_nulls, is_frozen, is_heap_only, is_hinted_invalid, is_hot_updated, is_locked_only, is_moved, is_multi, is_old_form, is_updated, is_xmax_committed, is_xmax_invalid, is_xmax_unfrozen, is_xmin_committed, natts_of, needs_freezing, seen_xmin, tuple_head_of};
+ghost use Rattle.tuple_head.specs.Head.{has_nulls, is_frozen, is_heap_only, is_hinted_invalid, is_hot_updated, is_locked_only, is_moved, is_multi, is_old_form, is_updated, is_xmax_committed, is_xmax_invalid, is_xmax_unfrozen, is_xmin_committed, natts_of, needs_freezing, seen_xmin, tuple_head_of};
 
 mod masks;
 mod rules;
@@ -13,7 +13,7 @@ mod rules;
 mod tests;
 
 use key_orders::Tid;
-use page_layout::{u16_at, u32_at};
+use page_layout::{has_bit, u16_at, u32_at};
 pub use rules::kept_rules_place_attributes;
 
 // The transaction that stands for the inserter of a frozen tuple.
@@ -60,15 +60,6 @@ pub fn heap_head(bytes: &[u8]) -> HeapHead
         infomask: u16_at(bytes, 20),
         hoff: bytes[22],
     }
-}
-
-// Whether a bit of a word is set.
-#[inline]
-#[tactic(auto, unfolding(crate::specs::Head::has_bit))]
-fn has_bit(word: u16, bit: u16) -> bool
-    ensures { result ≡ has_bit word bit }
-{
-    word & bit != 0
 }
 
 impl HeapHead {

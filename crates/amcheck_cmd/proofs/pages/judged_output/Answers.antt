@@ -6,12 +6,12 @@ use Rattle.amcheck_cmd.specs.Outcome.{reported}
 use Rattle.amcheck_cmd.proofs.pages.judged_output.Goals as goal
 
 -- a report that began empty, and then got the findings of all blocks
-of_all_blocks : (now start : Lists) (bytes : List ℕ) (len : ℕ) → now.findings ≡ start.findings ++ each_below (block_findings (Some bytes)) (len / 8192) → now.unjudged ≡ start.unjudged → start ≡ record { findings = []; unjudged = [] } → length bytes ≡ len → reported now ≡ reported (record { findings = file_findings (Some bytes); unjudged = [] })
+of_all_blocks : (now start : Lists) (bytes : List ℕ) (blocks : ℕ) → now.findings ≡ start.findings ++ each_below (block_findings (Some bytes)) blocks → now.unjudged ≡ start.unjudged → start ≡ record { findings = []; unjudged = [] } → length bytes / 8192 ≡ blocks → reported now ≡ reported (record { findings = file_findings (Some bytes); unjudged = [] })
 unfolding file_findings
-of_all_blocks now start bytes len judged closed none long = rw (judged, closed, none, ← long) refl
+of_all_blocks now start bytes blocks judged closed none count = rw (judged, closed, none, ← count) refl
 
 pub returns-clause-output : goal.returns-clause-output
 returns-clause-output g c names bytes told there =
-    let long : length bytes ≡ c.args.len = rw there at (c.requires.held names told) in
+    let count : length bytes / 8192 ≡ c.args.blocks = rw there at (c.requires names told) in
     c.in_ok-report_output.ensures
-    ∙ of_all_blocks _ _ bytes _ (c.in_ok-judge_blocks.ensures.findings names bytes told there) c.in_ok-judge_blocks.ensures.unjudged c.new-report.ensures long
+    ∙ of_all_blocks _ _ bytes _ (c.in_ok-judge_blocks.ensures.findings names bytes told there) c.in_ok-judge_blocks.ensures.unjudged c.new-report.ensures count

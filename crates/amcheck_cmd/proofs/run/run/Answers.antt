@@ -1,5 +1,5 @@
 use Rattle.std.proofs.Common.{◌≡◌, ℕ, ◌⊎◌, inl, inr, ◌∙◌, sym, arith}
-use Rattle.amcheck_cmd.proofs.FileLaws.{clean_code, finds_only_broken, sound_code}
+use Rattle.amcheck_cmd.proofs.FileLaws.{clean_code, finds_only_broken, sound_code, true_code}
 use Rattle.amcheck_cmd.proofs.run.run.Goals as goal
 
 pub returns-in-Ok-clause-found : goal.returns-in-Ok-clause-found
@@ -31,3 +31,8 @@ pub returns-in-Ok-clause-sound : goal.returns-in-Ok-clause-sound
 returns-in-Ok-clause-sound g c names told nought =
     let owed = rw c.command_of.ensures at (c.in-Ok.ensures.output names told) in
     sound_code _ names _ owed (not_eight _ _ nought c.write_output.ensures.codes)
+
+pub returns-in-Ok-clause-heap : goal.returns-in-Ok-clause-heap
+returns-in-Ok-clause-heap g c names told =
+    let owed = rw c.command_of.ensures at (c.in-Ok.ensures.output names told) in
+    true_code _ names _ owed _ (λ nought. not_eight _ _ nought c.write_output.ensures.codes)

@@ -7,6 +7,9 @@ pub loop-block-init : goal.loop-block-init
 loop-block-init g c = record {
   findings = λ names told. none_below _ _;
   doubts = λ names told. none_below _ _;
+  externals = λ names told. none_below _ _;
+  chunks = λ names told. none_below _ _;
+  hand = c.requires.hand;
   same = refl;
   later = omega arith;
 }
@@ -15,8 +18,11 @@ pub loop-block-preserved : goal.loop-block-preserved
 loop-block-preserved g c = record {
   findings = λ names told. one_more_below _ _ _ _ _ (c.loop-block.invariant.findings names told) (c.in_ok-judge_block.ensures.findings names (c.loop-block.invariant.same ∙ told));
   doubts = λ names told. one_more_below _ _ _ _ _ (c.loop-block.invariant.doubts names told) (c.in_ok-judge_block.ensures.doubts names (c.loop-block.invariant.same ∙ told));
+  externals = λ names told. one_more_below _ _ _ _ _ (c.loop-block.invariant.externals names told) (c.in_ok-judge_block.ensures.externals names (c.loop-block.invariant.same ∙ told));
+  chunks = λ names told. one_more_below _ _ _ _ _ (c.loop-block.invariant.chunks names told) (c.in_ok-judge_block.ensures.chunks names (c.loop-block.invariant.same ∙ told));
+  hand = λ names told. c.in_ok-judge_block.ensures.hand names (c.loop-block.invariant.same ∙ told);
   same = c.in_ok-judge_block.ensures.same ∙ c.loop-block.invariant.same;
-  later = omega (arith, c.in_ok-judge_block.ensures.cause.later);
+  later = omega (arith, c.in_ok-judge_block.ensures.cause.later, c.loop-block.invariant.later);
 }
 
 pub returns-in_err-judge_block-clause-findings : goal.returns-in_err-judge_block-clause-findings

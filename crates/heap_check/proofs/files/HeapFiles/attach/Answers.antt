@@ -1,12 +1,29 @@
-use Rattle.std.proofs.Common.{◌≤◌, arith}
-use Rattle.heap_check.proofs.Refusals.{attached_is_not_refused, refused_is_refusal}
+use Rattle.std.proofs.Common.{◌∙◌}
+use Rattle.std.proofs.lemmas.Result.{err_from_is_err_and}
+use Rattle.heap_check.specs.Heap.{heap_blocks}
+use Rattle.heap_check.proofs.Refusals.{heap_tells, none_tells, toast_tells}
 use Rattle.heap_check.proofs.files.HeapFiles.attach.Goals as goal
 
-pub returns-in-Ok-clause-refusal : goal.returns-in-Ok-clause-refusal
-returns-in-Ok-clause-refusal g c names told =
-    attached_is_not_refused c.args.case.now names _ (rw (c.heap_file.ensures, c.segment_blocks.ensures) at (c.in-Ok.ensures.told names told)) c.in-Ok.ensures.within
+pub returns-in_err-heap-clause-refusal : goal.returns-in_err-heap-clause-refusal
+returns-in_err-heap-clause-refusal g c names told =
+    let p = err_from_is_err_and c.from_residual.result c.from_residual.ensures.1 in
+    rw (p.1, p.2) (heap_tells c.args.case.now names _ _ _ c.heap_file.ensures c.segment_blocks-size.ensures (c.in_err-heap.ensures.refusal names told))
 
-pub returns-in-Err-clause-refusal : goal.returns-in-Err-clause-refusal
-returns-in-Err-clause-refusal g c names told =
-    let some : 1 ≤ c.args.case.now.segment_blocks = omega (arith, c.sound.ensures.segment_blocks) in
-    rw c.fault_of.ensures (refused_is_refusal c.args.case.now names _ some (rw (c.heap_file.ensures, c.segment_blocks.ensures) at (c.in-Err.ensures.refused names told)))
+pub returns-in_err-toast-clause-refusal : goal.returns-in_err-toast-clause-refusal
+returns-in_err-toast-clause-refusal g c names told =
+    let p = err_from_is_err_and c.from_residual-in_err-toast.result c.from_residual-in_err-toast.ensures.1 in
+    rw (p.1, p.2) (toast_tells c.args.case.now names _ _ _ c.heap_file.ensures c.segment_blocks-size.ensures (c.in_ok-heap.ensures.refusal names told) (c.in_err-toast.ensures.refusal names (c.in_ok-map.ensures.same ∙ (c.in_ok-heap.ensures.same ∙ told))))
+
+pub returns-clause-told : goal.returns-clause-told
+unfolding heap_blocks
+returns-clause-told g c names told = record {
+  heap = rw (c.heap_file.ensures, c.segment_blocks-size.ensures) at (c.in_ok-heap.ensures.told names told);
+  map =
+      let count = c.blocks-2.ensures ∙ (rw (c.heap_file.ensures, c.segment_blocks-size.ensures) at (c.in_ok-heap.ensures.told names told)).count in
+      rw (c.heap_file-2.ensures, c.segment_blocks-size.ensures, count) at (c.in_ok-map.ensures.told names (c.in_ok-heap.ensures.same ∙ told));
+  toast = c.in_ok-toast.ensures.told names (c.in_ok-map.ensures.same ∙ (c.in_ok-heap.ensures.same ∙ told));
+}
+
+pub returns-clause-refusal : goal.returns-clause-refusal
+returns-clause-refusal g c names told =
+    none_tells c.args.case.now names _ _ c.heap_file.ensures c.segment_blocks-size.ensures (c.in_ok-heap.ensures.refusal names told) (c.in_ok-toast.ensures.refusal names (c.in_ok-map.ensures.same ∙ (c.in_ok-heap.ensures.same ∙ told)))

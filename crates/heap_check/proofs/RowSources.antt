@@ -1,0 +1,164 @@
+-- What a quiet case says of the values of its rows.
+use Rattle.std.proofs.Common.{◌≡◌, ℕ, ◌-◌, ◌≤◌, Bool, true, false, List, [], ◌∷◌, ◌++◌, append_assoc, length, All, map, refl, ap, sym, subst, ◌∙◌}
+use Rattle.std.specs.Prelude.{◌==◌, ◌&&◌, ◌||◌, Result, Ok, Err, IfOk, OnErr, Option, Some, None}
+use Rattle.std.specs.List.{AllByRecursion}
+use Rattle.std.specs.Option.{option_copied}
+use Rattle.outside.specs.Outside.{Held, IfTold, Names}
+use Rattle.rel_files.specs.Relation.{size_of}
+use Rattle.rel_files.specs.declared.relation.Relation.{Relation}
+use Rattle.std.specs.Int.{is_in_range}
+use Rattle.std.proofs.lemmas.List.Elements.{All-from_recursion, All-map}
+use Rattle.key_orders.specs.declared.columns.ColType.{ColType}
+use Rattle.key_orders.specs.declared.columns.ColType.TheVariants as ctype
+use Rattle.case_file.specs.Record.{CaseRecord}
+use Rattle.case_file.specs.Sound.{IsSound, IsSoundColumn, is_sound_type}
+use Rattle.case_file.specs.declared.case.Column.{Column}
+use Rattle.varlena_attrs.specs.Shown.{HasAlignment}
+use Rattle.varlena_attrs.specs.declared.places.ToastPointer.{ToastPointer}
+use Rattle.toast_chunks.specs.Stored.{AllStand}
+use Rattle.toast_chunks.specs.declared.map.Chunk.{Chunk}
+use Rattle.heap_check.specs.Files.{IsToastIn, IsToastNamed}
+use Rattle.heap_check.specs.Heap.{chunks_of, heap_blocks}
+use Rattle.heap_check.specs.RowCursor.{AreRowsOf, IsPageDoneBy, case_of, heap_of, rows_left, rows_unread}
+use Rattle.heap_check.specs.RowPages.{AreValuesOf, IsFirst, IsInHand, rows_given, rows_in_hand}
+use Rattle.heap_check.specs.RowValues.{IsReadable, bytes_seen}
+use Rattle.heap_check.specs.Rows.{block_rows, bytes_in_toast, each_from, joined_bytes, toast_bytes}
+use Rattle.heap_check.specs.declared.row_page.RowPage.{RowPage}
+use Rattle.heap_check.specs.declared.row_values.RowValues.{RowValues}
+use Rattle.heap_check.specs.declared.rows.LiveRow.{LiveRow}
+use Rattle.heap_check.specs.declared.rows.LiveRows.{LiveRows}
+use Rattle.heap_check.proofs.Stand.{all_stand}
+
+-- COLUMNS
+
+or_true : (a b : Bool) → b ≡ true → a || b ≡ true
+or_true true b h = refl
+or_true false b h = h
+
+and_right : (a b : Bool) → a && b ≡ true → b ≡ true
+and_right true b h = h
+and_right false b h = cc
+
+sound_alignment : (c : ColType) → is_sound_type c ≡ true → HasAlignment c
+sound_alignment ctype.Bool h = refl
+sound_alignment ctype.Int2 h = refl
+sound_alignment ctype.Int4 h = refl
+sound_alignment ctype.Int8 h = refl
+sound_alignment ctype.Uuid h = refl
+sound_alignment ctype.Text h = refl
+sound_alignment ctype.Bytea h = refl
+sound_alignment (ctype.Fixed len align) h = and_right (is_in_range 1 8000 len) _ h
+sound_alignment (ctype.Varlena align) h = four_or_eight (align == 1) (align == 2) (align == 4) (align == 8) h
+  where
+    four_or_eight : (a b c d : Bool) → c || d ≡ true → a || b || c || d ≡ true
+    four_or_eight true b c d e = cc
+    four_or_eight false true c d e = cc
+    four_or_eight false false c d e = e
+
+pub columns_aligned : (case : CaseRecord) (types : List ColType) → IsSound case → types ≡ map (λ c. c.ctype) case.columns → All HasAlignment types
+columns_aligned case types sound are =
+    subst (λ (ts : List ColType). All HasAlignment ts) (sym are)
+    (All-map HasAlignment (λ (c : Column). c.ctype) case.columns (All-from_recursion (λ (c : Column). HasAlignment c.ctype) case.columns (each case.columns sound.columns)))
+  where
+    each : (columns : List Column) → AllByRecursion IsSoundColumn columns → AllByRecursion (λ (c : Column). HasAlignment c.ctype) columns
+    each [] h = tt
+    each (c ∷ cs) h = (sound_alignment c.ctype h.0.ctype, each cs h.1)
+
+-- THE TOAST TABLE
+
+pub readable_by : (case : CaseRecord) (names : Names) (t : Option (List ℕ × ℕ)) (r : Option Relation) (chunks : List Chunk) → case.toast ≡ t → IsToastIn names case.segment_blocks t r → IsToastNamed case.segment_blocks t r → chunks ≡ chunks_of case names → IsReadable names r chunks
+readable_by case names None None chunks is attached named are = tt
+readable_by case names (Some t) (Some r) chunks is attached named are =
+    (attached.attached, subst (λ (cs : List Chunk). AllStand names r cs) (sym are) (all_stand case names t r is attached named))
+readable_by case names None (Some r) chunks is attached named are = absurd attached
+readable_by case names (Some t) None chunks is attached named are = absurd attached
+
+-- the bytes of a pointer in the TOAST table that was attached
+pub bytes_by : (case : CaseRecord) (names : Names) (t : Option (List ℕ × ℕ)) (r : Option Relation) (chunks : List Chunk) (p : ToastPointer) → case.toast ≡ t → IsToastNamed case.segment_blocks t r → chunks ≡ chunks_of case names → bytes_seen names r chunks p ≡ toast_bytes case names p
+unfolding toast_bytes
+bytes_by case names None None chunks p is named are = sym (ap (λ (o : Option (List ℕ × ℕ)). bytes_in_toast names case.segment_blocks (chunks_of case names) o p) is)
+bytes_by case names (Some t) (Some r) chunks p is named are =
+    ap (λ (f : List ℕ). joined_bytes names f (size_of r) chunks p) named.named
+    ∙ ap (λ (n : ℕ). joined_bytes names t.0 n chunks p) named.sized
+    ∙ ap (λ (cs : List Chunk). joined_bytes names t.0 case.segment_blocks cs p) are
+    ∙ sym (ap (λ (o : Option (List ℕ × ℕ)). bytes_in_toast names case.segment_blocks (chunks_of case names) o p) is)
+bytes_by case names None (Some r) chunks p is named are = absurd named
+bytes_by case names (Some t) None chunks p is named are = absurd named
+
+pub readable : (names : Names) (rows : LiveRows) (toast : Option Relation) → toast ≡ (heap_of rows).files.toast → AreRowsOf names rows → IsReadable names toast (heap_of rows).chunks
+readable names rows toast is are =
+    subst (λ (t : Option Relation). IsReadable names t (heap_of rows).chunks) (sym is)
+    (readable_by (case_of rows) names _ (heap_of rows).files.toast (heap_of rows).chunks refl are.heap.files.toast are.belong.toast are.heap.chunks)
+
+pub values_are : (names : Names) (rows : LiveRows) (values : RowValues) → option_copied values.toast ≡ (heap_of rows).files.toast → values.chunks.now ≡ (heap_of rows).chunks → values.columns.now ≡ (case_of rows).columns → AreRowsOf names rows → AreValuesOf (case_of rows) names values
+values_are names rows values toast chunks columns are = record {
+  columns = columns;
+  bytes = λ p.
+      ap (λ (t : Option Relation). bytes_seen names t values.chunks.now p) toast
+      ∙ bytes_by (case_of rows) names _ (heap_of rows).files.toast values.chunks.now p refl are.belong.toast (chunks ∙ are.heap.chunks);
+}
+
+-- THE PAGE IN HAND OF A CURSOR
+
+pub left_is : (names : Names) (rows : LiveRows) → rows_left names rows ≡ rows_in_hand (case_of rows) names rows.page ++ each_from (block_rows (case_of rows) names) rows.next (heap_blocks (case_of rows) names - rows.next)
+unfolding rows_left rows_unread
+left_is names rows = refl
+
+-- the cursor with another page in hand
+pub moved : (names : Names) (rows : LiveRows) (page : RowPage) (next : ℕ) → AreRowsOf names rows → length page.work.states.items ≤ 2042 → IsInHand (case_of rows) names (heap_of rows).files.toast (heap_of rows).chunks page → AreRowsOf names (record { case = rows.case; heap = rows.heap; logs = rows.logs; page = page; next = next })
+moved names rows page next are few hand = record {
+  heap = are.heap;
+  belong = are.belong;
+  quiet = are.quiet;
+  logs = are.logs;
+  few = few;
+  hand = hand;
+}
+
+given_first : (found : Option LiveRow) (before after : List LiveRow) → IsFirst found before after → before ≡ rows_given found ++ after
+given_first (Some row) before after first = first
+given_first None before after first = first.0 ∙ sym first.1
+
+given_left : (names : Names) (old new : LiveRows) (found : Option LiveRow) → new.next ≡ old.next → case_of new ≡ case_of old → rows_in_hand (case_of old) names old.page ≡ rows_given found ++ rows_in_hand (case_of old) names new.page → rows_left names old ≡ rows_given found ++ rows_left names new
+given_left names old new found next case gives =
+    let unread : List LiveRow = each_from (block_rows (case_of old) names) old.next (heap_blocks (case_of old) names - old.next) in
+    let same : rows_left names new ≡ rows_in_hand (case_of old) names new.page ++ unread =
+    left_is names new
+    ∙ ap (λ (c : CaseRecord). rows_in_hand c names new.page ++ each_from (block_rows c names) new.next (heap_blocks c names - new.next)) case
+    ∙ ap (λ (k : ℕ). rows_in_hand (case_of old) names new.page ++ each_from (block_rows (case_of old) names) k (heap_blocks (case_of old) names - k)) next in
+    left_is names old
+    ∙ ap (λ (xs : List LiveRow). xs ++ unread) gives
+    ∙ append_assoc (rows_given found) (rows_in_hand (case_of old) names new.page) unread
+    ∙ ap (λ (xs : List LiveRow). rows_given found ++ xs) (sym same)
+
+-- a row of the page in hand was given, or none is left there
+pub given_by : {E : Type 0} (result : Result (Option LiveRow) E) (held : Held) (old new : LiveRows) → new.next ≡ old.next → case_of new ≡ case_of old → IfOk result (λ found. IfTold held (λ names. IsFirst found (rows_in_hand (case_of old) names old.page) (rows_in_hand (case_of old) names new.page))) → IfOk result (λ found. IfTold held (λ names. rows_left names old ≡ rows_given found ++ rows_left names new))
+given_by (Ok found) held old new next case first = λ names told. given_left names old new found next case (given_first found _ _ (first names told))
+given_by (Err e) held old new next case first = tt
+
+page_done : (names : Names) (old new : LiveRows) (found : Option LiveRow) → case_of new ≡ case_of old → IsFirst found (rows_in_hand (case_of old) names old.page) (rows_in_hand (case_of old) names new.page) → IsPageDoneBy names found new
+page_done names old new (Some row) case first = tt
+page_done names old new None case first = ap (λ (c : CaseRecord). rows_in_hand c names new.page) case ∙ first.1
+
+pub done_by : {E : Type 0} (result : Result (Option LiveRow) E) (held : Held) (old new : LiveRows) → case_of new ≡ case_of old → IfOk result (λ found. IfTold held (λ names. IsFirst found (rows_in_hand (case_of old) names old.page) (rows_in_hand (case_of old) names new.page))) → IfOk result (λ found. IfTold held (λ names. IsPageDoneBy names found new))
+done_by (Ok found) held old new case first = λ names told. page_done names old new found case (first names told)
+done_by (Err e) held old new case first = tt
+
+pub kept_by : {E : Type 0} (result : Result (Option LiveRow) E) (held : Held) (old new : LiveRows) → new.next ≡ old.next → case_of new ≡ case_of old → OnErr result (IfTold held (λ names. rows_in_hand (case_of old) names new.page ≡ rows_in_hand (case_of old) names old.page)) → OnErr result (IfTold held (λ names. rows_left names new ≡ rows_left names old))
+kept_by (Ok found) held old new next case left = tt
+kept_by (Err e) held old new next case left = λ names told. sym (given_left names old new None next case (sym (left names told)))
+
+-- what was told of the call on the page, for a cursor
+pub first_told : {E : Type 0} (result : Result (Option LiveRow) E) (held : Held) (old : LiveRows) (new : RowPage) (values : RowValues) → option_copied values.toast ≡ (heap_of old).files.toast → values.chunks.now ≡ (heap_of old).chunks → values.columns.now ≡ (case_of old).columns → IfTold held (λ names. AreRowsOf names old) → IfOk result (λ found. IfTold held (λ names. (case : CaseRecord) → IsInHand case names (option_copied values.toast) values.chunks.now old.page → AreValuesOf case names values → length old.page.work.states.items ≤ 2042 → IsFirst found (rows_in_hand case names old.page) (rows_in_hand case names new))) → IfOk result (λ found. IfTold held (λ names. IsFirst found (rows_in_hand (case_of old) names old.page) (rows_in_hand (case_of old) names new)))
+first_told (Ok found) held old new values toast chunks columns are first = λ names told.
+    let here = are names told in
+    let hand = subst (λ (t : Option Relation). IsInHand (case_of old) names t values.chunks.now old.page) (sym toast) (subst (λ (cs : List Chunk). IsInHand (case_of old) names (heap_of old).files.toast cs old.page) (sym chunks) here.hand) in
+    first names told (case_of old) hand (values_are names old values toast chunks columns here) here.few
+first_told (Err e) held old new values toast chunks columns are first = tt
+
+pub left_told : {E : Type 0} (result : Result (Option LiveRow) E) (held : Held) (old : LiveRows) (new : RowPage) (values : RowValues) → option_copied values.toast ≡ (heap_of old).files.toast → values.chunks.now ≡ (heap_of old).chunks → values.columns.now ≡ (case_of old).columns → IfTold held (λ names. AreRowsOf names old) → OnErr result (IfTold held (λ names. (case : CaseRecord) → IsInHand case names (option_copied values.toast) values.chunks.now old.page → AreValuesOf case names values → length old.page.work.states.items ≤ 2042 → rows_in_hand case names new ≡ rows_in_hand case names old.page)) → OnErr result (IfTold held (λ names. rows_in_hand (case_of old) names new ≡ rows_in_hand (case_of old) names old.page))
+left_told (Ok found) held old new values toast chunks columns are left = tt
+left_told (Err e) held old new values toast chunks columns are left = λ names told.
+    let here = are names told in
+    let hand = subst (λ (t : Option Relation). IsInHand (case_of old) names t values.chunks.now old.page) (sym toast) (subst (λ (cs : List Chunk). IsInHand (case_of old) names (heap_of old).files.toast cs old.page) (sym chunks) here.hand) in
+    left names told (case_of old) hand (values_are names old values toast chunks columns here) here.few

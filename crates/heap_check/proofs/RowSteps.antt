@@ -1,0 +1,148 @@
+-- What is left of the rows, step by step.
+use Rattle.std.proofs.Common.{◌≡◌, ℕ, zero, suc, ◌+◌, ◌-◌, ◌<◌, ◌≤◌, List, [], ◌++◌, All, Bool, true, false, length, map, refl, ap, sym, subst, ◌∙◌, arith, add-one, add-zero, append-nil, append_assoc}
+use Rattle.std.specs.Prelude.{Option, Some, None, IsSome}
+use Rattle.std.specs.Option.{is_some}
+use Rattle.outside.specs.Outside.{Names}
+use Rattle.case_file.specs.Record.{CaseRecord}
+use Rattle.liveness.specs.declared.states.ItemState.{ItemState}
+use Rattle.rel_files.specs.declared.relation.Relation.{Relation}
+use Rattle.toast_chunks.specs.declared.map.Chunk.{Chunk}
+use Rattle.hot_chains.specs.Table.{AreChains}
+use Rattle.hot_chains.specs.declared.table.Chains.{Chains}
+use Rattle.heap_check.specs.Below.{each_below, each_below-next, each_below-none, each_upto, each_upto-next, each_upto-none}
+use Rattle.heap_check.specs.Heap.{heap_blocks}
+use Rattle.hot_chains.specs.Chains.{is_live_tuple, item_at}
+use Rattle.heap_check.specs.Heap.{table_of}
+use Rattle.heap_check.specs.Kept.{live_attributes, states_of}
+use Rattle.heap_check.specs.RowCursor.{rows_left, rows_unread}
+use Rattle.heap_check.specs.RowPages.{HasAttributes, IsFirst, IsInHand, IsSamePage, rows_given, rows_in_hand}
+use Rattle.heap_check.specs.RowValues.{IsThere}
+use Rattle.heap_check.specs.Verdicts.{item_verdict}
+use Rattle.heap_check.specs.declared.verdict.ItemVerdict.TheVariants.{Passes}
+use Rattle.heap_check.specs.Rows.{block_rows, each_from, item_rows, rows_of}
+use Rattle.heap_check.specs.declared.row_page.RowPage.{RowPage}
+use Rattle.heap_check.specs.declared.rows.LiveRow.{LiveRow}
+use Rattle.heap_check.specs.declared.rows.LiveRows.{LiveRows}
+
+-- PLACES FROM ONE ON
+
+pub each_from-none : {X : Type 0} (f : ℕ → List X) (k : ℕ) → each_from f k 0 ≡ []
+unfolding each_from
+each_from-none f k = refl
+
+pub each_from-next : {X : Type 0} (f : ℕ → List X) (k n : ℕ) → each_from f k (n + 1) ≡ f k ++ each_from f (k + 1) n
+unfolding each_from
+each_from-next f k n = rw (add-one, add-one) refl
+
+-- the places before k, and those from k on
+below_from : {X : Type 0} (f : ℕ → List X) (k n : ℕ) → each_below f k ++ each_from f k n ≡ each_below f (k + n)
+unfolding each_from
+below_from f k zero = rw (append-nil, add-zero) refl
+below_from f k (suc n) =
+    sym (append_assoc (each_below f k) (f k) (each_from f (suc k) n))
+    ∙ ap (λ xs. xs ++ each_from f (suc k) n) (sym (each_below-next f k) ∙ ap (each_below f) (omega arith))
+    ∙ below_from f (suc k) n
+    ∙ ap (each_below f) (omega arith)
+
+pub all_below : {X : Type 0} (f : ℕ → List X) (n : ℕ) → each_from f 0 n ≡ each_below f n
+all_below f n = ap (λ xs. xs ++ each_from f 0 n) (sym (each_below-none f)) ∙ below_from f 0 n ∙ ap (each_below f) (omega arith)
+
+upto_from : {X : Type 0} (f : ℕ → List X) (k n : ℕ) → each_upto f k ++ each_from f (k + 1) n ≡ each_upto f (k + n)
+unfolding each_from
+upto_from f k zero = rw (append-nil, add-zero) refl
+upto_from f k (suc n) =
+    sym (append_assoc (each_upto f k) (f (k + 1)) (each_from f (suc (k + 1)) n))
+    ∙ ap (λ xs. xs ++ each_from f (suc (k + 1)) n) (sym (each_upto-next f k))
+    ∙ ap (λ (j : ℕ). each_upto f (k + 1) ++ each_from f j n) (omega arith)
+    ∙ upto_from f (k + 1) n
+    ∙ ap (each_upto f) (omega arith)
+
+pub all_upto : {X : Type 0} (f : ℕ → List X) (n : ℕ) → each_from f 1 n ≡ each_upto f n
+all_upto f n = ap (λ xs. xs ++ each_from f 1 n) (sym (each_upto-none f)) ∙ upto_from f 0 n ∙ ap (each_upto f) (omega arith)
+
+-- THE PAGE IN HAND
+
+rows_by_parts : CaseRecord → Names → ℕ → List ℕ → List ItemState → ℕ → List LiveRow
+rows_by_parts case names block bytes states done = each_from (item_rows case names block bytes) (done + 1) (length states - done)
+
+parts_done : (case : CaseRecord) (names : Names) (block : ℕ) (bytes : List ℕ) (states : List ItemState) (done : ℕ) → length states ≤ done → rows_by_parts case names block bytes states done ≡ []
+unfolding rows_by_parts
+parts_done case names block bytes states done le =
+    ap (λ (n : ℕ). each_from (item_rows case names block bytes) (done + 1) n) (omega (arith, le)) ∙ each_from-none (item_rows case names block bytes) (done + 1)
+
+parts_next : (case : CaseRecord) (names : Names) (block : ℕ) (bytes : List ℕ) (states : List ItemState) (done : ℕ) → done < length states → rows_by_parts case names block bytes states done ≡ item_rows case names block bytes (done + 1) ++ rows_by_parts case names block bytes states (done + 1)
+unfolding rows_by_parts
+parts_next case names block bytes states done lt =
+    ap (λ (n : ℕ). each_from (item_rows case names block bytes) (done + 1) n) (omega (arith, lt))
+    ∙ each_from-next (item_rows case names block bytes) (done + 1) (length states - (done + 1))
+
+parts_are : (case : CaseRecord) (names : Names) (page : RowPage) → rows_in_hand case names page ≡ rows_by_parts case names page.block page.bytes page.work.states.items page.done
+unfolding rows_by_parts rows_in_hand
+parts_are case names page = refl
+
+-- a page that was looked at, with so many items done
+in_hand_at : (case : CaseRecord) (names : Names) (old new : RowPage) (done : ℕ) → IsSamePage old new → new.done ≡ done → rows_in_hand case names new ≡ rows_by_parts case names old.block old.bytes old.work.states.items done
+in_hand_at case names old new done same at =
+    parts_are case names new
+    ∙ ap (λ (b : ℕ). rows_by_parts case names b new.bytes new.work.states.items new.done) same.block
+    ∙ ap (λ (p : List ℕ). rows_by_parts case names old.block p new.work.states.items new.done) same.bytes
+    ∙ ap (λ (s : List ItemState). rows_by_parts case names old.block old.bytes s new.done) same.states
+    ∙ ap (λ (d : ℕ). rows_by_parts case names old.block old.bytes old.work.states.items d) at
+
+-- where all items are done, no row of the page is left
+pub in_hand_done : (case : CaseRecord) (names : Names) (page : RowPage) → length page.work.states.items ≤ page.done → rows_in_hand case names page ≡ []
+in_hand_done case names page le = parts_are case names page ∙ parts_done case names page.block page.bytes page.work.states.items page.done le
+
+-- a page of which as many items are done
+pub in_hand_same : (case : CaseRecord) (names : Names) (old new : RowPage) → IsSamePage old new → new.done ≡ old.done → rows_in_hand case names new ≡ rows_in_hand case names old
+in_hand_same case names old new same at = in_hand_at case names old new old.done same at ∙ sym (parts_are case names old)
+
+-- and one of which one more is done
+pub in_hand_next : (case : CaseRecord) (names : Names) (old new : RowPage) (found : Option LiveRow) → IsSamePage old new → new.done ≡ old.done + 1 → old.done < length old.work.states.items → rows_given found ≡ item_rows case names old.block old.bytes (old.done + 1) → rows_in_hand case names old ≡ rows_given found ++ rows_in_hand case names new
+in_hand_next case names old new found same at lt gives =
+    parts_are case names old
+    ∙ parts_next case names old.block old.bytes old.work.states.items old.done lt
+    ∙ ap (λ (xs : List LiveRow). xs ++ rows_by_parts case names old.block old.bytes old.work.states.items (old.done + 1)) (sym gives)
+    ∙ ap (λ (xs : List LiveRow). rows_given found ++ xs) (sym (in_hand_at case names old new (old.done + 1) same at))
+
+pub same_as : (a b c : RowPage) → IsSamePage a b → IsSamePage b c → IsSamePage a c
+same_as a b c first second = record {
+  block = second.block ∙ first.block;
+  bytes = second.bytes ∙ first.bytes;
+  states = second.states ∙ first.states;
+  chains = second.chains ∙ first.chains;
+}
+
+-- what is known of a page is known of it later
+pub known_same : (case : CaseRecord) (names : Names) (toast : Option Relation) (chunks : List Chunk) (old new : RowPage) → IsSamePage old new → IsInHand case names toast chunks old → IsInHand case names toast chunks new
+known_same case names toast chunks old new same known = λ i first last.
+    let here = known i first (subst (λ (s : List ItemState). i ≤ length s) same.states last) in
+    record {
+      states = same.states ∙ here.states ∙ ap (λ (p : List ℕ). states_of (table_of case names) p) (sym same.bytes);
+      chains = subst (λ (c : Chains). AreChains new.block new.work.states.items c) (sym same.chains) (subst (λ (s : List ItemState). AreChains new.block s old.work.chains) (sym same.states) (subst (λ (b : ℕ). AreChains b old.work.states.items old.work.chains) (sym same.block) here.chains));
+      verdict = ap (λ (p : List ℕ). item_verdict (table_of case names) p i) same.bytes ∙ here.verdict ∙ ap (λ (s : List ItemState). Passes (item_at s i)) (sym same.states);
+      attributes = subst (λ (s : List ItemState). is_live_tuple (item_at s i) ≡ true → HasAttributes (map (λ c. c.ctype) case.columns) new.bytes i (live_attributes (table_of case names) new.bytes i)) (sym same.states) (subst (λ (p : List ℕ). is_live_tuple (item_at old.work.states.items i) ≡ true → HasAttributes (map (λ c. c.ctype) case.columns) p i (live_attributes (table_of case names) p i)) (sym same.bytes) here.attributes);
+      values = subst (λ (s : List ItemState). is_live_tuple (item_at s i) ≡ true → All (IsThere toast chunks) (live_attributes (table_of case names) new.bytes i)) (sym same.states) (subst (λ (p : List ℕ). is_live_tuple (item_at old.work.states.items i) ≡ true → All (IsThere toast chunks) (live_attributes (table_of case names) p i)) (sym same.bytes) here.values);
+    }
+
+none_some : ◌≡◌ {A = Bool} false true → ⊥
+none_some e = cc
+
+pub none_given : (found : Option LiveRow) → is_some found ≡ false → rows_given found ≡ []
+none_given None none = refl
+none_given (Some row) none = cc
+
+-- no row so far, and then one, or none
+pub first_by : (found : Option LiveRow) (before here after : List LiveRow) → before ≡ here → here ≡ rows_given found ++ after → IsSome found → IsFirst found before after
+first_by (Some r) before here after same is some = same ∙ is
+first_by None before here after same is some = absurd (none_some some)
+
+-- NO ROW IS LEFT
+
+pub first_rows : (names : Names) (rows : LiveRows) → rows.page.work.states.items ≡ [] → rows.next ≡ 0 → rows_left names rows ≡ rows_of rows.case.now names
+unfolding rows_left rows_unread rows_of
+first_rows names rows none next =
+    ap (λ (xs : List LiveRow). xs ++ each_from (block_rows rows.case.now names) rows.next (heap_blocks rows.case.now names - rows.next)) (in_hand_done rows.case.now names rows.page (omega (arith, ap length none)))
+    ∙ ap (λ (k : ℕ). each_from (block_rows rows.case.now names) k (heap_blocks rows.case.now names - k)) next
+    ∙ ap (λ (n : ℕ). each_from (block_rows rows.case.now names) 0 n) (omega arith)
+    ∙ all_below (block_rows rows.case.now names) (heap_blocks rows.case.now names)

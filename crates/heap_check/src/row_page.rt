@@ -1,0 +1,374 @@
+// The page of a heap from which rows are taken.
+ghost use Rattle.std.specs.Prelude.{◌≡◌, ◌<◌, ◌≤◌, [], List, ℕ, All, false, length, map, Ok, Some, IfOk, IfSome, OnErr, OnOk};
+ghost use Rattle.std.specs.Option.{option_copied};
+ghost use Rattle.outside.specs.Outside.{Causes, IfTold};
+ghost use Rattle.rel_files.specs.Relation.{IsAttached, base_of, count_of, size_of};
+ghost use Rattle.rel_files.specs.Blocks.{block_of};
+ghost use Rattle.page_layout.specs.Page.{item_of};
+ghost use Rattle.tuple_head.specs.Head.{has_misplaced_attributes, tuple_head_of};
+ghost use Rattle.varlena_attrs.specs.Forms.{Attribute};
+ghost use Rattle.varlena_attrs.specs.Shown.{HasAlignment, IsWithin, shown_in};
+ghost use Rattle.varlena_attrs.specs.Tuples.{attributes_in};
+ghost use Rattle.liveness.specs.declared.states.ItemState.{ItemState as State};
+ghost use Rattle.hot_chains.specs.Chains.{is_live_tuple};
+ghost use Rattle.hot_chains.specs.Table.{AreChains};
+ghost use Rattle.toast_chunks.specs.Stored.{tuple_at};
+ghost use Rattle.case_file.specs.Record.{CaseRecord};
+ghost use Rattle.heap_check.specs.RowPages.{AreStates, HasAttributes, IsRead, IsRow, IsTupleAt, rows_given};
+ghost use Rattle.heap_check.specs.RowValues.{IsReadable, IsThere, bytes_seen};
+ghost use Rattle.heap_check.specs.Rows.{cells_of, item_rows, root_item};
+ghost use Rattle.heap_check.specs.Tables.{table_seen};
+
+use crate::fault::RowFault;
+use crate::items::judge_items;
+use crate::kept::Kept;
+use crate::row_cells::Cells;
+use crate::row_values::{RowValues, cells_of};
+use crate::rows::LiveRow;
+use crate::table::TableRules;
+use crate::work::Work;
+use hot_chains::Chains;
+use key_orders::{ColType, Tid};
+use liveness::{ItemState, Life};
+use outside::{Files, NoMemory};
+use page_layout::{PageKind, PageView};
+use rel_files::Relation;
+use reports::Report;
+use std::alloc::Global;
+use tuple_head::heap_head;
+use varlena_attrs::{AttrBuffer, AttrFault};
+
+// How many items a page may have.
+const MAX_ITEMS: usize = 2042;
+
+// The bytes of an item of a page, where they can be those of a tuple.
+#[tactic(auto, unfolding(page_layout::specs::Page::header_of))]
+fn tuple_at(page: &[u8; 8192], item: u16) -> Option<&[u8]>
+    ensures tuple { IsTupleAt page.now item → option_copied result ≡ Some (tuple_at page.now item) }
+    ensures long { IfSome result (λ tuple. 24 ≤ length tuple.now) }
+    ensures len { IfSome result (λ tuple. length tuple.now ≡ (item_of page.now item).len) }
+{
+    let view = PageView::new(page);
+    if view.page_rule(PageKind::Heap).is_some() || item == 0 || view.item_count() < item {
+        return None;
+    }
+    let pointer = view.item(item);
+    if !pointer.flag.is_normal() {
+        return None;
+    }
+    if pointer.is_misplaced_heap_item(view.header().upper) {
+        return None;
+    }
+    Some(view.piece(pointer.off, pointer.len))
+}
+
+// Reads the attributes of a tuple, if they can be read, and gives its body.
+fn read_attributes<'p>(
+    columns: &[ColType],
+    tuple: &'p [u8],
+    attrs: &mut AttrBuffer,
+) -> Result<Option<&'p [u8]>, NoMemory>
+    requires long { 24 ≤ length tuple.now }
+    requires aligned { All HasAlignment columns.now }
+    ensures value { IfOk result (λ found. IfSome found (λ body. attributes_in columns.now tuple.now ≡ Ok (shown_in body.now attrs.new))) }
+    ensures within { IfOk result (λ found. IfSome found (λ body. All (IsWithin (length body.now)) attrs.new)) }
+    ensures read { IfOk result (λ found. has_misplaced_attributes (length tuple.now) (tuple_head_of tuple.now) ≡ false → IsRead columns.now tuple.now (option_copied found)) }
+{
+    let head = heap_head(tuple);
+    let hoff = head.hoff as usize;
+    if hoff < 23 || tuple.len() < hoff {
+        return Ok(None);
+    }
+    match attrs.read_tuple(columns, tuple, head) {
+        Ok(body) => Ok(Some(body)),
+        Err(AttrFault::NoMemory) => Err(NoMemory),
+        Err(_) => Ok(None),
+    }
+}
+
+// The cells of the tuple at an item of a page; none where they can't be read, which can't be of a live
+// tuple of a sound heap.
+fn cells_at<F: Files>(
+    alloc: Global,
+    files: &mut F,
+    values: &RowValues<'_>,
+    columns: &[ColType],
+    page: &[u8; 8192],
+    item: u16,
+    attrs: &mut AttrBuffer,
+) -> Result<Option<Cells>, RowFault>
+    requires readable { IfTold (F.held files.old) (λ names. IsReadable names (option_copied values.now.toast) values.now.chunks.now) }
+    requires columns { columns.now ≡ map (λ c. c.ctype) values.now.columns.now }
+    requires aligned { All HasAlignment columns.now }
+    ensures told { IfOk result (λ found. IfTold (F.held files.old) (λ names. (list : List Attribute)
+        → HasAttributes columns.now page.now item list → All (IsThere (option_copied values.now.toast) values.now.chunks.now) list
+        → found ≡ Some (cells_of (bytes_seen names (option_copied values.now.toast) values.now.chunks.now) values.now.columns.now list))) }
+    ensures each { IfOk result (λ found. IfSome found (λ cells. length cells ≡ length values.now.columns.now)) }
+    ensures same { F.held files.new ≡ F.held files.old }
+    ensures cause { Causes (F.faults files.old) (F.faults files.new) result RowFault.ReadFault }
+{
+    let Some(tuple) = tuple_at(page, item) else {
+        return Ok(None);
+    };
+    let Some(body) = read_attributes(columns, tuple, attrs)? else {
+        return Ok(None);
+    };
+    cells_of(alloc, files, values, body, attrs.as_slice())
+}
+
+/// The page of a heap that is in hand, with what is known of its items: one state for each, or none at
+/// all where no page is in hand or something is found of the page.
+#[derive(Drop)]
+pub(crate) struct RowPage {
+    /// Its block.
+    pub(crate) block: u32,
+    pub(crate) bytes: [u8; 8192],
+    /// The states of its items and their chains.
+    pub(crate) work: Work,
+    /// How many of its items are done.
+    pub(crate) done: u16,
+}
+
+// Whether an item is a live tuple.
+fn is_live(state: ItemState) -> bool
+    ensures { result ≡ is_live_tuple state }
+{
+    match state {
+        ItemState::Tuple { judged, .. } => judged.life == Life::Live,
+        ItemState::Unused | ItemState::Dead | ItemState::Redirect(_) => false,
+    }
+}
+
+// The lowest root from which an item is found, or the item itself where there is none, which can't be of
+// a live tuple of a sound heap.
+#[tactic(auto, unfolding(hot_chains::specs::Table::root_in))]
+fn root_item(chains: &Chains, item: u16) -> u16
+    requires { 1 ≤ item }
+    ensures root { (block : ℕ) (items : List State) → item ≤ length items → AreChains block items chains.now → result ≡ root_item block items item }
+    ensures some { 1 ≤ result }
+{
+    if chains.len() < item as usize {
+        return item;
+    }
+    match chains.root_of(item) {
+        Some(root) => root,
+        None => item,
+    }
+}
+
+// Finds the states of the items of a page; none at all where something is found of the page, which
+// can't be in a sound heap.
+fn find_states<F: Files>(
+    alloc: Global,
+    files: &mut F,
+    table: &TableRules<'_>,
+    page: &[u8; 8192],
+    block: u32,
+    work: &mut Work,
+) -> Result<(), RowFault>
+    requires few { length table.now.columns.now ≤ 64 }
+    requires aligned { All HasAlignment table.now.columns.now }
+    ensures states { OnOk result (IfTold (F.held files.old) (λ names. AreStates (table_seen names table.now) block page.now work.new.states.items)) }
+    ensures most { OnOk result (length work.new.states.items ≤ 2042) }
+    ensures same { F.held files.new ≡ F.held files.old }
+    ensures cause { Causes (F.faults files.old) (F.faults files.new) result RowFault.ReadFault }
+{
+    work.cells.clear();
+    work.states.clear();
+    let view = PageView::new(page);
+    if view.page_rule(PageKind::Heap).is_some() {
+        return Ok(());
+    }
+    let count = view.item_count() as usize;
+    let mut kept = Kept::new(alloc);
+    let mut report = Report::new(alloc);
+    judge_items(files, table, view, block, work, &mut kept, &mut report)?;
+    if report.counts() != (0, 0) || work.states.len() != count {
+        work.states.clear();
+    }
+    Ok(())
+}
+
+impl RowPage {
+    ghost use Rattle.heap_check.specs.RowPages.{AreValuesOf, IsFirst, IsInHand, IsKnown, IsSamePage, rows_in_hand};
+
+    /// No page is in hand.
+    pub(crate) fn new(alloc: Global) -> Result<RowPage, NoMemory>
+        ensures { IfOk result (λ page. page.work.states.items ≡ []) }
+    {
+        Ok(RowPage {
+            block: 0,
+            bytes: [0u8; 8192],
+            work: Work::new(alloc)?,
+            done: 0,
+        })
+    }
+
+    // Reads a block of the heap, and finds the states and the chains of its items.
+    fn read<F: Files>(
+        &mut self,
+        alloc: Global,
+        files: &mut F,
+        table: &TableRules<'_>,
+        heap: &Relation,
+        block: u32,
+    ) -> Result<(), RowFault>
+        requires few { length table.now.columns.now ≤ 64 }
+        requires aligned { All HasAlignment table.now.columns.now }
+        requires attached { IfTold (F.held files.old) (λ names. IsAttached names heap.now) }
+        requires inside { block < count_of heap.now }
+        ensures block { OnOk result (self.new.block ≡ block) }
+        ensures done { OnOk result (self.new.done ≡ 0) }
+        ensures bytes { OnOk result (IfTold (F.held files.old) (λ names. self.new.bytes ≡ block_of names (base_of heap.now) (size_of heap.now) block)) }
+        ensures states { OnOk result (IfTold (F.held files.old) (λ names. AreStates (table_seen names table.now) block self.new.bytes self.new.work.states.items)) }
+        ensures chains { OnOk result (AreChains block self.new.work.states.items self.new.work.chains) }
+        ensures few { OnOk result (length self.new.work.states.items ≤ 2042) }
+        ensures same { F.held files.new ≡ F.held files.old }
+        ensures cause { Causes (F.faults files.old) (F.faults files.new) result RowFault.ReadFault }
+    {
+        self.block = block;
+        self.done = 0;
+        heap.read_block(files, block, &mut self.bytes)?;
+        find_states(alloc, files, table, &self.bytes, block, &mut self.work)?;
+        self.work.chains.fill(block, &self.work.states)?;
+        Ok(())
+    }
+
+    /// Takes a block of the heap in hand: reads it, and judges its items. After an error no page is in
+    /// hand.
+    pub(crate) fn take<F: Files>(
+        &mut self,
+        alloc: Global,
+        files: &mut F,
+        table: &TableRules<'_>,
+        heap: &Relation,
+        block: u32,
+    ) -> Result<(), RowFault>
+        requires few { length table.now.columns.now ≤ 64 }
+        requires aligned { All HasAlignment table.now.columns.now }
+        requires attached { IfTold (F.held files.old) (λ names. IsAttached names heap.now) }
+        requires inside { block < count_of heap.now }
+        ensures block { OnOk result (self.new.block ≡ block) }
+        ensures done { OnOk result (self.new.done ≡ 0) }
+        ensures bytes { OnOk result (IfTold (F.held files.old) (λ names. self.new.bytes ≡ block_of names (base_of heap.now) (size_of heap.now) block)) }
+        ensures states { OnOk result (IfTold (F.held files.old) (λ names. AreStates (table_seen names table.now) block self.new.bytes self.new.work.states.items)) }
+        ensures chains { OnOk result (AreChains block self.new.work.states.items self.new.work.chains) }
+        ensures few { length self.new.work.states.items ≤ 2042 }
+        ensures empty { OnErr result (self.new.work.states.items ≡ []) }
+        ensures same { F.held files.new ≡ F.held files.old }
+        ensures cause { Causes (F.faults files.old) (F.faults files.new) result RowFault.ReadFault }
+    {
+        let outcome = self.read(alloc, files, table, heap, block);
+        if outcome.is_err() {
+            self.work.states.clear();
+        }
+        outcome
+    }
+
+    // The row at an item of the page in hand; none where it is no live tuple.
+    fn row_at<F: Files>(
+        &mut self,
+        alloc: Global,
+        files: &mut F,
+        values: &RowValues<'_>,
+        columns: &[ColType],
+        item: u16,
+    ) -> Result<Option<LiveRow>, RowFault>
+        requires readable { IfTold (F.held files.old) (λ names. IsReadable names (option_copied values.now.toast) values.now.chunks.now) }
+        requires columns { columns.now ≡ map (λ c. c.ctype) values.now.columns.now }
+        requires aligned { All HasAlignment columns.now }
+        requires first { 1 ≤ item }
+        requires last { item ≤ length self.old.work.states.items }
+        ensures told { IfOk result (λ found. IfTold (F.held files.old) (λ names. (case : CaseRecord)
+            → IsKnown case names (option_copied values.now.toast) values.now.chunks.now self.old item
+            → AreValuesOf case names values.now
+            → rows_given found ≡ item_rows case names self.old.block self.old.bytes item)) }
+        ensures rows { IfOk result (λ found. IfSome found (IsRow (length values.now.columns.now))) }
+        ensures page { IsSamePage self.old self.new }
+        ensures done { self.new.done ≡ self.old.done }
+        ensures same { F.held files.new ≡ F.held files.old }
+        ensures cause { Causes (F.faults files.old) (F.faults files.new) result RowFault.ReadFault }
+    {
+        if !is_live(self.work.states[item as usize - 1]) {
+            return Ok(None);
+        }
+        let attrs = &mut self.work.attrs;
+        let Some(cells) = cells_at(alloc, files, values, columns, &self.bytes, item, attrs)? else {
+            return Ok(None);
+        };
+        let block = self.block;
+        let root = root_item(&self.work.chains, item);
+        Ok(Some(LiveRow {
+            tid: Tid { block, item },
+            root: Tid { block, item: root },
+            cells,
+        }))
+    }
+
+    // The same, and the item is done.
+    fn take_row<F: Files>(
+        &mut self,
+        alloc: Global,
+        files: &mut F,
+        values: &RowValues<'_>,
+        columns: &[ColType],
+        item: u16,
+    ) -> Result<Option<LiveRow>, RowFault>
+        requires readable { IfTold (F.held files.old) (λ names. IsReadable names (option_copied values.now.toast) values.now.chunks.now) }
+        requires columns { columns.now ≡ map (λ c. c.ctype) values.now.columns.now }
+        requires aligned { All HasAlignment columns.now }
+        requires first { 1 ≤ item }
+        requires last { item ≤ length self.old.work.states.items }
+        ensures told { IfOk result (λ found. IfTold (F.held files.old) (λ names. (case : CaseRecord)
+            → IsKnown case names (option_copied values.now.toast) values.now.chunks.now self.old item
+            → AreValuesOf case names values.now
+            → rows_given found ≡ item_rows case names self.old.block self.old.bytes item)) }
+        ensures rows { IfOk result (λ found. IfSome found (IsRow (length values.now.columns.now))) }
+        ensures page { IsSamePage self.old self.new }
+        ensures done { OnOk result (self.new.done ≡ item) }
+        ensures left { OnErr result (self.new.done ≡ self.old.done) }
+        ensures same { F.held files.new ≡ F.held files.old }
+        ensures cause { Causes (F.faults files.old) (F.faults files.new) result RowFault.ReadFault }
+    {
+        let found = self.row_at(alloc, files, values, columns, item)?;
+        self.done = item;
+        Ok(found)
+    }
+
+    /// The row of the next live tuple of the page in hand; none where none is left there. After an error
+    /// the same tuple is next.
+    pub(crate) fn next_row<F: Files>(
+        &mut self,
+        alloc: Global,
+        files: &mut F,
+        values: &RowValues<'_>,
+        columns: &[ColType],
+    ) -> Result<Option<LiveRow>, RowFault>
+        requires readable { IfTold (F.held files.old) (λ names. IsReadable names (option_copied values.now.toast) values.now.chunks.now) }
+        requires columns { columns.now ≡ map (λ c. c.ctype) values.now.columns.now }
+        requires aligned { All HasAlignment columns.now }
+        ensures first { IfOk result (λ found. IfTold (F.held files.old) (λ names. (case : CaseRecord)
+            → IsInHand case names (option_copied values.now.toast) values.now.chunks.now self.old
+            → AreValuesOf case names values.now
+            → length self.old.work.states.items ≤ 2042
+            → IsFirst found (rows_in_hand case names self.old) (rows_in_hand case names self.new))) }
+        ensures left { OnErr result (IfTold (F.held files.old) (λ names. (case : CaseRecord)
+            → IsInHand case names (option_copied values.now.toast) values.now.chunks.now self.old
+            → AreValuesOf case names values.now
+            → length self.old.work.states.items ≤ 2042
+            → rows_in_hand case names self.new ≡ rows_in_hand case names self.old)) }
+        ensures rows { IfOk result (λ found. IfSome found (IsRow (length values.now.columns.now))) }
+        ensures page { IsSamePage self.old self.new }
+        ensures same { F.held files.new ≡ F.held files.old }
+        ensures cause { Causes (F.faults files.old) (F.faults files.new) result RowFault.ReadFault }
+    {
+        let count = self.work.states.len().min(MAX_ITEMS) as u16;
+        for k in self.done..count {
+            let found = self.take_row(alloc, files, values, columns, k + 1)?;
+            if found.is_some() {
+                return Ok(found);
+            }
+        }
+        Ok(None)
+    }
+}

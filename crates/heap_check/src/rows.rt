@@ -1,0 +1,197 @@
+// The live rows of a heap, one after the other.
+ghost use Rattle.std.specs.Prelude.{◌≡◌, ◌++◌, ◌+◌, ◌<◌, length, map, None, IfOk, IfSome, OnErr, OnOk};
+ghost use Rattle.std.specs.Option.{option_map};
+ghost use Rattle.liveness.specs.LogFiles.{log_files_of};
+ghost use Rattle.heap_check.specs.CaseLogs.{log_files_kept};
+ghost use Rattle.outside.specs.Outside.{Causes, IfTold, Names};
+ghost use Rattle.rel_files.specs.Relation.{count_of};
+ghost use Rattle.heap_check.specs.Files.{BelongTo, IsSoundHeapOf, files_of};
+ghost use Rattle.heap_check.specs.Heap.{IsQuiet};
+ghost use Rattle.heap_check.specs.RowPages.{IsFirst, IsRow, rows_given};
+ghost use Rattle.heap_check.specs.Rows.{rows_of};
+
+use crate::fault::RowFault;
+use crate::files::SoundHeap;
+use crate::logs::CaseLogs;
+use crate::row_cells::Cells;
+use crate::row_page::RowPage;
+use crate::row_values::RowValues;
+use crate::table::{TableRules, toast_oid};
+use case_file::Case;
+use key_orders::Tid;
+use outside::{Files, NoMemory};
+use reports::Rel;
+use std::alloc::Global;
+
+/// A live tuple of a heap.
+#[derive(Drop)]
+pub struct LiveRow {
+    /// Its place.
+    pub tid: Tid,
+    /// The place from which its chain of versions starts, and which index entries name: the lowest
+    /// root from which it is found.
+    pub root: Tid,
+    /// What its columns are, one cell for each column of the case.
+    pub cells: Cells,
+}
+
+/// A cursor over the live rows of a heap in which nothing was found, by rising TID. It stores one page
+/// of the heap: each block is read and judged once. It is used with the files and the case that the
+/// heap was made with.
+#[derive(Drop)]
+pub struct LiveRows<'a> {
+    pub(crate) case: &'a Case,
+    pub(crate) heap: &'a SoundHeap,
+    pub(crate) logs: CaseLogs,
+    // The block that was read last.
+    pub(crate) page: RowPage,
+    // How many blocks were read.
+    pub(crate) next: u32,
+}
+
+// The rules of a case's heap, without its visibility map.
+fn heap_rules<'p>(case: &'p Case, logs: &'p CaseLogs) -> TableRules<'p>
+    ensures rel { result.rel ≡ Rel.Heap }
+    ensures columns { result.columns.now ≡ map (λ c. c.ctype) case.now.columns }
+    ensures toast { result.toast ≡ option_map (λ t. t.1) case.now.toast }
+    ensures map { result.map ≡ None }
+    ensures logs { log_files_of result.logs ≡ log_files_kept logs.now }
+{
+    TableRules {
+        rel: Rel::Heap,
+        columns: case.column_types(),
+        toast: toast_oid(case),
+        map: None,
+        logs: logs.lent(),
+    }
+}
+
+impl<'a> LiveRows<'a> {
+    ghost use Rattle.heap_check.specs.RowCursor.{AreRowsOf, IsPageDone, IsPageDoneBy, IsSameHeap, case_of, heap_of, rows_left};
+
+    /// A cursor before the first row. No block is read yet.
+    pub fn new(alloc: Global, case: &'a Case, heap: &'a SoundHeap) -> Result<LiveRows<'a>, NoMemory>
+        requires belong { BelongTo case.now (files_of heap.now) }
+        ensures told { IfOk result (λ rows. (names : Names) → IsSoundHeapOf case.now names heap.now → IsQuiet case.now names → AreRowsOf names rows) }
+        ensures all { IfOk result (λ rows. (names : Names) → rows_left names rows ≡ rows_of case.now names) }
+        ensures case { IfOk result (λ rows. case_of rows ≡ case.now) }
+        ensures heap { IfOk result (λ rows. heap_of rows ≡ heap.now) }
+    {
+        Ok(LiveRows {
+            case,
+            heap,
+            logs: CaseLogs::new(alloc, case)?,
+            page: RowPage::new(alloc)?,
+            next: 0,
+        })
+    }
+
+    // The next row of the page in hand; none where none is left there.
+    fn next_in_hand<F: Files>(
+        &mut self,
+        alloc: Global,
+        files: &mut F,
+    ) -> Result<Option<LiveRow>, RowFault>
+        requires told { IfTold (F.held files.old) (λ names. AreRowsOf names self.old) }
+        ensures first { IfOk result (λ found. IfTold (F.held files.old) (λ names. rows_left names self.old ≡ rows_given found ++ rows_left names self.new)) }
+        ensures done { IfOk result (λ found. IfTold (F.held files.old) (λ names. IsPageDoneBy names found self.new)) }
+        ensures left { OnErr result (IfTold (F.held files.old) (λ names. rows_left names self.new ≡ rows_left names self.old)) }
+        ensures row { IfOk result (λ found. IfSome found (IsRow (length (case_of self.old).columns))) }
+        ensures told { IfTold (F.held files.old) (λ names. AreRowsOf names self.new) }
+        ensures heap { IsSameHeap self.old self.new }
+        ensures next { self.new.next ≡ self.old.next }
+        ensures same { F.held files.new ≡ F.held files.old }
+        ensures cause { Causes (F.faults files.old) (F.faults files.new) result RowFault.ReadFault }
+    {
+        let case = self.case;
+        let heap = self.heap;
+        let values = RowValues {
+            columns: case.columns(),
+            toast: heap.files.toast.as_ref(),
+            chunks: &heap.chunks,
+        };
+        case.sound();
+        self.page
+            .next_row(alloc, files, &values, case.column_types())
+    }
+
+    // Takes the next block of the heap in hand. After an error no page is in hand, and it is still the
+    // next.
+    fn take_next<F: Files>(&mut self, alloc: Global, files: &mut F) -> Result<(), RowFault>
+        requires told { IfTold (F.held files.old) (λ names. AreRowsOf names self.old) }
+        requires done { IfTold (F.held files.old) (λ names. IsPageDone names self.old) }
+        requires inside { self.old.next < count_of (heap_of self.old).files.heap }
+        ensures left { IfTold (F.held files.old) (λ names. rows_left names self.new ≡ rows_left names self.old) }
+        ensures told { IfTold (F.held files.old) (λ names. AreRowsOf names self.new) }
+        ensures heap { IsSameHeap self.old self.new }
+        ensures next { OnOk result (self.new.next ≡ self.old.next + 1) }
+        ensures same { F.held files.new ≡ F.held files.old }
+        ensures cause { Causes (F.faults files.old) (F.faults files.new) result RowFault.ReadFault }
+    {
+        let case = self.case;
+        let heap = self.heap;
+        case.sound();
+        let table = heap_rules(case, &self.logs);
+        let blocks = heap.files.heap.blocks();
+        let next = self.next;
+        prove!(next < blocks);
+        self.page
+            .take(alloc, files, &table, &heap.files.heap, next)?;
+        self.next = next + 1;
+        Ok(())
+    }
+
+    // Takes the next block in hand, and gives its first row; none where it has none.
+    fn first_of_next<F: Files>(
+        &mut self,
+        alloc: Global,
+        files: &mut F,
+    ) -> Result<Option<LiveRow>, RowFault>
+        requires told { IfTold (F.held files.old) (λ names. AreRowsOf names self.old) }
+        requires done { IfTold (F.held files.old) (λ names. IsPageDone names self.old) }
+        requires inside { self.old.next < count_of (heap_of self.old).files.heap }
+        ensures first { IfOk result (λ found. IfTold (F.held files.old) (λ names. rows_left names self.old ≡ rows_given found ++ rows_left names self.new)) }
+        ensures done { IfOk result (λ found. IfTold (F.held files.old) (λ names. IsPageDoneBy names found self.new)) }
+        ensures left { OnErr result (IfTold (F.held files.old) (λ names. rows_left names self.new ≡ rows_left names self.old)) }
+        ensures row { IfOk result (λ found. IfSome found (IsRow (length (case_of self.old).columns))) }
+        ensures told { IfTold (F.held files.old) (λ names. AreRowsOf names self.new) }
+        ensures heap { IsSameHeap self.old self.new }
+        ensures next { OnOk result (self.new.next ≡ self.old.next + 1) }
+        ensures same { F.held files.new ≡ F.held files.old }
+        ensures cause { Causes (F.faults files.old) (F.faults files.new) result RowFault.ReadFault }
+    {
+        self.take_next(alloc, files)?;
+        self.next_in_hand(alloc, files)
+    }
+
+    /// The next live row, by rising TID; `None` exactly where none is left.
+    ///
+    /// `ReadFault` comes only where the count of the files' faults rose. After an error the cursor
+    /// stays before the same row.
+    pub fn next_row<F: Files>(
+        &mut self,
+        alloc: Global,
+        files: &mut F,
+    ) -> Result<Option<LiveRow>, RowFault>
+        requires told { IfTold (F.held files.old) (λ names. AreRowsOf names self.old) }
+        ensures first { IfOk result (λ found. IfTold (F.held files.old) (λ names. IsFirst found (rows_left names self.old) (rows_left names self.new))) }
+        ensures left { OnErr result (IfTold (F.held files.old) (λ names. rows_left names self.new ≡ rows_left names self.old)) }
+        ensures row { IfOk result (λ found. IfSome found (IsRow (length (case_of self.old).columns))) }
+        ensures told { IfTold (F.held files.old) (λ names. AreRowsOf names self.new) }
+        ensures heap { IsSameHeap self.old self.new }
+        ensures same { F.held files.new ≡ F.held files.old }
+        ensures cause { Causes (F.faults files.old) (F.faults files.new) result RowFault.ReadFault }
+    {
+        let found = self.next_in_hand(alloc, files)?;
+        if found.is_some() {
+            return Ok(found);
+        }
+        for _ in self.next..self.heap.files.heap.blocks() {
+            let found = self.first_of_next(alloc, files)?;
+            if found.is_some() {
+                return Ok(found);
+            }
+        }
+        Ok(None)
+    }
+}

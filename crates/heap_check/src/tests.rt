@@ -1,0 +1,99 @@
+// The live rows of files in memory.
+ghost use Rattle.std.specs.Prelude.{◌+◌, ◌≤◌, length};
+
+use crate::{Cell, HeapFiles, LiveRow, LiveRows, check_heap};
+use case_file::{Case, read_case};
+use key_orders::{Tid, Value};
+use outside::{MemFiles, Part};
+use reports::Report;
+use std::alloc::Global;
+use std::process::Abort;
+use std::test::Fail;
+
+// A table of one text column, with a TOAST table.
+const CASE: &[u8] = b"[cluster]
+next_xid = 1000
+oldest_xid = 3
+next_multi = 10
+oldest_multi = 1
+next_member = 100
+xact = \"xact\"
+offsets = \"offsets\"
+members = \"members\"
+[heap]
+file = \"t\"
+toast_file = \"tt\"
+toast_oid = 16400
+[[column]]
+name = \"a\"
+type = \"text\"
+";
+
+// A heap page with one item at this place, whose tuple is of transaction 700: its header, and its body.
+fn page(off: u16, infomask: u16, natts: u8, body: &[u8]) -> [u8; 8192]
+    requires { off + 24 + length body.now ≤ 8192 }
+{
+    let mut page = [0u8; 8192];
+    page[12..20].copy_from_slice(b"\x1c\0\0\0\0\x20\x04\x20");
+    page[14..16].copy_from_slice(&off.to_le_bytes());
+    let len = body.len() as u32 + 24;
+    let item = off as u32 + 32768 + 131072 * len;
+    page[24..28].copy_from_slice(&item.to_le_bytes());
+    let at = off as usize;
+    page[at..at + 2].copy_from_slice(b"\xbc\x02");
+    page[at + 16] = 1;
+    page[at + 18] = natts;
+    page[at + 20..at + 22].copy_from_slice(&infomask.to_le_bytes());
+    page[at + 22] = 24;
+    page[at + 24..at + 24 + body.len()].copy_from_slice(body);
+    page
+}
+
+// One row, whose value of 1996 zero bytes stands in the TOAST table as one chunk.
+fn files(alloc: Global) -> Result<MemFiles, Fail> {
+    let mut files = MemFiles::new(alloc);
+    let pointer = b"\x01\x12\xd0\x07\0\0\xcc\x07\0\0\x74\x40\0\0\x10\x40\0\0";
+    files.add("t", Part::Segment(0), &page(8144, 0x0906, 1, pointer))?;
+    let mut chunk = [0u8; 2008];
+    chunk[0..12].copy_from_slice(b"\x74\x40\0\0\0\0\0\0\x40\x1f\0\0");
+    files.add("tt", Part::Segment(0), &page(6160, 0x0902, 3, &chunk))?;
+    files.add("xact", Part::Slru(0), &[0x55u8; 8192])?;
+    Ok(files)
+}
+
+// Whether a row has this place and root, and one cell of so many zero bytes.
+fn is_zeros(row: &LiveRow, tid: Tid, len: usize) -> bool {
+    match row.cells.as_slice() {
+        [Cell::Held(Value::Bytes(bytes))] => {
+            let bytes = bytes.as_slice();
+            row.tid == tid
+                && row.root == tid
+                && bytes.len() == len
+                && bytes.iter().all(|byte| *byte == 0)
+        }
+        _ => false,
+    }
+}
+
+#[test]
+fn a_value_in_the_toast_table_is_joined(rt: HostRuntime) -> Result<(), Fail> {
+    let alloc = rt.alloc();
+    let mut files = files(alloc)?;
+    let case: Case = read_case(alloc, CASE).ok().ok_or("refused")?;
+    let at = HeapFiles::attach(alloc, &mut files, &case)?;
+    let mut report = Report::new(alloc);
+    let sound = check_heap(alloc, &mut files, &case, at, &mut report)?;
+    let Some(sound) = sound else {
+        let counts = report.counts();
+        assert!(rt; false, "{} {}", counts.0, counts.1);
+        return Ok(());
+    };
+    let mut rows = LiveRows::new(alloc, &case, &sound)?;
+    let tid = Tid { block: 0, item: 1 };
+    match rows.next_row(alloc, &mut files)? {
+        Some(row) => assert!(rt; is_zeros(&row, tid, 1996)),
+        None => assert!(rt; false, "no row"),
+    }
+    assert!(rt; rows.next_row(alloc, &mut files)?.is_none());
+    Ok(())
+}

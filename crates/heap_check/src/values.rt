@@ -1,0 +1,115 @@
+// The values of a live tuple.
+ghost use Rattle.std.specs.Prelude.{◌≡◌, ◌++◌, ◌≤◌, ℕ, List, All, length, IfOk};
+ghost use Rattle.tuple_head.specs.Head.{tuple_head_of};
+ghost use Rattle.varlena_attrs.specs.Shown.{HasAlignment, shown_at, shown_in};
+ghost use Rattle.varlena_attrs.specs.Tuples.{attributes_in};
+ghost use Rattle.heap_check.specs.Kept.{chunks_by, externals_by, kept_by_values};
+ghost use Rattle.heap_check.specs.Values.{first_value_rule, has_externals, is_other_relation, is_stray_pointer, pointer_rule_of, value_rule, values_rule};
+
+use crate::kept::Kept;
+use crate::table::TableRules;
+use key_orders::Tid;
+use outside::NoMemory;
+use page_layout::{Rule, has_bit};
+use toast_chunks::pointer_rule;
+use tuple_head::HeapHead;
+use varlena_attrs::{AttrBuffer, AttrFault, AttrPlace, ToastPointer};
+
+// The bit of a header's infomask that tells of a value in a TOAST table (`HEAP_HASEXTERNAL`).
+const HASEXTERNAL: u16 = 0x0004;
+
+#[tactic(auto, unfolding(crate::specs::Values::has_externals))]
+fn has_externals(head: HeapHead) -> bool
+    ensures { result ≡ has_externals head }
+{
+    has_bit(head.infomask, HASEXTERNAL)
+}
+
+// Whether a relation isn't the TOAST table of this oid.
+fn is_other_relation(toast: Option<u32>, relation: u32) -> bool
+    ensures { result ≡ is_other_relation toast relation }
+{
+    match toast {
+        None => true,
+        Some(oid) => relation != oid,
+    }
+}
+
+fn is_stray_pointer(toast: Option<u32>, head: HeapHead, pointer: ToastPointer) -> bool
+    ensures { result ≡ is_stray_pointer toast head pointer }
+{
+    !has_externals(head) || is_other_relation(toast, pointer.relation)
+}
+
+// The first of H19 and H20 that a pointer breaks.
+#[tactic(auto, unfolding(crate::specs::Values::pointer_rule_of))]
+fn pointer_rule_of(toast: Option<u32>, head: HeapHead, pointer: ToastPointer) -> Option<Rule>
+    ensures { result ≡ pointer_rule_of toast head pointer }
+{
+    if is_stray_pointer(toast, head, pointer) {
+        return Some(Rule::H19);
+    }
+    if !pointer_rule(pointer) {
+        return Some(Rule::H20);
+    }
+    None
+}
+
+fn value_rule(toast: Option<u32>, head: HeapHead, place: AttrPlace) -> Option<Rule>
+    ensures { (body : List ℕ) → result ≡ value_rule toast head (shown_at body place) }
+{
+    match place {
+        AttrPlace::External(pointer) => pointer_rule_of(toast, head, pointer),
+        AttrPlace::Null | AttrPlace::Missing | AttrPlace::Plain { .. } | AttrPlace::Packed { .. } =>
+            None,
+    }
+}
+
+// The first rule that one of a tuple's values breaks, column by column.
+fn first_value_rule(toast: Option<u32>, head: HeapHead, places: &[AttrPlace]) -> Option<Rule>
+    ensures { (body : List ℕ) → result ≡ first_value_rule toast head (shown_in body places.now) }
+{
+    for place in places {
+        match value_rule(toast, head, *place) {
+            Some(rule) => return Some(rule),
+            None => {}
+        }
+    }
+    None
+}
+
+/// The first of the rules H17 to H20 that the live tuple in these bytes breaks: H17 and H18 where its
+/// attributes can't be read, and else H19 and H20 of its values, column by column. Where it breaks
+/// none, what it has is kept.
+#[tactic(auto, using(crate::proofs::KeptRules::no_externals, crate::proofs::KeptRules::no_chunks))]
+pub fn judge_values(
+    table: &TableRules<'_>,
+    tuple: &[u8],
+    head: HeapHead,
+    tid: Tid,
+    attrs: &mut AttrBuffer,
+    kept: &mut Kept,
+) -> Result<Option<Rule>, NoMemory>
+    requires few { length table.now.columns.now ≤ 64 }
+    requires aligned { All HasAlignment table.now.columns.now }
+    requires header { head ≡ tuple_head_of tuple.now }
+    requires begins { 23 ≤ head.hoff }
+    requires within { head.hoff ≤ length tuple.now }
+    requires page { length tuple.now ≤ 8192 }
+    ensures rule { IfOk result (λ rule. rule ≡ values_rule table.now.toast head (attributes_in table.now.columns.now tuple.now)) }
+    ensures externals { IfOk result (λ rule. kept.new.externals.items ≡ kept.old.externals.items ++ externals_by table.now.rel tid.block tid.item (kept_by_values rule (attributes_in table.now.columns.now tuple.now))) }
+    ensures chunks { IfOk result (λ rule. kept.new.chunks ≡ kept.old.chunks ++ chunks_by table.now.rel tid.block tid.item (kept_by_values rule (attributes_in table.now.columns.now tuple.now))) }
+{
+    match attrs.read_tuple(table.columns, tuple, head) {
+        Ok(body) => {
+            let rule = first_value_rule(table.toast, head, attrs.as_slice());
+            if rule.is_none() {
+                kept.keep(table.rel, tid, body, attrs.as_slice())?;
+            }
+            Ok(rule)
+        }
+        Err(AttrFault::PastEnd { .. }) => Ok(Some(Rule::H17)),
+        Err(AttrFault::BadHeader { .. }) | Err(AttrFault::BadTag { .. }) => Ok(Some(Rule::H18)),
+        Err(AttrFault::NoMemory) => Err(NoMemory),
+    }
+}

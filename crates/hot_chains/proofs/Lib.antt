@@ -1,0 +1,11 @@
+pub mod Marking
+pub mod Lowest
+pub mod Stepping
+pub mod Roots
+pub mod Law
+pub mod Taken
+pub mod Places
+pub mod Whole
+pub mod Soon
+pub mod Told
+pub mod Bare

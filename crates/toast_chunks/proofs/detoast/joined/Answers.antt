@@ -1,0 +1,25 @@
+use Rattle.std.proofs.Common.{◌<◌, ap, ◌∙◌, arith}
+use Rattle.toast_chunks.specs.Pointer.{chunk_count, stored_size}
+use Rattle.toast_chunks.proofs.Joining.{joined_all, joined_next, none_not_found}
+use Rattle.toast_chunks.proofs.detoast.joined.Goals.{in-Some+in_ok-push_chunk-in-Some, in-None}
+use Rattle.toast_chunks.proofs.detoast.joined.Goals as goal
+
+pub loop-k-preserved : goal.loop-k-preserved
+loop-k-preserved g c =
+    let count = c.chunk_count-k-end.ensures.count ∙ ap chunk_count c.stored_size.ensures.size in
+    let lt : c.loop-k.k < chunk_count (stored_size c.args.p) = omega (arith, count, c.loop-k-test.true) in
+    elim c.match-find.branch [
+      | in-Some+in_ok-push_chunk-in-Some w ↦ record {
+        bytes = λ names told.
+            rw w.bytes-is (joined_next names c.args.toast.now c.args.map.now c.args.p c.loop-k.k w.in-Some.chunk c.loop-k.bytes w.push_chunk.new.bytes c.requires.whole lt (c.requires.stand names told) w.in-Some.ensures (w.in_ok-push_chunk-in-Some.ensures.bytes names (c.loop-k.invariant.same ∙ told)) (c.loop-k.invariant.bytes names told));
+        hand = λ names told. rw (w.in_hand-is, w.page-is) (w.in_ok-push_chunk-in-Some.ensures.hand names (c.loop-k.invariant.same ∙ told));
+        same = rw w.files-is (w.in_ok-push_chunk-in-Some.ensures.same ∙ c.loop-k.invariant.same);
+        later = rw w.files-is (omega (arith, w.in_ok-push_chunk-in-Some.ensures.cause.later, c.loop-k.invariant.later));
+      }
+      | in-None w ↦ absurd (none_not_found c.args.map.now c.args.p c.loop-k.k c.requires.whole lt w.in-None.ensures)
+    ]
+
+pub returns-clause-bytes : goal.returns-clause-bytes
+returns-clause-bytes g c = λ names told.
+    let count = c.chunk_count-k-end.ensures.count ∙ ap chunk_count c.stored_size.ensures.size in
+    joined_all names c.args.toast.now c.args.map.now c.args.p c.loop-k.k c.loop-k.bytes (omega (arith, count, c.loop-k-test.false, c.loop-k.auto.k-end)) (c.loop-k.invariant.bytes names told)

@@ -1,0 +1,28 @@
+-- How a map finds the chunks of a value.
+use Rattle.std.specs.Prelude.{◌≡◌, ℕ, ℤ, ◌<◌, true, List, length, Option, Some, None, unwrap_or, count_by, slice_get}
+use Rattle.std.specs.declared.cmp.Ordering.{Ordering}
+use Rattle.std.specs.Ordering.{int_cmp, nat_cmp, ordering_then}
+use Rattle.std.specs.List.{HoldsAt}
+use Rattle.std.specs.BTreeMap.{BTreeMap, get}
+use Rattle.toast_chunks.specs.declared.map.Chunk.{Chunk}
+use Rattle.toast_chunks.specs.declared.map.ChunkNumber.{ChunkNumber}
+use Rattle.toast_chunks.specs.Chunks.{is_numbered, is_of}
+
+-- numbers of chunks go by value, then by number
+abbrev pub number_cmp : ChunkNumber → ChunkNumber → Ordering
+number_cmp a b = ordering_then (nat_cmp a.id b.id) (int_cmp a.seq b.seq)
+
+-- a place of a chunk of this number, or none where there is no such chunk
+abbrev pub FindsPlace : List Chunk → ℕ → ℤ → Option ℕ → Type 0
+FindsPlace chunks id seq None = count_by (is_numbered id seq) chunks ≡ 0
+FindsPlace chunks id seq (Some i) = (i < length chunks) × HoldsAt (λ c. is_numbered id seq c ≡ true) chunks i
+
+-- a chunk of this number, or none where there is no such chunk
+abbrev pub FindsChunk : List Chunk → ℕ → ℤ → Option Chunk → Type 0
+FindsChunk chunks id seq None = count_by (is_numbered id seq) chunks ≡ 0
+FindsChunk chunks id seq (Some c) = (i : ℕ) × (slice_get chunks i ≡ Some c) × (is_numbered id seq c ≡ true)
+
+-- the map counts each value's chunks, and finds them by their numbers
+pub record IsIndexed (chunks : List Chunk) (counts : BTreeMap ℕ ℕ) (places : BTreeMap ChunkNumber ℕ) : Type 0 where
+  pub counted : (id : ℕ) → unwrap_or (get nat_cmp counts id) 0 ≡ count_by (is_of id) chunks
+  pub found : (id : ℕ) (seq : ℤ) → FindsPlace chunks id seq (get number_cmp places (record { id = id; seq = seq }))

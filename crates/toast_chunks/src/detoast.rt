@@ -1,0 +1,94 @@
+// The value of a pointer.
+ghost use Rattle.std.specs.Prelude.{◌≡◌, ◌≤◌, true, IfOk};
+ghost use Rattle.outside.specs.Outside.{Causes, IfTold};
+ghost use Rattle.rel_files.specs.Relation.{IsAttached};
+ghost use Rattle.toast_chunks.specs.Chunks.{is_whole};
+ghost use Rattle.toast_chunks.specs.Stored.{AllStand};
+ghost use Rattle.toast_chunks.specs.Value.{HasBytes, IsState, value_of_pointer};
+
+use crate::fault::ToastFault;
+use crate::map::ToastMap;
+use crate::pointer::{chunk_count, is_compressed, stored_size};
+use crate::reader::push_chunk;
+use key_orders::Octets;
+use outside::Files;
+use rel_files::Relation;
+use std::alloc::Global;
+use varlena_attrs::{AttrBuffer, ToastPointer};
+
+/// What the value of a pointer is.
+#[derive(Drop)]
+pub enum ToastState {
+    /// Its chunks are whole: the bytes that they make.
+    Whole(Octets),
+    /// Its chunks are whole, and what they make is compressed.
+    Packed,
+    /// Its chunks aren't those that it should have.
+    Broken,
+}
+
+// The bytes of a whole value's chunks, joined by their numbers.
+fn joined<F: Files>(
+    alloc: Global,
+    files: &mut F,
+    toast: &Relation,
+    map: &ToastMap,
+    p: ToastPointer,
+) -> Result<Octets, ToastFault>
+    requires attached { IfTold (F.held files.old) (λ names. IsAttached names toast.now) }
+    requires stand { IfTold (F.held files.old) (λ names. AllStand names toast.now map.now) }
+    requires whole { is_whole map.now p ≡ true }
+    ensures bytes { IfOk result (λ bytes. IfTold (F.held files.old) (λ names. bytes ≡ value_of_pointer names toast.now map.now p)) }
+    ensures same { F.held files.new ≡ F.held files.old }
+    ensures cause { Causes (F.faults files.old) (F.faults files.new) result ToastFault.ReadFault }
+{
+    let mut page = [0u8; 8192];
+    let mut in_hand = None;
+    let mut buffer = AttrBuffer::new(alloc);
+    let mut bytes = Octets::new(alloc);
+    for k in 0..chunk_count(stored_size(p)) {
+        match map.find(p.value_id, k) {
+            Some(chunk) => push_chunk(
+                files,
+                toast,
+                chunk.tid,
+                &mut page,
+                &mut in_hand,
+                &mut buffer,
+                &mut bytes,
+            )?,
+            None => {}
+        }
+    }
+    Ok(bytes)
+}
+
+/// The value of a pointer, by the chunks of a map, which stand in the TOAST table that is given. `Broken`
+/// comes exactly where `ToastMap::whole` is false, and `Packed` exactly where it is true and the value is
+/// compressed. Otherwise the chunks are read and joined by their numbers. It is asked of pointers that
+/// keep H20; of others the same holds by their sizes as they stand.
+///
+/// `ReadFault` comes only where the files couldn't be read. Where files don't tell what they hold, a
+/// row that isn't where the map says adds no bytes.
+pub fn value<F: Files>(
+    alloc: Global,
+    files: &mut F,
+    toast: &Relation,
+    map: &ToastMap,
+    p: ToastPointer,
+) -> Result<ToastState, ToastFault>
+    requires attached { IfTold (F.held files.old) (λ names. IsAttached names toast.now) }
+    requires stand { IfTold (F.held files.old) (λ names. AllStand names toast.now map.now) }
+    ensures state { IfOk result (IsState map.now p) }
+    ensures bytes { IfOk result (λ state. IfTold (F.held files.old) (λ names. HasBytes state (value_of_pointer names toast.now map.now p))) }
+    ensures same { F.held files.new ≡ F.held files.old }
+    ensures cause { Causes (F.faults files.old) (F.faults files.new) result ToastFault.ReadFault }
+{
+    if !map.whole(p) {
+        return Ok(ToastState::Broken);
+    }
+    if is_compressed(p) {
+        return Ok(ToastState::Packed);
+    }
+    Ok(ToastState::Whole(joined(alloc, files, toast, map, p)?))
+}

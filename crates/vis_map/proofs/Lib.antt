@@ -1,0 +1,2 @@
+mod Unwritten
+pub mod Exact
