@@ -9,7 +9,7 @@ use outside::NoMemory;
 use reports::Rel;
 use std::alloc::Global;
 use toast_chunks::{ToastMap, chunk_row};
-use varlena_attrs::{AttrPlace, ToastPointer};
+use varlena_attrs::{AttrPlace, ToastPointer, pointer_at};
 
 /// A value of a live tuple of the heap that stands in the TOAST table.
 #[derive(Clone, Copy, Debug, PartialEq, Eq)]
@@ -35,13 +35,15 @@ pub(crate) struct Kept {
 fn keep_externals(
     externals: &mut Vec<ExternalValue>,
     tid: Tid,
+    body: &[u8],
     places: &[AttrPlace],
 ) -> Result<(), NoMemory>
-    requires { length places.now ≤ 64 }
-    ensures { (body : List ℕ) → OnOk result (externals.new.items ≡ externals.old.items ++ externals_in tid.block tid.item (shown_in body places.now)) }
+    requires few { length places.now ≤ 64 }
+    requires within { All (IsWithin (length body.now)) places.now }
+    ensures { OnOk result (externals.new.items ≡ externals.old.items ++ externals_in tid.block tid.item (shown_in body.now places.now)) }
 {
     for k in 0..places.len() as u16 {
-        keep_external(externals, tid, k + 1, places[k as usize])?;
+        keep_external(externals, tid, k + 1, body, places[k as usize])?;
     }
     Ok(())
 }
@@ -68,17 +70,19 @@ fn keep_external(
     externals: &mut Vec<ExternalValue>,
     tid: Tid,
     column: u16,
+    body: &[u8],
     place: AttrPlace,
 ) -> Result<(), NoMemory>
-    ensures { (body : List ℕ) → OnOk result (externals.new.items ≡ externals.old.items ++ external_in tid.block tid.item column (Some (shown_at body place))) }
+    requires { IsWithin (length body.now) place }
+    ensures { OnOk result (externals.new.items ≡ externals.old.items ++ external_in tid.block tid.item column (Some (shown_at body.now place))) }
 {
     match place {
-        AttrPlace::External(pointer) => {
+        AttrPlace::External { start } => {
             externals.push(ExternalValue {
                 block: tid.block,
                 item: tid.item,
                 column,
-                pointer,
+                pointer: pointer_at(body, start),
             })?;
         }
         AttrPlace::Null | AttrPlace::Missing | AttrPlace::Plain { .. } | AttrPlace::Packed { .. } =>
@@ -114,7 +118,7 @@ impl Kept {
         ensures chunks { OnOk result (self.new.chunks ≡ self.old.chunks ++ chunks_by rel tid.block tid.item (shown_in body.now places.now)) }
     {
         match rel {
-            Rel::Heap => keep_externals(&mut self.externals, tid, places),
+            Rel::Heap => keep_externals(&mut self.externals, tid, body, places),
             Rel::Toast => keep_chunk(&mut self.chunks, tid, body, places),
             Rel::Map | Rel::Index(_) => Ok(()),
         }

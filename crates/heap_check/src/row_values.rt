@@ -15,7 +15,7 @@ use outside::Files;
 use rel_files::Relation;
 use std::alloc::Global;
 use toast_chunks::{ToastFault, ToastMap, ToastState, value};
-use varlena_attrs::{AttrPlace, ToastPointer, value_of};
+use varlena_attrs::{AttrPlace, ToastPointer, pointer_at, value_of};
 
 /// Where the values of a table's rows stand: its columns, and its TOAST table, where it has one, with the
 /// live chunks of that.
@@ -85,7 +85,9 @@ fn cell_of<F: Files>(
             Ok(Some(Cell::Held(value_of(column.ctype, piece).to_value(alloc)?)))
         }
         AttrPlace::Packed { .. } => Ok(Some(Cell::Packed)),
-        AttrPlace::External(pointer) => external_cell(alloc, files, values, pointer),
+        AttrPlace::External { start } => {
+            external_cell(alloc, files, values, pointer_at(body, start))
+        }
     }
 }
 

@@ -1,7 +1,7 @@
 // The values of a live tuple.
 ghost use Rattle.std.specs.Prelude.{◌≡◌, ◌++◌, ◌≤◌, ℕ, List, All, length, IfOk};
 ghost use Rattle.tuple_head.specs.Head.{tuple_head_of};
-ghost use Rattle.varlena_attrs.specs.Shown.{HasAlignment, shown_at, shown_in};
+ghost use Rattle.varlena_attrs.specs.Shown.{HasAlignment, IsWithin, shown_at, shown_in};
 ghost use Rattle.varlena_attrs.specs.Tuples.{attributes_in};
 ghost use Rattle.heap_check.specs.Kept.{chunks_by, externals_by, kept_by_values};
 ghost use Rattle.heap_check.specs.Values.{first_value_rule, has_externals, is_other_relation, is_stray_pointer, pointer_rule_of, value_rule, values_rule};
@@ -13,7 +13,7 @@ use outside::NoMemory;
 use page_layout::{Rule, has_bit};
 use toast_chunks::pointer_rule;
 use tuple_head::HeapHead;
-use varlena_attrs::{AttrBuffer, AttrFault, AttrPlace, ToastPointer};
+use varlena_attrs::{AttrBuffer, AttrFault, AttrPlace, ToastPointer, pointer_at};
 
 // The bit of a header's infomask that tells of a value in a TOAST table (`HEAP_HASEXTERNAL`).
 const HASEXTERNAL: u16 = 0x0004;
@@ -55,22 +55,29 @@ fn pointer_rule_of(toast: Option<u32>, head: HeapHead, pointer: ToastPointer) ->
     None
 }
 
-fn value_rule(toast: Option<u32>, head: HeapHead, place: AttrPlace) -> Option<Rule>
-    ensures { (body : List ℕ) → result ≡ value_rule toast head (shown_at body place) }
+fn value_rule(toast: Option<u32>, head: HeapHead, body: &[u8], place: AttrPlace) -> Option<Rule>
+    requires { IsWithin (length body.now) place }
+    ensures { result ≡ value_rule toast head (shown_at body.now place) }
 {
     match place {
-        AttrPlace::External(pointer) => pointer_rule_of(toast, head, pointer),
+        AttrPlace::External { start } => pointer_rule_of(toast, head, pointer_at(body, start)),
         AttrPlace::Null | AttrPlace::Missing | AttrPlace::Plain { .. } | AttrPlace::Packed { .. } =>
             None,
     }
 }
 
 // The first rule that one of a tuple's values breaks, column by column.
-fn first_value_rule(toast: Option<u32>, head: HeapHead, places: &[AttrPlace]) -> Option<Rule>
-    ensures { (body : List ℕ) → result ≡ first_value_rule toast head (shown_in body places.now) }
+fn first_value_rule(
+    toast: Option<u32>,
+    head: HeapHead,
+    body: &[u8],
+    places: &[AttrPlace],
+) -> Option<Rule>
+    requires { All (IsWithin (length body.now)) places.now }
+    ensures { result ≡ first_value_rule toast head (shown_in body.now places.now) }
 {
     for place in places {
-        match value_rule(toast, head, *place) {
+        match value_rule(toast, head, body, *place) {
             Some(rule) => return Some(rule),
             None => {}
         }
@@ -102,7 +109,7 @@ pub fn judge_values(
 {
     match attrs.read_tuple(table.columns, tuple, head) {
         Ok(body) => {
-            let rule = first_value_rule(table.toast, head, attrs.as_slice());
+            let rule = first_value_rule(table.toast, head, body, attrs.as_slice());
             if rule.is_none() {
                 kept.keep(table.rel, tid, body, attrs.as_slice())?;
             }

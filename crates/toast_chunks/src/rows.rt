@@ -33,8 +33,10 @@ pub(crate) fn content_in(body: &[u8], place: AttrPlace) -> Option<&[u8]>
 {
     match place {
         AttrPlace::Plain { start, len } => Some(&body[start..start + len]),
-        AttrPlace::Null | AttrPlace::Missing | AttrPlace::Packed { .. } | AttrPlace::External(_) =>
-            None,
+        AttrPlace::Null
+        | AttrPlace::Missing
+        | AttrPlace::Packed { .. }
+        | AttrPlace::External { .. } => None,
     }
 }
 

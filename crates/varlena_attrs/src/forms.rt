@@ -2,12 +2,12 @@
 ghost use Rattle.std.specs.Prelude.{◌≡◌, ◌+◌, ◌*◌, ◌^◌, ◌<◌, ◌≤◌, ◌==◌, ◌%◌, false, true, nat_lt, None, Some, List, ℕ, length, slice_index, IfOk, OnErr};
 ghost use Rattle.std.specs.Option.{option_copied};
 ghost use Rattle.varlena_attrs.specs.Attributes.{is_null, presence_of};
-ghost use Rattle.varlena_attrs.specs.Forms.{Attribute, long_length, pointer_at};
+ghost use Rattle.varlena_attrs.specs.Forms.{Attribute, long_length};
 ghost use Rattle.varlena_attrs.specs.Reading.{aligned, attribute_at, content_passes_end, fault_at, fixed_at, form_at, has_low_length, has_other_tag, header_length, header_passes_end, least_length, length_at, start_of, stored_at, varlena_at};
 ghost use Rattle.varlena_attrs.specs.Shown.{HasAlignment, IsFoundWithin, IsWithin, is_alignment, shown_at, step_shown};
 
 use crate::fault::AttrFault;
-use crate::places::{AttrPlace, ToastPointer};
+use crate::places::AttrPlace;
 use key_orders::ColType;
 use page_layout::u32_at;
 
@@ -43,6 +43,7 @@ pub(crate) struct Found {
 }
 
 // The byte at a place, 0 past the end.
+#[inline]
 fn byte_at(bytes: &[u8], at: usize) -> u8
     ensures { result ≡ slice_index bytes.now at }
 {
@@ -50,6 +51,7 @@ fn byte_at(bytes: &[u8], at: usize) -> u8
 }
 
 // The least multiple of an alignment from a place on.
+#[inline]
 fn aligned(alignment: u8, place: usize) -> usize
     requires known { is_alignment alignment ≡ true }
     requires small { place < 2 ^ 63 }
@@ -65,6 +67,7 @@ fn aligned(alignment: u8, place: usize) -> usize
 }
 
 // Where a varlena begins: here, unless the byte here is padding.
+#[inline]
 #[tactic(auto, unfolding(crate::specs::Reading::start_of))]
 fn start_of(alignment: u8, body: &[u8], place: usize) -> usize
     requires known { is_alignment alignment ≡ true }
@@ -80,6 +83,7 @@ fn start_of(alignment: u8, body: &[u8], place: usize) -> usize
 }
 
 // The bytes of a varlena's header, by its first byte.
+#[inline]
 fn header_len(first: u8) -> usize
     ensures { result ≡ header_length first }
 {
@@ -93,6 +97,7 @@ fn header_len(first: u8) -> usize
 }
 
 // The least length that a header may state.
+#[inline]
 fn least_len(first: u8) -> usize
     ensures { result ≡ least_length first }
 {
@@ -106,6 +111,7 @@ fn least_len(first: u8) -> usize
 }
 
 // The bytes of a varlena with its header.
+#[inline]
 #[tactic(auto, unfolding(crate::specs::Reading::length_at, crate::specs::Forms::long_length))]
 fn varlena_len(body: &[u8], start: usize) -> usize
     requires { header_passes_end body.now start ≡ false }
@@ -122,21 +128,8 @@ fn varlena_len(body: &[u8], start: usize) -> usize
     }
 }
 
-// The pointer in the 16 bytes at a place.
-#[tactic(auto, unfolding(crate::specs::Forms::pointer_at))]
-fn pointer_at(body: &[u8], at: usize) -> ToastPointer
-    requires { at + 16 ≤ length body.now }
-    ensures { result ≡ pointer_at body.now at }
-{
-    ToastPointer {
-        raw_size: u32_at(body, at).cast_signed(),
-        ext_info: u32_at(body, at + 4),
-        value_id: u32_at(body, at + 8),
-        relation: u32_at(body, at + 12),
-    }
-}
-
 // A varlena without a fault, of so many bytes.
+#[inline]
 #[tactic(auto, unfolding(crate::specs::Reading::form_at, crate::specs::Reading::length_at))]
 fn form_at(body: &[u8], start: usize, len: usize) -> AttrPlace
     requires is_len { len ≡ length_at body.now start }
@@ -147,7 +140,7 @@ fn form_at(body: &[u8], start: usize, len: usize) -> AttrPlace
 {
     let first = byte_at(body, start);
     if first == 1 {
-        AttrPlace::External(pointer_at(body, start + 2))
+        AttrPlace::External { start: start + 2 }
     } else if first % 2 == 1 {
         AttrPlace::Plain {
             start: start + 1,
@@ -164,6 +157,7 @@ fn form_at(body: &[u8], start: usize, len: usize) -> AttrPlace
 }
 
 // The varlena that begins at a place.
+#[inline]
 #[tactic(auto, unfolding(crate::specs::Reading::varlena_at))]
 fn varlena_at(body: &[u8], start: usize) -> Result<Found, Cause>
     requires { start < 2 ^ 63 + 8 }
@@ -191,6 +185,7 @@ fn varlena_at(body: &[u8], start: usize) -> Result<Found, Cause>
 }
 
 // The value of so many bytes that begins at a place.
+#[inline]
 #[tactic(auto, unfolding(crate::specs::Reading::fixed_at))]
 fn fixed_at(len: u16, body: &[u8], start: usize) -> Result<Found, Cause>
     requires { start < 2 ^ 63 + 8 }
@@ -208,6 +203,7 @@ fn fixed_at(len: u16, body: &[u8], start: usize) -> Result<Found, Cause>
 }
 
 // The stored attribute of a type from a place on.
+#[inline]
 #[tactic(auto, unfolding(crate::specs::Reading::stored_at))]
 fn stored_at(ctype: ColType, body: &[u8], place: usize) -> Result<Found, Cause>
     requires known { HasAlignment ctype }
@@ -228,6 +224,7 @@ fn stored_at(ctype: ColType, body: &[u8], place: usize) -> Result<Found, Cause>
 }
 
 // Whether the null bit of a column, counted from 0, is clear.
+#[inline]
 #[tactic(auto, unfolding(crate::specs::Attributes::is_null))]
 fn is_null(nulls: Option<&[u8]>, k: usize) -> bool
     ensures { result ≡ is_null (option_copied nulls.entry) k }
@@ -239,6 +236,7 @@ fn is_null(nulls: Option<&[u8]>, k: usize) -> bool
 }
 
 // A column that takes no place: the next one begins where it would.
+#[inline]
 fn without_bytes(attr: AttrPlace, next: usize) -> Found
     ensures { result ≡ record { place = attr; next = next } }
 {
@@ -246,6 +244,7 @@ fn without_bytes(attr: AttrPlace, next: usize) -> Found
 }
 
 // The attribute of column k, counted from 0, from a place on.
+#[inline]
 #[tactic(auto, unfolding(crate::specs::Attributes::presence_of))]
 pub(crate) fn attribute_at(
     ctype: ColType,

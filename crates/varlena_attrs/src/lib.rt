@@ -17,6 +17,6 @@ mod values;
 
 pub use buffer::AttrBuffer;
 pub use fault::AttrFault;
-pub use places::{Attr, AttrPlace, ToastPointer};
+pub use places::{Attr, AttrPlace, ToastPointer, pointer_at};
 pub use reading::{Attrs, attributes, attributes_are_unique};
 pub use values::value_of;

@@ -1,6 +1,9 @@
 // What a column is in a tuple, as a piece of the tuple's body or as the place of one.
-ghost use Rattle.std.specs.Prelude.{◌≡◌, length};
+ghost use Rattle.std.specs.Prelude.{◌≡◌, ◌+◌, ◌≤◌, length};
+ghost use Rattle.varlena_attrs.specs.Forms.{pointer_at};
 ghost use Rattle.varlena_attrs.specs.Shown.{IsWithin, attr_shown, shown_at};
+
+use page_layout::u32_at;
 
 /// The place of a value in a TOAST table: `varatt_external` of `varatt.h`.
 #[derive(Clone, Copy, Debug, PartialEq, Eq)]
@@ -31,7 +34,7 @@ pub enum Attr<'p> {
 }
 
 /// The same, where bytes are named by their place in the tuple's body: `start` counts from 0, `len`
-/// in bytes.
+/// in bytes. It has no more than two numbers, so that a list of them is filled without copies.
 #[derive(Clone, Copy, Debug, PartialEq, Eq)]
 pub enum AttrPlace {
     /// A null by the tuple's null bits.
@@ -42,8 +45,23 @@ pub enum AttrPlace {
     Plain { start: usize, len: usize },
     /// A value that is compressed in place, with its header.
     Packed { start: usize, len: usize },
-    /// A value that stands in a TOAST table.
-    External(ToastPointer),
+    /// A value that stands in a TOAST table: where the 16 bytes begin that say where.
+    External { start: usize },
+}
+
+/// The pointer in the 16 bytes at a place of a tuple's body.
+#[inline]
+#[tactic(auto, unfolding(crate::specs::Forms::pointer_at))]
+pub fn pointer_at(body: &[u8], at: usize) -> ToastPointer
+    requires { at + 16 ≤ length body.now }
+    ensures { result ≡ pointer_at body.now at }
+{
+    ToastPointer {
+        raw_size: u32_at(body, at).cast_signed(),
+        ext_info: u32_at(body, at + 4),
+        value_id: u32_at(body, at + 8),
+        relation: u32_at(body, at + 12),
+    }
 }
 
 impl AttrPlace {
@@ -58,7 +76,7 @@ impl AttrPlace {
             AttrPlace::Missing => Attr::Missing,
             AttrPlace::Plain { start, len } => Attr::Plain(&body[start..start + len]),
             AttrPlace::Packed { start, len } => Attr::Packed(&body[start..start + len]),
-            AttrPlace::External(pointer) => Attr::External(pointer),
+            AttrPlace::External { start } => Attr::External(pointer_at(body, start)),
         }
     }
 }

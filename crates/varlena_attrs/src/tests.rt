@@ -3,7 +3,7 @@ ghost use Rattle.varlena_attrs.specs.Shown.{HasAlignment};
 
 use crate::buffer::AttrBuffer;
 use crate::fault::AttrFault;
-use crate::places::{Attr, AttrPlace, ToastPointer};
+use crate::places::{Attr, AttrPlace, ToastPointer, pointer_at};
 use crate::reading::attributes;
 use crate::values::value_of;
 use key_orders::{ColType, ValueRef};
@@ -146,18 +146,20 @@ fn toast_pointers(rt: HostRuntime) {
     for (body, want) in [
         (
             body.as_slice(),
-            Ok([plain(0, 16), AttrPlace::External(pointer)]),
+            Ok([plain(0, 16), AttrPlace::External { start: 18 }]),
         ),
         (&body[..33], past_end(2)),
         (&body[..17], past_end(2)),
         (
             negative.as_slice(),
-            Ok([plain(0, 16), AttrPlace::External(below)]),
+            Ok([plain(0, 16), AttrPlace::External { start: 18 }]),
         ),
         (&tagged[..18], bad_tag(2)),
     ] {
         tries(&rt, rt.alloc(), &columns, body, want);
     }
+    assert_eq!(rt; pointer_at(&body, 18), pointer);
+    assert_eq!(rt; pointer_at(&negative, 18), below);
 }
 
 // Each fixed length at its alignment, and a last column that is cut off.

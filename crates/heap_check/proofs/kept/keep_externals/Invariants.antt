@@ -1,4 +1,4 @@
-use Rattle.std.proofs.Common.{◌≡◌, ◌++◌, ℕ, List}
+use Rattle.std.proofs.Common.{◌≡◌, ◌++◌}
 use Rattle.heap_check.specs.Below.{each_below}
 use Rattle.heap_check.specs.Kept.{external_at}
 use Rattle.varlena_attrs.specs.Shown.{shown_in}
@@ -6,4 +6,4 @@ use Rattle.heap_check.proofs.kept.keep_externals.Given as goal
 
 -- the values of the columns so far are kept
 abbrev pub invariant-loop-k : goal.invariant-loop-k
-invariant-loop-k l = (body : List ℕ) → l.externals.items ≡ l.initial.externals.items ++ each_below (external_at l.tid.block l.tid.item (shown_in body l.places)) l.k
+invariant-loop-k l = l.externals.items ≡ l.initial.externals.items ++ each_below (external_at l.tid.block l.tid.item (shown_in l.body l.places)) l.k
