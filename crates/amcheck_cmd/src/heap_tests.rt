@@ -41,6 +41,12 @@ const TOAST: Pieces<'static> = &[
     ),
 ];
 
+// A tuple of one int4 that transaction 700 inserted, up to the last byte that isn't 0.
+const INT_TUPLE: &[u8] = &[
+    0xbc, 0x02, 0x00, 0x00, 0x00, 0x00, 0x00, 0x00, 0x00, 0x00, 0x00, 0x00, 0x00, 0x00, 0x00, 0x00,
+    0x01, 0x00, 0x01, 0x00, 0x00, 0x09, 0x18, 0x00, 0x05,
+];
+
 // The case text up to the heap's file.
 const CLUSTER: &str =
     "[cluster]\nnext_xid = 1000\noldest_xid = 3\nnext_multi = 10\noldest_multi = 1\n\
@@ -88,6 +94,142 @@ fn expect_run(rt: &impl Abort, alloc: Global, row: &HeapRun<'_>) -> Result<(), F
     let mut files = files_of(alloc, row)?;
     let words = ["heap", "case.toml"];
     expect(rt, alloc, &words, &mut files, (row.code, row.text))
+}
+
+#[test]
+fn items_that_meet(rt: HostRuntime) -> Result<(), Fail> {
+    let rows = [
+        // In no order, and none meets another.
+        HeapRun {
+            case: INT_COLUMN,
+            heap: &[
+                (12, &[0x28, 0x00, 0x00, 0x1f, 0x00, 0x20, 0x04, 0x20]),
+                (
+                    24,
+                    &[
+                        0xa0, 0x9f, 0x38, 0x00, 0xe0, 0x9f, 0x38, 0x00, 0x80, 0x9f, 0x38, 0x00,
+                        0xc0, 0x9f, 0x38, 0x00,
+                    ],
+                ),
+                (8096, INT_TUPLE),
+                (8160, INT_TUPLE),
+                (8064, INT_TUPLE),
+                (8128, INT_TUPLE),
+            ],
+            map: 0,
+            toast: &[],
+            code: 0,
+            text: "findings 0 unjudged 0\nverdict clean\n",
+        },
+        // In no order: item 3 meets item 1, and item 4 items 2 and 3.
+        HeapRun {
+            case: INT_COLUMN,
+            heap: &[
+                (12, &[0x28, 0x00, 0x00, 0x1f, 0x00, 0x20, 0x04, 0x20]),
+                (
+                    24,
+                    &[
+                        0xa0, 0x9f, 0x38, 0x00, 0xe0, 0x9f, 0x38, 0x00, 0xb0, 0x9f, 0x38, 0x00,
+                        0xc8, 0x9f, 0x38, 0x00,
+                    ],
+                ),
+                (8096, INT_TUPLE),
+                (8160, INT_TUPLE),
+            ],
+            map: 0,
+            toast: &[],
+            code: 1,
+            text: "finding H2 heap block 0 item 3\nfinding H2 heap block 0 item 4\nfindings 2 unjudged 0\nverdict findings\n",
+        },
+        // Item 2 ends where item 1 begins, and item 3 where item 2 does.
+        HeapRun {
+            case: INT_COLUMN,
+            heap: &[
+                (12, &[0x24, 0x00, 0x00, 0x1f, 0x00, 0x20, 0x04, 0x20]),
+                (
+                    24,
+                    &[
+                        0xe0, 0x9f, 0x38, 0x00, 0xc0, 0x9f, 0x40, 0x00, 0xa0, 0x9f, 0x40, 0x00,
+                    ],
+                ),
+                (8160, INT_TUPLE),
+                (8128, INT_TUPLE),
+                (8096, INT_TUPLE),
+            ],
+            map: 0,
+            toast: &[],
+            code: 0,
+            text: "findings 0 unjudged 0\nverdict clean\n",
+        },
+        // Each below the one before it, but item 2 meets item 1, and item 3 item 2.
+        HeapRun {
+            case: INT_COLUMN,
+            heap: &[
+                (12, &[0x28, 0x00, 0x00, 0x1f, 0x00, 0x20, 0x04, 0x20]),
+                (
+                    24,
+                    &[
+                        0xe0, 0x9f, 0x38, 0x00, 0xc8, 0x9f, 0x38, 0x00, 0xb8, 0x9f, 0x30, 0x00,
+                        0x98, 0x9f, 0x38, 0x00,
+                    ],
+                ),
+                (8160, INT_TUPLE),
+                (8088, INT_TUPLE),
+            ],
+            map: 0,
+            toast: &[],
+            code: 1,
+            text: "finding H2 heap block 0 item 2\nfinding H2 heap block 0 item 3\nfindings 2 unjudged 0\nverdict findings\n",
+        },
+        // Item 6 lies where items 2, 4 and 5 would, which are unused, dead and misplaced; item 7 meets
+        // items 1 and 6.
+        HeapRun {
+            case: INT_COLUMN,
+            heap: &[
+                (12, &[0x34, 0x00, 0x00, 0x1f, 0x00, 0x20, 0x04, 0x20]),
+                (
+                    24,
+                    &[
+                        0xa0, 0x9f, 0x38, 0x00, 0xc0, 0x1f, 0x38, 0x00, 0x01, 0x00, 0x01, 0x00,
+                        0xc0, 0x9f, 0x39, 0x00, 0xc4, 0x9f, 0x38, 0x00, 0xc0, 0x9f, 0x38, 0x00,
+                        0xa8, 0x9f, 0x38, 0x00,
+                    ],
+                ),
+                (8096, INT_TUPLE),
+                (8128, INT_TUPLE),
+            ],
+            map: 0,
+            toast: &[],
+            code: 1,
+            text: "finding H1 heap block 0 item 5\nfinding H2 heap block 0 item 7\nfindings 2 unjudged 0\nverdict findings\n",
+        },
+        // Item 3 lies below the items before it, which are in no order, and item 4 meets it alone.
+        HeapRun {
+            case: INT_COLUMN,
+            heap: &[
+                (12, &[0x2c, 0x00, 0x00, 0x1f, 0x00, 0x20, 0x04, 0x20]),
+                (
+                    24,
+                    &[
+                        0xa0, 0x9f, 0x38, 0x00, 0xe0, 0x9f, 0x38, 0x00, 0x80, 0x9f, 0x38, 0x00,
+                        0x88, 0x9f, 0x30, 0x00, 0xc0, 0x9f, 0x38, 0x00,
+                    ],
+                ),
+                (8096, INT_TUPLE),
+                (8160, INT_TUPLE),
+                (8064, INT_TUPLE),
+                (8128, INT_TUPLE),
+            ],
+            map: 0,
+            toast: &[],
+            code: 1,
+            text: "finding H2 heap block 0 item 4\nfindings 1 unjudged 0\nverdict findings\n",
+        },
+    ];
+    for row in &rows {
+        expect_run(&rt, rt.alloc(), row)?;
+    }
+    Ok(())
 }
 
 #[test]

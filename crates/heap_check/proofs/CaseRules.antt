@@ -1,7 +1,7 @@
 -- What the code judges of a case is what is found of the case.
-use Rattle.std.proofs.Common.{◌≡◌, ℕ, ◌-◌, ◌/◌, ◌≤◌, ◌<◌, Bool, false, List, ◌++◌, refl, sym, ap, ◌∙◌, append-nil, append_assoc, add-one, ◌+◌, length, drop, get_or, arith}
+use Rattle.std.proofs.Common.{◌≡◌, ℕ, ◌-◌, ◌/◌, ◌≤◌, ◌<◌, Bool, false, List, ◌++◌, refl, sym, ap, ◌∙◌, append-nil, append_assoc, add-one, ◌+◌, length, drop, get_or, arith, Bor}
 use Rattle.std.specs.Prelude.{Option, Some, None, IfSome, map, nat_lt, if◌then◌else◌}
-use Rattle.std.specs.Option.{option_map}
+use Rattle.std.specs.Option.{option_copied, option_map}
 use Rattle.std.proofs.Math.Seq.{drop-cons}
 use Rattle.std.proofs.Math.ListN.{drop_of_length-le}
 use Rattle.std.proofs.lemmas.Grind.{common_steps}
@@ -12,21 +12,23 @@ use Rattle.rel_files.specs.Blocks.{front_blocks_of, front_long_segment_of, last_
 use Rattle.rel_files.specs.Relation.{FindsFront, IsFrontOf, IsRelationOf, base_of, count_of, long_of, size_of}
 use Rattle.rel_files.specs.declared.relation.Relation.{Relation}
 use Rattle.case_file.specs.Record.{CaseRecord}
-use Rattle.liveness.specs.LogFiles.{LogFiles, logs_of}
+use Rattle.liveness.specs.LogFiles.{LogFiles, log_files_of, logs_of}
 use Rattle.vis_map.specs.Bits.{map_page_of, map_pages_for, no_bits}
 use Rattle.vis_map.specs.declared.bits.MapBits.{MapBits}
 use Rattle.toast_chunks.specs.Rows.{toast_columns}
 use Rattle.toast_chunks.specs.declared.map.Chunk.{Chunk}
 use Rattle.reports.specs.declared.places.Finding.{Finding}
 use Rattle.reports.specs.declared.places.Rel.TheVariants.{Heap as heap, Map as map_pages, Toast as toast}
+use Rattle.reports.specs.declared.places.Rel.{Rel}
 use Rattle.heap_check.specs.Below.{each_below}
 use Rattle.heap_check.specs.Files.{IsNamed, IsToastIn, IsToastNamed}
 use Rattle.heap_check.specs.Heap.{block_limit, chunks_of, external_findings, externals_of, heap_blocks, heap_doubts, heap_findings, heap_long_segment, log_files_in, map_blocks, map_findings, map_long_segment, of_toast, segment_findings, table_of, toast_blocks, toast_chunks_in, toast_doubts, toast_doubts_in, toast_findings, toast_findings_in, toast_long_segment, toast_table_of, value_findings}
 use Rattle.heap_check.specs.Map.{map_bits, map_block_findings, map_name, page_bits}
 use Rattle.heap_check.specs.MapPage.{IsMapAttached}
-use Rattle.heap_check.specs.Tables.{bits_seen, table_chunks, table_doubts, table_externals, table_findings, table_with}
+use Rattle.heap_check.specs.Tables.{bits_seen, table_chunks, table_doubts, table_externals, table_findings, table_seen, table_with}
 use Rattle.heap_check.specs.Verdicts.{Table}
 use Rattle.heap_check.specs.declared.kept.ExternalValue.{ExternalValue}
+use Rattle.heap_check.specs.declared.table.TableRules.{TableRules}
 use Rattle.heap_check.proofs.Refusals.{first_is_last, no_blocks}
 
 -- THE MAP
@@ -107,6 +109,16 @@ heap_externals case names table r e called is = rw (e, is.count, called.named, c
 pub toast_table_is : (case : CaseRecord) (names : Names) (files : LogFiles) → files ≡ log_files_in case → table_with names toast toast_columns None None files ≡ toast_table_of case names
 unfolding table_with toast_table_of
 toast_table_is case names files e = rw e refl
+
+-- the same of the code's rules of it
+pub toast_rules_are : (case : CaseRecord) (names : Names) (rules : TableRules) → rules.rel ≡ toast → rules.columns.now ≡ toast_columns → rules.toast ≡ None → rules.map ≡ None → log_files_of rules.logs ≡ log_files_in case → table_seen names rules ≡ toast_table_of case names
+toast_rules_are case names rules rel columns none no_map logs =
+    let seen = λ (l : Rel) (cs : List ColType) (o : Option ℕ) (m : Option Relation) (fs : LogFiles). table_with names l cs o m fs in
+    ap (λ (l : Rel). seen l rules.columns.now rules.toast (option_copied rules.map) (log_files_of rules.logs)) rel
+    ∙ ap (λ (cs : List ColType). seen toast cs rules.toast (option_copied rules.map) (log_files_of rules.logs)) columns
+    ∙ ap (λ (o : Option ℕ). seen toast toast_columns o (option_copied rules.map) (log_files_of rules.logs)) none
+    ∙ ap (λ (m : Option (Bor Relation)). seen toast toast_columns None (option_copied m) (log_files_of rules.logs)) no_map
+    ∙ toast_table_is case names (log_files_of rules.logs) logs
 
 -- the case has a TOAST table where one is attached, and none where none is
 pub record ToastOf (case : CaseRecord) (names : Names) (r : Relation) : Type 0 where

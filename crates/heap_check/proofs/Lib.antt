@@ -6,6 +6,7 @@ pub mod CaseRules
 pub mod ColumnLaws
 pub mod Found
 pub mod HeldLaws
+pub mod InlineLaws
 pub mod ItemLaws
 pub mod JointLaws
 pub mod JointRules

@@ -1,13 +1,14 @@
--- Two placed items share a byte exactly where they share a cell.
+-- Two placed items share a byte exactly where they share a cell, and an item that lies wholly below others meets none of them.
 use Rattle.std.proofs.Common.{◌≡◌, ℕ, zero, suc, ◌+◌, ◌-◌, ◌*◌, ◌/◌, ◌%◌, ◌<◌, ◌≤◌, Bool, true, false, List, length, get_or, refl, sym, ap, subst, ◌∙◌, inl, inr, arith}
 use Rattle.std.specs.Prelude.{not, ◌==◌, ◌&&◌, ◌||◌, nat_le, nat_lt, max, ◌⊎◌}
+use Rattle.std.proofs.lemmas.Bool.{cases_lt}
 use Rattle.std.proofs.lemmas.Grind.{common_steps}
 use Rattle.page_layout.specs.Items.{HasStorage, is_misplaced_heap_item, is_normal}
 use Rattle.page_layout.specs.Page.{header_of, item_of, upper_of}
 use Rattle.page_layout.specs.declared.page.LineFlag.{LineFlag}
 use Rattle.page_layout.specs.declared.page.PageHeader.{PageHeader}
 use Rattle.page_layout.specs.declared.page.LinePtr.{LinePtr}
-use Rattle.heap_check.specs.Storage.{has_storage, shares_byte, meets_item_below, covers, is_covered, AreCells, IsTakenBetween, taken_with}
+use Rattle.heap_check.specs.Storage.{has_storage, shares_byte, meets_item_below, covers, is_covered, AreCells, AreMarked, IsTakenBetween, Marking, taken_with}
 
 aligned_by : (normal : Bool) (upper off len : ℕ) → (normal && not (normal && (not (off % 8 == 0) || nat_lt off upper || nat_lt 8192 (off + len) || nat_lt len 24))) ≡ true → off % 8 ≡ 0
 aligned_by normal upper off len e = grind (arith, common_steps)
@@ -108,7 +109,7 @@ meets_covered page (suc n) p at met =
     ]
 
 -- a page without items has all cells free
-pub free_at_first : (page : List ℕ) (cells : List Bool) → length cells ≡ 1024 → ((k : ℕ) → get_or cells k false ≡ false) → AreCells page 0 cells
+pub free_at_first : (page : List ℕ) (cells : List Bool) → length cells ≡ 1024 → ((k : ℕ) → get_or cells k false ≡ false) → AreMarked page 0 cells
 unfolding is_covered
 free_at_first page cells long free = record { long = long; right = λ k lt. free k }
 
@@ -117,7 +118,7 @@ skipped_by : (covered storage covers_it : Bool) → storage ≡ false → covere
 skipped_by true storage covers_it e = refl
 skipped_by false storage covers_it e = rw e refl
 
-pub skipped : (page : List ℕ) (n : ℕ) (cells : List Bool) → has_storage (upper_of page) (item_of page (suc n)) ≡ false → AreCells page n cells → AreCells page (suc n) cells
+pub skipped : (page : List ℕ) (n : ℕ) (cells : List Bool) → has_storage (upper_of page) (item_of page (suc n)) ≡ false → AreMarked page n cells → AreMarked page (suc n) cells
 unfolding is_covered
 skipped page n cells e are = record {
   long = are.long;
@@ -131,7 +132,7 @@ covers_by off len k aligned = grind (arith, common_steps)
 taken_by : (was covered storage between covers_it : Bool) → was ≡ covered → storage ≡ true → between ≡ covers_it → (was || between) ≡ (covered || (storage && covers_it))
 taken_by was covered storage between covers_it e f g = rw (e, f, g) refl
 
-pub added : (page : List ℕ) (n : ℕ) (old new : List Bool) → has_storage (upper_of page) (item_of page (suc n)) ≡ true → AreCells page n old → length new ≡ length old → ((k : ℕ) → get_or new k false ≡ taken_with old ((item_of page (suc n)).off / 8) (((item_of page (suc n)).off + (item_of page (suc n)).len + 7) / 8) k) → AreCells page (suc n) new
+pub added : (page : List ℕ) (n : ℕ) (old new : List Bool) → has_storage (upper_of page) (item_of page (suc n)) ≡ true → AreMarked page n old → length new ≡ length old → ((k : ℕ) → get_or new k false ≡ taken_with old ((item_of page (suc n)).off / 8) (((item_of page (suc n)).off + (item_of page (suc n)).len + 7) / 8) k) → AreMarked page (suc n) new
 unfolding is_covered
 added page n old new e are long taken =
     let p = item_of page (suc n) in
@@ -145,7 +146,10 @@ met_by : (met : Bool) → (met ≡ true → ⊥) → met ≡ false
 met_by true never = absurd (never refl)
 met_by false never = refl
 
-pub meets_by_cells : (page : List ℕ) (n : ℕ) (old : List Bool) (p : LinePtr) (was : Bool) → has_storage (upper_of page) p ≡ true → AreCells page n old → (was ≡ true → IsTakenBetween old (p.off / 8) ((p.off + p.len + 7) / 8)) → (was ≡ false → (k : ℕ) → p.off / 8 ≤ k → k < (p.off + p.len + 7) / 8 → get_or old k false ≡ false) → was ≡ meets_item_below page n p
+differ : (b : Bool) → b ≡ false → b ≡ true → ⊥
+differ b f t = cc
+
+pub meets_by_cells : (page : List ℕ) (n : ℕ) (old : List Bool) (p : LinePtr) (was : Bool) → has_storage (upper_of page) p ≡ true → AreMarked page n old → (was ≡ true → IsTakenBetween old (p.off / 8) ((p.off + p.len + 7) / 8)) → (was ≡ false → (k : ℕ) → p.off / 8 ≤ k → k < (p.off + p.len + 7) / 8 → get_or old k false ≡ false) → was ≡ meets_item_below page n p
 meets_by_cells page n old p true e are found none =
     let at = placed (upper_of page) p e in
     let there = found refl in
@@ -157,9 +161,6 @@ meets_by_cells page n old p false e are found none =
     let there = meets_covered page n p at met in
     let low : there.cell < 1024 = omega (arith, at.within, there.before) in
     differ _ (sym (are.right there.cell low) ∙ none refl there.cell there.after there.before) there.covered))
-  where
-    differ : (b : Bool) → b ≡ false → b ≡ true → ⊥
-    differ b f t = cc
 
 -- an item that is misplaced, or no normal one, has no storage
 pub misplaced_has_none : (upper : ℕ) (p : LinePtr) → is_misplaced_heap_item upper p ≡ true → has_storage upper p ≡ false
@@ -172,11 +173,52 @@ misplaced_has_none upper p e = rw e (none_by (is_normal p.flag))
 pub other_has_none : (upper : ℕ) (p : LinePtr) → is_normal p.flag ≡ false → has_storage upper p ≡ false
 other_has_none upper p e = rw e refl
 
-pub skipped_at : (page : List ℕ) (i : ℕ) (cells : List Bool) → 1 ≤ i → has_storage (upper_of page) (item_of page i) ≡ false → AreCells page (i - 1) cells → AreCells page i cells
-skipped_at page i cells some none are =
-    let number : suc (i - 1) ≡ i = omega arith in
-    let P : ℕ → Type 0 = λ j. has_storage (upper_of page) (item_of page j) ≡ false → AreCells page j cells in
-    subst P number (λ e. skipped page (i - 1) cells e are) none
+-- an item without storage needs no mark
+pub unmarked_next : (page : List ℕ) (k upper : ℕ) (item : LinePtr) (test : Bool) (cells : List Bool) → upper ≡ upper_of page → item ≡ item_of page (k + 1) → test ≡ has_storage upper item → test ≡ false → AreMarked page k cells → AreMarked page (k + 1) cells
+unmarked_next page k upper item test cells above it tested none are =
+    let number : suc k ≡ k + 1 = omega arith in
+    let P : ℕ → Type 0 = λ j. has_storage (upper_of page) (item_of page j) ≡ false → AreMarked page j cells in
+    subst P number (λ e. skipped page k cells e are) (rw (← above, ← it, ← tested) none)
+
+-- no byte of the items 1, .., n of the page lies below this place
+abbrev pub AreAbove : List ℕ → ℕ → ℕ → Type 0
+AreAbove page n place = (j : ℕ) → 1 ≤ j → j ≤ n → has_storage (upper_of page) (item_of page j) ≡ true → place ≤ (item_of page j).off
+
+above_by_last : (page : List ℕ) (i place j : ℕ) → (has_storage (upper_of page) (item_of page i) ≡ true → place ≤ (item_of page i).off) → AreAbove page (i - 1) place → 1 ≤ j → j ≤ i → has_storage (upper_of page) (item_of page j) ≡ true → place ≤ (item_of page j).off
+above_by_last page i place j last before some upto storage = elim (cases_lt (i - 1) j) [
+  | inr lower ↦ before j some lower storage
+  | inl later ↦ let same : i ≡ j = omega arith in subst (λ (k : ℕ). has_storage (upper_of page) (item_of page k) ≡ true → place ≤ (item_of page k).off) same last storage
+]
+
+-- to a page's cells that are free no item was added
+pub none_added : (page : List ℕ) (cells : Marking) → cells.marked ≡ 0 → AreMarked page 0 cells.taken → AreCells page 0 cells
+none_added page cells none free = record {
+  some = omega (arith, none);
+  right = rw none free;
+  above = λ j some upto storage. absurd (omega arith);
+}
+
+-- an item without storage is added by leaving all as it is
+pub skipped_at : (page : List ℕ) (i : ℕ) (cells : Marking) → 1 ≤ i → has_storage (upper_of page) (item_of page i) ≡ false → AreCells page (i - 1) cells → AreCells page i cells
+skipped_at page i cells some none are = record {
+  some = omega (arith, are.some);
+  right = are.right;
+  above = λ j. above_by_last page i cells.lowest j (λ storage. absurd (differ _ none storage)) are.above;
+}
+
+-- an item that lies wholly below the items before it meets none of them
+pub meets_none_above : (page : List ℕ) (n place : ℕ) (p : LinePtr) → p.off + p.len ≤ place → AreAbove page n place → meets_item_below page n p ≡ false
+unfolding meets_item_below
+meets_none_above page zero place p ends above = refl
+meets_none_above page (suc n) place p ends above =
+    let q = item_of page (suc n) in
+    let before = meets_none_above page n place p ends (λ j some upto storage. above j some (omega (arith, upto)) storage) in
+    none_by (meets_item_below page n p) (has_storage (upper_of page) q) q.off q.len p.off p.len place before ends (above (suc n) (omega arith) (omega arith))
+  where
+    none_by : (met storage : Bool) (a m b n place : ℕ) → met ≡ false → b + n ≤ place → (storage ≡ true → place ≤ a) → (met || (storage && (nat_lt a (b + n) && nat_lt b (a + m)))) ≡ false
+    none_by true storage a m b n place e ends above = absurd (grind arith)
+    none_by false false a m b n place e ends above = refl
+    none_by false true a m b n place e ends above = let later = above refl in grind (arith, common_steps)
 
 -- what the code's test of an item says of the page's item
 pub broken_item : (page : List ℕ) (i : ℕ) (header : PageHeader) (item : LinePtr) (test : Bool) → header ≡ header_of page → item ≡ item_of page i → test ≡ is_misplaced_heap_item header.upper item → test ≡ true → is_misplaced_heap_item (upper_of page) (item_of page i) ≡ true

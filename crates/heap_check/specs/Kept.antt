@@ -1,6 +1,6 @@
 -- What of the items of a page is kept for the rules that come later: their states, for chains and visibility; of live tuples the
 -- values that stand in a TOAST table, and of a TOAST table's live tuples the chunks.
-use Rattle.std.specs.Prelude.{ℕ, ◌+◌, List, [], ◌∷◌, length, slice_get, Option, Some, None, Ok, Err}
+use Rattle.std.specs.Prelude.{ℕ, ◌+◌, Bool, false, List, [], ◌∷◌, length, slice_get, Option, Some, None, Ok, Err}
 use Rattle.page_layout.specs.Page.{count_of}
 use Rattle.page_layout.specs.declared.rules.Rule.{Rule}
 use Rattle.liveness.specs.declared.states.ItemState.{ItemState}
@@ -8,6 +8,7 @@ use Rattle.liveness.specs.declared.states.ItemState.TheVariants.{Unused, Dead, R
 use Rattle.liveness.specs.declared.states.Life.{Life}
 use Rattle.liveness.specs.declared.states.Life.TheVariants as life
 use Rattle.varlena_attrs.specs.Forms.{Attribute, Null, Missing, Plain, Packed, External}
+use Rattle.varlena_attrs.specs.Inline.{are_inline}
 use Rattle.varlena_attrs.specs.Reading.{Outcome}
 use Rattle.varlena_attrs.specs.Tuples.{attributes_in}
 use Rattle.toast_chunks.specs.Rows.{row_of}
@@ -64,6 +65,13 @@ attributes_by outcome (InDoubt reason) = []
 
 unfoldable pub live_attributes : Table → List ℕ → ℕ → List Attribute
 live_attributes table page i = attributes_by (attributes_in table.columns (tuple_at page i)) (item_verdict table page i)
+
+-- the values of a live tuple of a table break no rule, and none of them is kept: it isn't a chunk, and all are stored in line
+abbrev pub keeps_nothing : Rel → Outcome → Bool
+keeps_nothing heap outcome = are_inline outcome
+keeps_nothing map outcome = are_inline outcome
+keeps_nothing toast outcome = false
+keeps_nothing (index n) outcome = are_inline outcome
 
 -- EXTERNAL VALUES
 

@@ -34,10 +34,22 @@ is_covered page zero cell = false
 is_covered page (suc n) cell =
     is_covered page n cell || (has_storage (upper_of page) (item_of page (suc n)) && covers (item_of page (suc n)) cell)
 
--- for each cell, whether one of the items 1, .., n covers it
-pub record AreCells (page : List ℕ) (n : ℕ) (cells : List Bool) : Type 0 where
+-- the items 1, .., n of the page are marked: for each cell, whether one of them covers it
+pub record AreMarked (page : List ℕ) (n : ℕ) (cells : List Bool) : Type 0 where
   pub long : length cells ≡ 1024
   pub right : (k : ℕ) → k < 1024 → get_or cells k false ≡ is_covered page n k
+
+-- what is kept of the items that were added: the cells of those up to the number `marked`, and a place below which no byte of any lies
+pub record Marking : Type 0 where
+  pub taken : List Bool
+  pub marked : ℕ
+  pub lowest : ℕ
+
+-- the items 1, .., n of the page are added
+pub record AreCells (page : List ℕ) (n : ℕ) (cells : Marking) : Type 0 where
+  pub some : cells.marked ≤ n
+  pub right : AreMarked page cells.marked cells.taken
+  pub above : (j : ℕ) → 1 ≤ j → j ≤ n → has_storage (upper_of page) (item_of page j) ≡ true → cells.lowest ≤ (item_of page j).off
 
 -- a cell from `first` to before `end` is taken
 pub record IsTakenBetween (cells : List Bool) (first end : ℕ) : Type 0 where

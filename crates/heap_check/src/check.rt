@@ -1,7 +1,8 @@
 // Judges a whole case but for its indexes: its visibility map, its heap and its TOAST table.
-ghost use Rattle.std.specs.Prelude.{◌≡◌, ◌↔◌, ◌⊎◌, [], IfErr, IfOk, IfSome, IsSome, OnOk};
+ghost use Rattle.std.specs.Prelude.{◌≡◌, ◌↔◌, ◌⊎◌, None, [], IfErr, IfOk, IfSome, IsSome, OnOk};
 ghost use Rattle.outside.specs.Adds.{Adds};
 ghost use Rattle.outside.specs.Outside.{Causes, IfTold};
+ghost use Rattle.liveness.specs.LogFiles.{log_files_of};
 ghost use Rattle.heap_check.specs.CaseLogs.{log_files_kept};
 ghost use Rattle.heap_check.specs.Files.{AreFilesOf, BelongTo, IsSoundHeapOf, files_of};
 ghost use Rattle.heap_check.specs.Heap.{IsQuiet, chunks_of, doubts_of, external_findings, externals_of, file_findings, findings_of, heap_doubts, heap_findings, log_files_in, map_findings, toast_doubts, toast_findings, value_findings};
@@ -21,6 +22,7 @@ use page_layout::Rule;
 use reports::{CheckFault, Place, Rel, Report};
 use std::alloc::Global;
 use toast_chunks::{TOAST_COLUMNS, ToastMap};
+use varlena_attrs::ColumnLayout;
 
 // Judges the pages of the visibility map, if there is one. The last is then in hand.
 fn judge_map<F: Files>(
@@ -72,14 +74,32 @@ fn judge_heap<F: Files>(
     ensures cause { Causes (F.faults files.old) (F.faults files.new) result RowFault.ReadFault }
 {
     case.sound();
+    let columns = ColumnLayout::new(case.column_types());
     let table = TableRules {
         rel: Rel::Heap,
-        columns: case.column_types(),
+        columns: &columns,
         toast: toast_oid(case),
         map: at.map.as_ref(),
         logs: logs.lent(),
     };
     judge_table(alloc, files, &table, &at.heap, hand, kept, report)
+}
+
+// The rules of a case's TOAST table, which has these columns.
+fn toast_rules<'p>(columns: &'p ColumnLayout<'p>, logs: &'p CaseLogs) -> TableRules<'p>
+    ensures rel { result.rel ≡ Rel.Toast }
+    ensures columns { result.columns.now ≡ columns.now }
+    ensures toast { result.toast ≡ None }
+    ensures map { result.map ≡ None }
+    ensures logs { log_files_of result.logs ≡ log_files_kept logs.now }
+{
+    TableRules {
+        rel: Rel::Toast,
+        columns,
+        toast: None,
+        map: None,
+        logs: logs.lent(),
+    }
 }
 
 // Judges the TOAST table of a case, if it has one, and keeps its live chunks.
@@ -105,13 +125,8 @@ fn judge_toast<F: Files>(
     match &at.toast {
         None => Ok(()),
         Some(toast) => {
-            let table = TableRules {
-                rel: Rel::Toast,
-                columns: &TOAST_COLUMNS,
-                toast: None,
-                map: None,
-                logs: logs.lent(),
-            };
+            let columns = ColumnLayout::new(&TOAST_COLUMNS);
+            let table = toast_rules(&columns, logs);
             judge_table(
                 alloc,
                 files,

@@ -22,6 +22,7 @@ use key_orders::Tid;
 use outside::{Files, NoMemory};
 use reports::Rel;
 use std::alloc::Global;
+use varlena_attrs::ColumnLayout;
 
 /// A live tuple of a heap.
 #[derive(Drop)]
@@ -50,16 +51,20 @@ pub struct LiveRows<'a> {
 }
 
 // The rules of a case's heap, without its visibility map.
-fn heap_rules<'p>(case: &'p Case, logs: &'p CaseLogs) -> TableRules<'p>
+fn heap_rules<'p>(
+    case: &'p Case,
+    columns: &'p ColumnLayout<'p>,
+    logs: &'p CaseLogs,
+) -> TableRules<'p>
     ensures rel { result.rel ≡ Rel.Heap }
-    ensures columns { result.columns.now ≡ map (λ c. c.ctype) case.now.columns }
+    ensures columns { result.columns.now ≡ columns.now }
     ensures toast { result.toast ≡ option_map (λ t. t.1) case.now.toast }
     ensures map { result.map ≡ None }
     ensures logs { log_files_of result.logs ≡ log_files_kept logs.now }
 {
     TableRules {
         rel: Rel::Heap,
-        columns: case.column_types(),
+        columns,
         toast: toast_oid(case),
         map: None,
         logs: logs.lent(),
@@ -131,7 +136,8 @@ impl<'a> LiveRows<'a> {
         let case = self.case;
         let heap = self.heap;
         case.sound();
-        let table = heap_rules(case, &self.logs);
+        let columns = ColumnLayout::new(case.column_types());
+        let table = heap_rules(case, &columns, &self.logs);
         let blocks = heap.files.heap.blocks();
         let next = self.next;
         prove!(next < blocks);

@@ -2,29 +2,42 @@
 ghost use Rattle.std.specs.Prelude.{◌≡◌, ◌+◌, ◌-◌, ◌≤◌, ◌<◌, ℕ, List, true, false, length, get_or, IfOk};
 ghost use Rattle.page_layout.specs.Page.{HasItems, count_of, item_of, upper_of};
 ghost use Rattle.page_layout.specs.View.{page_bytes};
-ghost use Rattle.heap_check.specs.Storage.{AreCells, IsTakenBetween, has_storage, meets_item_below, taken_with};
+ghost use Rattle.heap_check.specs.Storage.{AreCells, AreMarked, IsTakenBetween, has_storage, meets_item_below, taken_with};
 
 use outside::NoMemory;
-use page_layout::PageView;
+use page_layout::{LinePtr, PageView};
 use std::alloc::Global;
 use std::marker::Model;
 
 // How many cells a page of 8192 bytes has.
 const CELLS: usize = 1024;
 
-/// For each cell of a page, whether it belongs to one of the items that were added. Made once, and
-/// cleared for each page.
+// How many bytes a page has.
+const PAGE_BYTES: u16 = 8192;
+
+/// The items of a page that were added, kept so that it can be asked whether another item's storage
+/// meets theirs. Made once, and cleared for each page.
+///
+/// On most pages each item lies wholly below all items before it, and then the lowest byte of these
+/// says that it meets none. Where an item doesn't, the items before it are marked in the cells of
+/// the page, each of them once.
 #[derive(Drop)]
 pub struct PageCells {
+    // For each cell, whether it belongs to one of the items that are marked.
     taken: Vec<bool>,
+    // The items up to this number are marked; 0 where none is.
+    marked: u16,
+    // No byte of an item that was added lies below this place, in bytes from the page's start.
+    lowest: u16,
 }
 
 impl Model for PageCells {
-    ghost use Rattle.std.specs.Prelude.{◌≡◌, Bool, List, length};
+    ghost use Rattle.std.specs.Prelude.{◌≡◌, length};
+    ghost use Rattle.heap_check.specs.Storage.{Marking};
 
-    ghost Value = { List Bool };
+    ghost Value = { Marking };
 
-    ghost view = { λ cells. cells.taken.items };
+    ghost view = { λ cells. record { taken = cells.taken.items; marked = cells.marked; lowest = cells.lowest } };
 
     ghost invariant = { λ cells. length cells.taken.items ≡ 1024 };
 }
@@ -55,24 +68,73 @@ fn free_cells(cells: &mut [bool])
     }
 }
 
+// Whether an item of a page with this upper place is a normal one that is where it may be.
+fn has_storage(item: LinePtr, upper: u16) -> bool
+    ensures { result ≡ has_storage upper item }
+{
+    item.flag.is_normal() && !item.is_misplaced_heap_item(upper)
+}
+
+// Marks item i of the page, which has storage, and says whether its storage meets that of one of the
+// items before it, all of which are marked.
+fn mark_item(cells: &mut [bool], page: PageView<'_>, i: u16) -> bool
+    requires page { HasItems (page_bytes page) }
+    requires first { 1 ≤ i }
+    requires last { i ≤ count_of (page_bytes page) }
+    requires storage { has_storage (upper_of (page_bytes page)) (item_of (page_bytes page) i) ≡ true }
+    requires before { AreMarked (page_bytes page) (i - 1) cells.old }
+    ensures meets { result ≡ meets_item_below (page_bytes page.entry) (i - 1) (item_of (page_bytes page.entry) i) }
+    ensures after { AreMarked (page_bytes page.entry) i cells.new }
+{
+    let item = page.item(i);
+    let first = item.off as usize / 8;
+    let end = (item.off as usize + item.len as usize).div_ceil(8);
+    take_cells(cells, first, end)
+}
+
+// Marks the items of the page from `marked + 1` to `last` that have storage. Those up to `marked` are
+// marked already.
+#[tactic(auto, unfolding(page_layout::specs::Page::header_of))]
+fn mark_items(cells: &mut [bool], page: PageView<'_>, marked: u16, last: u16)
+    requires page { HasItems (page_bytes page) }
+    requires order { marked ≤ last }
+    requires last { last ≤ count_of (page_bytes page) }
+    requires before { AreMarked (page_bytes page) marked cells.old }
+    ensures after { AreMarked (page_bytes page.entry) last cells.new }
+{
+    let upper = page.header().upper;
+    for k in marked..last {
+        if has_storage(page.item(k + 1), upper) {
+            mark_item(cells, page, k + 1);
+        }
+    }
+}
+
 impl PageCells {
-    /// The cells of a page, none of which is taken.
+    /// The cells of a page, to which no item was added.
     pub fn new(alloc: Global) -> Result<PageCells, NoMemory>
         ensures { IfOk result (λ cells. (page : List ℕ) → AreCells page 0 cells) }
     {
         let taken = vec![in alloc; false; CELLS]?;
-        Ok(PageCells { taken })
+        Ok(PageCells {
+            taken,
+            marked: 0,
+            lowest: PAGE_BYTES,
+        })
     }
 
-    /// Frees all cells, for another page.
+    /// Forgets all items, for another page.
     pub fn clear(&mut self)
         ensures { (page : List ℕ) → AreCells page 0 self.new }
     {
         free_cells(&mut self.taken);
+        self.marked = 0;
+        self.lowest = PAGE_BYTES;
     }
 
     /// Adds item i of the page, which has storage, to the items before it, and says whether its
     /// storage meets that of one of them.
+    #[inline]
     pub fn add(&mut self, page: PageView<'_>, i: u16) -> bool
         requires page { HasItems (page_bytes page) }
         requires first { 1 ≤ i }
@@ -83,8 +145,29 @@ impl PageCells {
         ensures after { AreCells (page_bytes page.entry) i self.new }
     {
         let item = page.item(i);
-        let first = item.off as usize / 8;
-        let end = (item.off as usize + item.len as usize).div_ceil(8);
-        take_cells(&mut self.taken, first, end)
+        if item.off + item.len <= self.lowest {
+            self.lowest = item.off;
+            return false;
+        }
+        self.add_by_cells(page, i, item.off)
+    }
+
+    // Adds item i of the page, which has storage and begins at `off`, by its cells: first the items
+    // before it are marked that aren't yet.
+    fn add_by_cells(&mut self, page: PageView<'_>, i: u16, off: u16) -> bool
+        requires page { HasItems (page_bytes page) }
+        requires first { 1 ≤ i }
+        requires last { i ≤ count_of (page_bytes page) }
+        requires storage { has_storage (upper_of (page_bytes page)) (item_of (page_bytes page) i) ≡ true }
+        requires place { off ≡ (item_of (page_bytes page) i).off }
+        requires before { AreCells (page_bytes page) (i - 1) self.old }
+        ensures meets { result ≡ meets_item_below (page_bytes page.entry) (i - 1) (item_of (page_bytes page.entry) i) }
+        ensures after { AreCells (page_bytes page.entry) i self.new }
+    {
+        mark_items(&mut self.taken, page, self.marked, i - 1);
+        let meets = mark_item(&mut self.taken, page, i);
+        self.marked = i;
+        self.lowest = self.lowest.min(off);
+        meets
     }
 }

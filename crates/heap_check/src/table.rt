@@ -3,10 +3,10 @@ ghost use Rattle.std.specs.Prelude.{◌≡◌};
 ghost use Rattle.std.specs.Option.{option_map};
 
 use case_file::Case;
-use key_orders::ColType;
 use liveness::Status3;
 use rel_files::Relation;
 use reports::Rel;
+use varlena_attrs::ColumnLayout;
 
 /// How reports call a table, what its columns are, and where its visibility map and the logs of its
 /// transactions stand.
@@ -14,7 +14,7 @@ use reports::Rel;
 pub struct TableRules<'a> {
     pub rel: Rel,
     /// At most 64 columns.
-    pub columns: &'a [ColType],
+    pub columns: &'a ColumnLayout<'a>,
     /// The oid of its TOAST table, where it has one.
     pub toast: Option<u32>,
     /// Its visibility map, where it has one.

@@ -91,7 +91,7 @@ pub fn judge_tuple<F: Files>(
     if head.old_form() {
         return Ok(ItemVerdict::InDoubt(Reason::U1));
     }
-    if let Some(rule) = head.head_rule(table.columns.len() as u16, len) {
+    if let Some(rule) = head.head_rule(table.columns.as_slice().len() as u16, len) {
         return Ok(ItemVerdict::Breaks(rule));
     }
     kept_rules_place_attributes();

@@ -3,7 +3,7 @@ ghost use Rattle.std.specs.Prelude.{◌≡◌, ◌++◌, ◌≤◌, ℕ, List, A
 ghost use Rattle.tuple_head.specs.Head.{tuple_head_of};
 ghost use Rattle.varlena_attrs.specs.Shown.{HasAlignment, IsWithin, shown_at, shown_in};
 ghost use Rattle.varlena_attrs.specs.Tuples.{attributes_in};
-ghost use Rattle.heap_check.specs.Kept.{chunks_by, externals_by, kept_by_values};
+ghost use Rattle.heap_check.specs.Kept.{chunks_by, externals_by, keeps_nothing, kept_by_values};
 ghost use Rattle.heap_check.specs.Values.{first_value_rule, has_externals, is_other_relation, is_stray_pointer, pointer_rule_of, value_rule, values_rule};
 
 use crate::kept::Kept;
@@ -11,6 +11,7 @@ use crate::table::TableRules;
 use key_orders::Tid;
 use outside::NoMemory;
 use page_layout::{Rule, has_bit};
+use reports::Rel;
 use toast_chunks::pointer_rule;
 use tuple_head::HeapHead;
 use varlena_attrs::{AttrBuffer, AttrFault, AttrPlace, ToastPointer, pointer_at};
@@ -85,6 +86,20 @@ fn first_value_rule(
     None
 }
 
+// Whether the values of a live tuple break no rule, and none of them is kept, as of most tuples: it
+// isn't a chunk, and its values are all stored in line.
+fn keeps_nothing(table: &TableRules<'_>, tuple: &[u8], head: HeapHead) -> bool
+    requires header { head ≡ tuple_head_of tuple.now }
+    requires begins { 23 ≤ head.hoff }
+    requires within { head.hoff ≤ length tuple.now }
+    ensures { result ≡ keeps_nothing table.now.rel (attributes_in table.now.columns.now tuple.now) }
+{
+    match table.rel {
+        Rel::Toast => false,
+        Rel::Heap | Rel::Map | Rel::Index(_) => table.columns.are_inline(tuple, head),
+    }
+}
+
 /// The first of the rules H17 to H20 that the live tuple in these bytes breaks: H17 and H18 where its
 /// attributes can't be read, and else H19 and H20 of its values, column by column. Where it breaks
 /// none, what it has is kept.
@@ -107,7 +122,10 @@ pub fn judge_values(
     ensures externals { IfOk result (λ rule. kept.new.externals.items ≡ kept.old.externals.items ++ externals_by table.now.rel tid.block tid.item (kept_by_values rule (attributes_in table.now.columns.now tuple.now))) }
     ensures chunks { IfOk result (λ rule. kept.new.chunks ≡ kept.old.chunks ++ chunks_by table.now.rel tid.block tid.item (kept_by_values rule (attributes_in table.now.columns.now tuple.now))) }
 {
-    match attrs.read_tuple(table.columns, tuple, head) {
+    if keeps_nothing(table, tuple, head) {
+        return Ok(None);
+    }
+    match attrs.read_tuple(table.columns.as_slice(), tuple, head) {
         Ok(body) => {
             let rule = first_value_rule(table.toast, head, body, attrs.as_slice());
             if rule.is_none() {

@@ -44,7 +44,9 @@ impl Known {
 /// refusal of the system for another cause than that there is no such file.
 ///
 /// A file is opened once and stays open. At most 64 are open, and the one that was unused for
-/// longest is closed first. It keeps its allocator for paths, names and pages.
+/// longest is closed first. Of a file of a log the pages that were read are kept while it is open:
+/// at most 256 KiB of a file, and so 16 MiB in all. It keeps its allocator for paths, names and
+/// pages.
 #[derive(Drop)]
 pub struct DiskFiles {
     rt: HostRuntime,

@@ -1,6 +1,7 @@
 //! What no clause says: texts, calls with ample memory, and the real file system.
 use crate::files::{Failed, FileName, Files, Part, Sink};
 use crate::{DiskFiles, MemFiles, MemSink, OutSink, path_of};
+use std::alloc::{AllocError, Global};
 use std::fs;
 use std::test::Fail;
 
@@ -144,34 +145,91 @@ fn real_files_are_read(rt: HostRuntime) -> Result<(), Fail> {
     Ok(())
 }
 
+// Whole pages, each with its number at all of its 8192 places, and then ten bytes with the next
+// number.
+fn numbered_pages(alloc: Global, whole: u8) -> Result<Vec<u8>, AllocError> {
+    let mut bytes = Vec::new(alloc);
+    for number in 0..whole {
+        let page = vec![in alloc; number; 8192]?;
+        bytes.extend_from_slice(&page)?;
+    }
+    bytes.extend_from_slice(&[whole; 10])?;
+    Ok(bytes)
+}
+
+// Asks for the byte at a place of a page of such a file, which is the page's number.
+fn has_number(files: &mut DiskFiles, name: FileName<'_>, page: u8, place: u16) -> bool {
+    let mut byte = [255];
+    let at = u64::from(page) * 8192 + u64::from(place);
+    files.read_at(name, at, &mut byte).is_ok() && byte == [page]
+}
+
 #[test]
 fn a_real_log_is_read_by_pages(rt: HostRuntime) -> Result<(), Fail> {
-    let mut bytes = vec![in rt.alloc(); b'a'; 8192]?;
-    bytes.extend_from_slice(b"bbbbbbbbbb")?;
+    let bytes = numbered_pages(rt.alloc(), 3)?;
     fs::create_dir(&rt, "a_log")?;
     fs::write(&rt, "a_log/000A", bytes.as_slice())?;
     let mut files = DiskFiles::new(rt, rt.alloc());
     let name = log("a_log", 10);
-    assert_eq!(rt; files.length(name), Ok(Some(8202)));
+    assert_eq!(rt; files.length(name), Ok(Some(24586)));
     assert_eq!(rt; files.length(log("a_log", 9)), Ok(None));
-    let mut byte = [0; 1];
-    for (at, want) in [
-        (0, b'a'),
-        (8191, b'a'),
-        (8192, b'b'),
-        (8201, b'b'),
-        (17, b'a'),
+    for (page, place) in [
+        (1, 0),
+        (0, 8191),
+        (3, 9),
+        (1, 8191),
+        (2, 17),
+        (0, 0),
+        (3, 0),
+        (2, 8191),
+        (1, 4000),
+        (0, 17),
     ] {
-        assert_eq!(rt; files.read_at(name, at, &mut byte), Ok(()));
-        assert_eq!(rt; byte, [want]);
+        assert!(rt; has_number(&mut files, name, page, place));
     }
-    let mut pair = [0; 2];
+    let mut pair = [255; 2];
     assert_eq!(rt; files.read_at(name, 8191, &mut pair), Ok(()));
-    assert_eq!(rt; pair, *b"ab");
-    assert_eq!(rt; files.read_at(name, 8202, &mut byte), Err(Failed));
+    assert_eq!(rt; pair, [0, 1]);
+    assert_eq!(rt; files.read_at(name, 24575, &mut pair), Ok(()));
+    assert_eq!(rt; pair, [2, 3]);
+    assert_eq!(rt; files.read_at(name, 24584, &mut pair), Ok(()));
+    assert_eq!(rt; pair, [3, 3]);
+    assert_eq!(rt; files.read_at(name, 24585, &mut pair), Err(Failed));
+    assert!(rt; !has_number(&mut files, name, 3, 10));
+    assert!(rt; !has_number(&mut files, name, 4, 0));
     assert_eq!(rt; files.read_at(name, u64::MAX, &mut pair), Err(Failed));
+    assert!(rt; has_number(&mut files, name, 3, 9));
     fs::remove_file(&rt, "a_log/000A")?;
     fs::remove_dir(&rt, "a_log")?;
+    Ok(())
+}
+
+// Pages 0 to 31 can be kept, 32 and 33 can't. The file is emptied while it is open, to see what was
+// kept of it.
+#[test]
+fn pages_of_a_real_log_are_kept(rt: HostRuntime) -> Result<(), Fail> {
+    let bytes = numbered_pages(rt.alloc(), 33)?;
+    fs::create_dir(&rt, "long_log")?;
+    fs::write(&rt, "long_log/0000", bytes.as_slice())?;
+    let mut files = DiskFiles::new(rt, rt.alloc());
+    let name = log("long_log", 0);
+    for (page, place) in [(31, 8191), (0, 5), (32, 0), (7, 8191), (33, 9), (31, 0)] {
+        assert!(rt; has_number(&mut files, name, page, place));
+    }
+    fs::write(&rt, "long_log/0000", b"")?;
+    for (page, place) in [(7, 0), (0, 8191), (31, 17), (0, 0), (7, 8191)] {
+        assert!(rt; has_number(&mut files, name, page, place));
+    }
+    for (page, place) in [(6, 0), (8, 8191), (32, 0), (33, 9)] {
+        assert!(rt; !has_number(&mut files, name, page, place));
+    }
+    // What failed was not kept.
+    fs::write(&rt, "long_log/0000", bytes.as_slice())?;
+    for (page, place) in [(6, 0), (8, 8191), (32, 0), (33, 9), (7, 0)] {
+        assert!(rt; has_number(&mut files, name, page, place));
+    }
+    fs::remove_file(&rt, "long_log/0000")?;
+    fs::remove_dir(&rt, "long_log")?;
     Ok(())
 }
 

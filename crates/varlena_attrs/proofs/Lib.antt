@@ -3,3 +3,4 @@ pub mod Varlena
 pub mod Stored
 pub mod Law
 pub mod First
+pub mod Ends

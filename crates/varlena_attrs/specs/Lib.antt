@@ -4,4 +4,5 @@ pub mod Reading
 pub mod Tuples
 pub mod Shown
 pub mod Values
+pub mod Inline
 pub mod Laws

@@ -9,6 +9,7 @@
 mod buffer;
 mod fault;
 mod forms;
+mod inline;
 mod places;
 mod reading;
 #[cfg(test)]
@@ -17,6 +18,7 @@ mod values;
 
 pub use buffer::AttrBuffer;
 pub use fault::AttrFault;
+pub use inline::ColumnLayout;
 pub use places::{Attr, AttrPlace, ToastPointer, pointer_at};
 pub use reading::{Attrs, attributes, attributes_are_unique};
 pub use values::value_of;

@@ -1,9 +1,8 @@
 use Rattle.std.proofs.Common.{[], ◌∙◌}
 use Rattle.std.proofs.lemmas.Result.{on_ok_weaker}
-use Rattle.liveness.specs.LogFiles.{log_files_of}
 use Rattle.heap_check.specs.Heap.{chunks_of, toast_chunks_in, toast_doubts, toast_doubts_in, toast_findings, toast_findings_in}
 use Rattle.heap_check.proofs.Adding.{Adds-same}
-use Rattle.heap_check.proofs.CaseRules.{no_toast, toast_absent, toast_doubted, toast_found, toast_has_chunks, toast_of, toast_table_is}
+use Rattle.heap_check.proofs.CaseRules.{no_toast, toast_absent, toast_doubted, toast_found, toast_has_chunks, toast_of, toast_rules_are}
 use Rattle.heap_check.proofs.check.judge_toast.Goals as goal
 
 pub returns-in-None-clause-findings : goal.returns-in-None-clause-findings
@@ -24,14 +23,14 @@ judge_table-requires-clause-attached g c names told = (toast_of c.args.case.now 
 
 pub returns-in-Some-clause-findings : goal.returns-in-Some-clause-findings
 returns-in-Some-clause-findings g c names told =
-    Adds-same _ _ _ _ _ (toast_found c.args.case.now names _ c.in-Some.toast (toast_table_is c.args.case.now names (log_files_of c.lent.result) (c.lent.ensures ∙ c.requires.logs)) (toast_of c.args.case.now names c.in-Some.toast (rw c.in-Some.is at (c.requires.told names told).toast) (rw c.in-Some.is at c.requires.belong.toast))) (c.judge_table.ensures.findings names told)
+    Adds-same _ _ _ _ _ (toast_found c.args.case.now names _ c.in-Some.toast (toast_rules_are c.args.case.now names c.toast_rules-table.result c.toast_rules-table.ensures.rel (c.toast_rules-table.ensures.columns ∙ c.new-columns.ensures) c.toast_rules-table.ensures.toast c.toast_rules-table.ensures.map (c.toast_rules-table.ensures.logs ∙ c.requires.logs)) (toast_of c.args.case.now names c.in-Some.toast (rw c.in-Some.is at (c.requires.told names told).toast) (rw c.in-Some.is at c.requires.belong.toast))) (c.judge_table.ensures.findings names told)
 
 pub returns-in-Some-clause-doubts : goal.returns-in-Some-clause-doubts
 returns-in-Some-clause-doubts g c names told =
-    Adds-same _ _ _ _ _ (toast_doubted c.args.case.now names _ c.in-Some.toast (toast_table_is c.args.case.now names (log_files_of c.lent.result) (c.lent.ensures ∙ c.requires.logs)) (toast_of c.args.case.now names c.in-Some.toast (rw c.in-Some.is at (c.requires.told names told).toast) (rw c.in-Some.is at c.requires.belong.toast))) (c.judge_table.ensures.doubts names told)
+    Adds-same _ _ _ _ _ (toast_doubted c.args.case.now names _ c.in-Some.toast (toast_rules_are c.args.case.now names c.toast_rules-table.result c.toast_rules-table.ensures.rel (c.toast_rules-table.ensures.columns ∙ c.new-columns.ensures) c.toast_rules-table.ensures.toast c.toast_rules-table.ensures.map (c.toast_rules-table.ensures.logs ∙ c.requires.logs)) (toast_of c.args.case.now names c.in-Some.toast (rw c.in-Some.is at (c.requires.told names told).toast) (rw c.in-Some.is at c.requires.belong.toast))) (c.judge_table.ensures.doubts names told)
 
 pub returns-in-Some-clause-chunks : goal.returns-in-Some-clause-chunks
 returns-in-Some-clause-chunks g c =
     on_ok_weaker c.judge_table.result
-    (λ kept names told. kept names told ∙ rw c.requires.blank (toast_has_chunks c.args.case.now names _ c.in-Some.toast (toast_table_is c.args.case.now names (log_files_of c.lent.result) (c.lent.ensures ∙ c.requires.logs)) (toast_of c.args.case.now names c.in-Some.toast (rw c.in-Some.is at (c.requires.told names told).toast) (rw c.in-Some.is at c.requires.belong.toast))))
+    (λ kept names told. kept names told ∙ rw c.requires.blank (toast_has_chunks c.args.case.now names _ c.in-Some.toast (toast_rules_are c.args.case.now names c.toast_rules-table.result c.toast_rules-table.ensures.rel (c.toast_rules-table.ensures.columns ∙ c.new-columns.ensures) c.toast_rules-table.ensures.toast c.toast_rules-table.ensures.map (c.toast_rules-table.ensures.logs ∙ c.requires.logs)) (toast_of c.args.case.now names c.in-Some.toast (rw c.in-Some.is at (c.requires.told names told).toast) (rw c.in-Some.is at c.requires.belong.toast))))
     c.judge_table.ensures.chunks

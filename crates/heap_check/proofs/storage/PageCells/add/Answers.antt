@@ -1,41 +1,14 @@
-use Rattle.std.proofs.Common.{◌≡◌, ℕ, suc, ◌+◌, ◌-◌, ◌/◌, ◌<◌, ◌≤◌, List, Bool, true, false, get_or, length, subst, sym, ap, ◌∙◌, arith}
-use Rattle.std.proofs.lemmas.List.{with_items_is}
-use Rattle.std.specs.Int.{div_ceil}
-use Rattle.page_layout.specs.Page.{item_of, upper_of}
+use Rattle.std.proofs.Common.{◌≡◌, ◌+◌, ◌-◌, sym, ap, arith}
+use Rattle.page_layout.specs.Page.{item_of}
 use Rattle.page_layout.specs.View.{page_bytes}
 use Rattle.page_layout.specs.declared.page.LinePtr.{LinePtr}
-use Rattle.heap_check.proofs.Meeting.{added, meets_by_cells, placed}
-use Rattle.heap_check.specs.Storage.{AreCells, IsTakenBetween, has_storage, meets_item_below, taken_with}
+use Rattle.heap_check.specs.Storage.{Marking}
+use Rattle.heap_check.proofs.Meeting.{meets_none_above}
 use Rattle.heap_check.proofs.storage.PageCells.add.Goals as goal
 
-rounded : (n : ℕ) → div_ceil n 8 ≡ (n + 7) / 8
-rounded n = omega arith
-
-pub take_cells-requires-clause-within : goal.take_cells-requires-clause-within
-take_cells-requires-clause-within c =
-    let at = placed _ _ c.requires.storage in
-    let end = c.div_ceil-end.ensures ∙ rounded _ in
-    let same : c.item-item.result.off + c.item-item.result.len ≡ (item_of (page_bytes c.args.page) c.args.i).off + (item_of (page_bytes c.args.page) c.args.i).len = ap (λ (p : LinePtr). p.off + p.len) c.item-item.ensures.value in
-    omega (arith, end, same, at.within, c.deref_mut.ensures.value, c.self.view_is, c.self.invariant, c.deref_mut.ensures.len, c.self.inside.taken.ok.0)
-
-meets : (page : List ℕ) (i : ℕ) (old now : List Bool) (p : LinePtr) (was : Bool) (end : ℕ) → now ≡ old → p ≡ item_of page i → end ≡ div_ceil (p.off + p.len) 8 → has_storage (upper_of page) (item_of page i) ≡ true → AreCells page (i - 1) old → (was ≡ true → IsTakenBetween now (p.off / 8) end) → (was ≡ false → (k : ℕ) → p.off / 8 ≤ k → k < end → get_or now k false ≡ false) → was ≡ meets_item_below page (i - 1) (item_of page i)
-meets page i old now p was end same it ends storage are found none =
-    let stop : end ≡ (p.off + p.len + 7) / 8 = ends ∙ rounded _ in
-    rw (← it) (meets_by_cells page (i - 1) old p was (rw it storage) are (rw (← same, ← stop) found) (rw (← same, ← stop) none))
-
-pub returns-clause-meets : goal.returns-clause-meets
-returns-clause-meets c = meets _ _ _ _ _ _ _ (c.deref_mut.ensures.value ∙ c.self.view_is) c.item-item.ensures.value c.div_ceil-end.ensures c.requires.storage c.requires.before c.take_cells.ensures.found c.take_cells.ensures.none
-
-after : (page : List ℕ) (i : ℕ) (old now new : List Bool) (p : LinePtr) (end : ℕ) → 1 ≤ i → now ≡ old → p ≡ item_of page i → end ≡ div_ceil (p.off + p.len) 8 → has_storage (upper_of page) (item_of page i) ≡ true → AreCells page (i - 1) old → length new ≡ length now → ((k : ℕ) → get_or new k false ≡ taken_with now (p.off / 8) end k) → AreCells page i new
-after page i old now new p end some same it ends storage are long taken =
-    let stop : end ≡ ((item_of page i).off + (item_of page i).len + 7) / 8 = ends ∙ rounded _ ∙ ap (λ (q : LinePtr). (q.off + q.len + 7) / 8) it in
-    let number : suc (i - 1) ≡ i = omega arith in
-    let length_kept = long ∙ ap (λ (xs : List Bool). length xs) same in
-    let P : ℕ → Type 0 = λ j. has_storage (upper_of page) (item_of page j) ≡ true → ((k : ℕ) → get_or new k false ≡ taken_with old ((item_of page j).off / 8) (((item_of page j).off + (item_of page j).len + 7) / 8) k) → AreCells page j new in
-    subst P number (λ kept all. added page (i - 1) old new kept are length_kept all) storage (rw (same, it, stop) at taken)
-
-pub returns-clause-after : goal.returns-clause-after
-returns-clause-after c =
-    let same : length c.take_cells.new.cells ≡ c.self.inside.taken.len = omega (arith, c.take_cells.auto.cells, c.deref_mut.ensures.len) in
-    subst (λ (cells : List Bool). AreCells (page_bytes c.args.page) c.args.i cells) (sym (with_items_is c.self.inside.taken c.take_cells.new.cells same))
-    (after _ _ _ _ c.take_cells.new.cells _ _ c.requires.first (c.deref_mut.ensures.value ∙ c.self.view_is) c.item-item.ensures.value c.div_ceil-end.ensures c.requires.storage c.requires.before c.take_cells.ensures.long c.take_cells.ensures.now)
+pub returns-then-item-self-clause-meets : goal.returns-then-item-self-clause-meets
+returns-then-item-self-clause-meets c =
+    let p = item_of (page_bytes c.args.page) c.args.i in
+    let lowest : c.self.inside.lowest ≡ c.args.self.now.lowest = ap (λ (m : Marking). m.lowest) c.self.view_is in
+    let same : c.item-item.result.off + c.item-item.result.len ≡ p.off + p.len = ap (λ (q : LinePtr). q.off + q.len) c.item-item.ensures.value in
+    sym (meets_none_above (page_bytes c.args.page) (c.args.i - 1) c.args.self.now.lowest p (omega (arith, same, lowest, c.if-item-self.true)) c.requires.before.above)
