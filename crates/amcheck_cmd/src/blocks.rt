@@ -1,7 +1,7 @@
 // A file that is read by itself, as one segment: its length, and its blocks one by one.
 ghost use Rattle.std.specs.Prelude.{◌≡◌, ◌+◌, ◌*◌, ◌≤◌, Some, length, IfOk, OnOk};
 ghost use Rattle.outside.specs.declared.files.Part.TheVariants.{Segment};
-ghost use Rattle.outside.specs.Outside.{Causes, IfHeld, IfTold, IsHeldAnd};
+ghost use Rattle.outside.specs.Outside.{Asked, IfHeld, IsHeldAnd, Tells};
 ghost use Rattle.rel_files.specs.Blocks.{block_in};
 ghost use Rattle.amcheck_cmd.specs.Seen.{HasRefusalCode, IsOpening};
 
@@ -25,10 +25,9 @@ pub enum Opening {
 /// Asks for the length of a file that is read by itself.
 #[tactic(auto, unfolding(crate::specs::Outcome::file_refusal))]
 pub fn open_file<F: Files>(alloc: Global, files: &mut F, file: &str) -> Result<Opening, RunFault>
-    ensures opening { IfOk result (λ o. IfTold (F.held files.old) (λ names. IsOpening file.now (names file.now (Segment 0)) o)) }
+    ensures opening { Tells F.seen files.old result (λ o names. IsOpening file.now (names file.now (Segment 0)) o) }
     ensures code { IfOk result (λ o. HasRefusalCode o) }
-    ensures same { F.held files.new ≡ F.held files.old }
-    ensures cause { Causes (F.faults files.old) (F.faults files.new) result RunFault.ReadFault }
+    ensures asked { Asked F.seen files.old files.new result RunFault.ReadFault }
 {
     let name = FileName {
         base: file,
@@ -52,10 +51,9 @@ pub fn read_block<F: Files>(
     block: u32,
     page: &mut [u8; 8192],
 ) -> Result<(), RunFault>
-    requires { IsHeldAnd (F.held files.old) file.now (Segment 0) (λ bytes. 8192 * block + 8192 ≤ length bytes) }
-    ensures bytes { OnOk result (IfHeld (F.held files.old) file.now (Segment 0) (λ bytes. page.new ≡ block_in (Some bytes) block)) }
-    ensures same { F.held files.new ≡ F.held files.old }
-    ensures cause { Causes (F.faults files.old) (F.faults files.new) result RunFault.ReadFault }
+    requires { IsHeldAnd F.seen files.old file.now (Segment 0) (λ bytes. 8192 * block + 8192 ≤ length bytes) }
+    ensures bytes { OnOk result (IfHeld F.seen files.old file.now (Segment 0) (λ bytes. page.new ≡ block_in (Some bytes) block)) }
+    ensures asked { Asked F.seen files.old files.new result RunFault.ReadFault }
 {
     let name = FileName {
         base: file,

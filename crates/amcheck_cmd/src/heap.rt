@@ -1,7 +1,7 @@
 // The command `heap`: judges the heap of a case, with its visibility map and its TOAST table.
 ghost use Rattle.std.specs.Prelude.{◌≡◌, ◌≤◌, ℕ, List, Some, length, IfOk};
 ghost use Rattle.outside.specs.declared.files.Part.TheVariants.{Segment};
-ghost use Rattle.outside.specs.Outside.{Causes, IfTold, IsHeldAnd, Names};
+ghost use Rattle.outside.specs.Outside.{Asked, IfTold, IsHeldAnd, Names, Tells};
 ghost use Rattle.case_file.specs.Case.{case_of};
 ghost use Rattle.heap_check.specs.Files.{AreFilesOf, BelongTo, refusal_of};
 ghost use Rattle.amcheck_cmd.specs.Cases.{file_named, heap_lists, toast_named};
@@ -51,12 +51,11 @@ fn judged_output<F: Files>(
     case: &Case,
     at: HeapFiles,
 ) -> Result<Output, RunFault>
-    requires told { IfTold (F.held files.old) (λ names. AreFilesOf case.now names at) }
+    requires told { IfTold F.seen files.old (λ names. AreFilesOf case.now names at) }
     requires belong { BelongTo case.now at }
-    ensures output { IfOk result (λ o. IfTold (F.held files.old) (λ names. outcome_seen o ≡ reported (heap_lists case.now names))) }
+    ensures output { Tells F.seen files.old result (λ o names. outcome_seen o ≡ reported (heap_lists case.now names)) }
     ensures code { IfOk result (λ o. o.code ≤ 6) }
-    ensures same { F.held files.new ≡ F.held files.old }
-    ensures cause { Causes (F.faults files.old) (F.faults files.new) result RunFault.ReadFault }
+    ensures asked { Asked F.seen files.old files.new result RunFault.ReadFault }
 {
     let mut report = Report::new(alloc);
     match check_heap(alloc, files, case, at, &mut report) {
@@ -68,10 +67,9 @@ fn judged_output<F: Files>(
 
 // The report on a case, or why its files can't be judged.
 fn case_output<F: Files>(alloc: Global, files: &mut F, case: &Case) -> Result<Output, RunFault>
-    ensures output { IfOk result (λ o. IfTold (F.held files.old) (λ names. outcome_seen o ≡ outcome_of_files case.now names (refusal_of case.now names))) }
+    ensures output { Tells F.seen files.old result (λ o names. outcome_seen o ≡ outcome_of_files case.now names (refusal_of case.now names)) }
     ensures code { IfOk result (λ o. o.code ≤ 6) }
-    ensures same { F.held files.new ≡ F.held files.old }
-    ensures cause { Causes (F.faults files.old) (F.faults files.new) result RunFault.ReadFault }
+    ensures asked { Asked F.seen files.old files.new result RunFault.ReadFault }
 {
     match HeapFiles::attach(alloc, files, case) {
         Ok(at) => judged_output(alloc, files, case, at),
@@ -86,10 +84,9 @@ fn case_output<F: Files>(alloc: Global, files: &mut F, case: &Case) -> Result<Ou
 
 // The report on the case that a text means, or why it means none.
 fn text_output<F: Files>(alloc: Global, files: &mut F, text: &[u8]) -> Result<Output, RunFault>
-    ensures output { IfOk result (λ o. IfTold (F.held files.old) (λ names. outcome_seen o ≡ outcome_of_meaning names (case_of text.now))) }
+    ensures output { Tells F.seen files.old result (λ o names. outcome_seen o ≡ outcome_of_meaning names (case_of text.now)) }
     ensures code { IfOk result (λ o. o.code ≤ 6) }
-    ensures same { F.held files.new ≡ F.held files.old }
-    ensures cause { Causes (F.faults files.old) (F.faults files.new) result RunFault.ReadFault }
+    ensures asked { Asked F.seen files.old files.new result RunFault.ReadFault }
 {
     match read_case(alloc, text) {
         Ok(case) => case_output(alloc, files, &case),
@@ -105,12 +102,11 @@ fn file_output<F: Files>(
     file: &str,
     len: u64,
 ) -> Result<Output, RunFault>
-    requires { IsHeldAnd (F.held files.old) file.now (Segment 0) (λ bytes. length bytes ≡ len) }
-    ensures output { IfOk result (λ o. (names : Names) (bytes : List ℕ) → F.held files.old ≡ Some names → names file.now (Segment 0) ≡ Some bytes →
-        outcome_seen o ≡ outcome_of_meaning names (case_of bytes)) }
+    requires { IsHeldAnd F.seen files.old file.now (Segment 0) (λ bytes. length bytes ≡ len) }
+    ensures output { IfOk result (λ o. (names : Names) (bytes : List ℕ) → (F.seen files.old).held ≡ Some names
+        → names file.now (Segment 0) ≡ Some bytes → outcome_seen o ≡ outcome_of_meaning names (case_of bytes)) }
     ensures code { IfOk result (λ o. o.code ≤ 6) }
-    ensures same { F.held files.new ≡ F.held files.old }
-    ensures cause { Causes (F.faults files.old) (F.faults files.new) result RunFault.ReadFault }
+    ensures asked { Asked F.seen files.old files.new result RunFault.ReadFault }
 {
     let text = read_text(alloc, files, file, len as usize)?;
     text_output(alloc, files, text.as_slice())
@@ -120,11 +116,9 @@ fn file_output<F: Files>(
 /// first: of the file, of its text, of the heap, or of the TOAST table.
 #[tactic(auto, unfolding(crate::specs::Outcome::heap_outcome))]
 pub fn heap_output<F: Files>(alloc: Global, files: &mut F, file: &str) -> Result<Output, RunFault>
-    ensures output { IfOk result (λ o. IfTold (F.held files.old)
-        (λ names. outcome_seen o ≡ heap_outcome file.now names (names file.now (Segment 0)))) }
+    ensures output { Tells F.seen files.old result (λ o names. outcome_seen o ≡ heap_outcome file.now names (names file.now (Segment 0))) }
     ensures code { IfOk result (λ o. o.code ≤ 6) }
-    ensures same { F.held files.new ≡ F.held files.old }
-    ensures cause { Causes (F.faults files.old) (F.faults files.new) result RunFault.ReadFault }
+    ensures asked { Asked F.seen files.old files.new result RunFault.ReadFault }
 {
     let name = FileName {
         base: file,

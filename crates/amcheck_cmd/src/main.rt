@@ -3,6 +3,10 @@
 
 mod blocks;
 mod fault;
+#[cfg(test)]
+mod fault_tests;
+#[cfg(test)]
+mod fixtures;
 mod heap;
 #[cfg(test)]
 mod heap_tests;

@@ -1,7 +1,7 @@
 // The command `pages`: judges the pages of one heap file.
 ghost use Rattle.std.specs.Prelude.{◌≡◌, ◌+◌, ◌*◌, ◌/◌, ◌≤◌, ◌++◌, [], Some, length, IfOk, OnOk};
 ghost use Rattle.outside.specs.declared.files.Part.TheVariants.{Segment};
-ghost use Rattle.outside.specs.Outside.{Causes, IfHeld, IfTold, IsHeldAnd};
+ghost use Rattle.outside.specs.Outside.{Asked, IfHeld, IsHeldAnd, Tells};
 ghost use Rattle.heap_check.specs.Below.{each_below};
 ghost use Rattle.amcheck_cmd.specs.Outcome.{pages_outcome, reported};
 ghost use Rattle.amcheck_cmd.specs.Pages.{block_findings, file_findings};
@@ -24,12 +24,11 @@ fn judge_block<F: Files>(
     page: &mut [u8; 8192],
     report: &mut Report,
 ) -> Result<(), RunFault>
-    requires { IsHeldAnd (F.held files.old) file.now (Segment 0) (λ bytes. 8192 * block + 8192 ≤ length bytes) }
-    ensures findings { OnOk result (IfHeld (F.held files.old) file.now (Segment 0)
+    requires { IsHeldAnd F.seen files.old file.now (Segment 0) (λ bytes. 8192 * block + 8192 ≤ length bytes) }
+    ensures findings { OnOk result (IfHeld F.seen files.old file.now (Segment 0)
         (λ bytes. report.new.findings ≡ report.old.findings ++ block_findings (Some bytes) block)) }
     ensures unjudged { report.new.unjudged ≡ report.old.unjudged }
-    ensures same { F.held files.new ≡ F.held files.old }
-    ensures cause { Causes (F.faults files.old) (F.faults files.new) result RunFault.ReadFault }
+    ensures asked { Asked F.seen files.old files.new result RunFault.ReadFault }
 {
     read_block(files, file, block, page)?;
     judge_page(alloc, page, block, report)?;
@@ -44,12 +43,11 @@ fn judge_blocks<F: Files>(
     blocks: u32,
     report: &mut Report,
 ) -> Result<(), RunFault>
-    requires { IsHeldAnd (F.held files.old) file.now (Segment 0) (λ bytes. 8192 * blocks ≤ length bytes) }
-    ensures findings { OnOk result (IfHeld (F.held files.old) file.now (Segment 0)
+    requires { IsHeldAnd F.seen files.old file.now (Segment 0) (λ bytes. 8192 * blocks ≤ length bytes) }
+    ensures findings { OnOk result (IfHeld F.seen files.old file.now (Segment 0)
         (λ bytes. report.new.findings ≡ report.old.findings ++ each_below (block_findings (Some bytes)) blocks)) }
     ensures unjudged { report.new.unjudged ≡ report.old.unjudged }
-    ensures same { F.held files.new ≡ F.held files.old }
-    ensures cause { Causes (F.faults files.old) (F.faults files.new) result RunFault.ReadFault }
+    ensures asked { Asked F.seen files.old files.new result RunFault.ReadFault }
 {
     let mut page = [0u8; 8192];
     for block in 0..blocks {
@@ -65,12 +63,11 @@ fn judged_output<F: Files>(
     file: &str,
     blocks: u32,
 ) -> Result<Output, RunFault>
-    requires { IsHeldAnd (F.held files.old) file.now (Segment 0) (λ bytes. length bytes / 8192 ≡ blocks) }
-    ensures output { IfOk result (λ o. IfHeld (F.held files.old) file.now (Segment 0)
+    requires { IsHeldAnd F.seen files.old file.now (Segment 0) (λ bytes. length bytes / 8192 ≡ blocks) }
+    ensures output { IfOk result (λ o. IfHeld F.seen files.old file.now (Segment 0)
         (λ bytes. outcome_seen o ≡ reported (record { findings = file_findings (Some bytes); unjudged = [] }))) }
     ensures code { IfOk result (λ o. o.code ≤ 6) }
-    ensures same { F.held files.new ≡ F.held files.old }
-    ensures cause { Causes (F.faults files.old) (F.faults files.new) result RunFault.ReadFault }
+    ensures asked { Asked F.seen files.old files.new result RunFault.ReadFault }
 {
     let mut report = Report::new(alloc);
     judge_blocks(alloc, files, file, blocks, &mut report)?;
@@ -80,11 +77,9 @@ fn judged_output<F: Files>(
 /// The output of `pages`: the report on the file's whole blocks of 8192 bytes, or why there is none.
 #[tactic(auto, unfolding(crate::specs::Outcome::pages_outcome))]
 pub fn pages_output<F: Files>(alloc: Global, files: &mut F, file: &str) -> Result<Output, RunFault>
-    ensures output { IfOk result (λ o. IfTold (F.held files.old)
-        (λ names. outcome_seen o ≡ pages_outcome file.now (names file.now (Segment 0)))) }
+    ensures output { Tells F.seen files.old result (λ o names. outcome_seen o ≡ pages_outcome file.now (names file.now (Segment 0))) }
     ensures code { IfOk result (λ o. o.code ≤ 6) }
-    ensures same { F.held files.new ≡ F.held files.old }
-    ensures cause { Causes (F.faults files.old) (F.faults files.new) result RunFault.ReadFault }
+    ensures asked { Asked F.seen files.old files.new result RunFault.ReadFault }
 {
     match open_file(alloc, files, file)? {
         Opening::Refused(output) => Ok(output),

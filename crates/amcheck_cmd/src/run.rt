@@ -1,6 +1,7 @@
 // The top call.
 ghost use Rattle.std.specs.Prelude.{◌≡◌, ◌≢◌, ◌≤◌, ◌⊎◌, Some, false, IfOk, map, string_bytes};
-ghost use Rattle.outside.specs.Outside.{Causes, IfTold, Rose};
+ghost use Rattle.outside.specs.Outside.{Asked, IfTold, Rose, Tells};
+ghost use Rattle.rel_files.specs.Faults.{read_fault};
 ghost use Rattle.amcheck_cmd.specs.Forms.{form_of};
 ghost use Rattle.amcheck_cmd.specs.Outcome.{FindsOnlyBroken, IsCleanWhereSound, IsOutcomeCode, IsSoundWhereClean, IsTrueWhereClean, Meets, Outcome, alone, outcome, outcome_by};
 ghost use Rattle.amcheck_cmd.specs.Seen.{form_seen, outcome_seen};
@@ -22,12 +23,11 @@ fn output_of<F: Files>(
     command: Command<'_>,
     files: &mut F,
 ) -> Result<Output, RunFault>
-    ensures output { IfOk result (λ o. IfTold (F.held files.old) (λ names. outcome_seen o ≡ outcome_by (form_seen command.entry) names)) }
+    ensures output { Tells F.seen files.old result (λ o names. outcome_seen o ≡ outcome_by (form_seen command.entry) names) }
     ensures alone { (owed : Outcome) → alone (form_seen command.entry) ≡ Some owed → IfOk result (λ o. outcome_seen o ≡ owed) }
     ensures unread { (owed : Outcome) → alone (form_seen command.entry) ≡ Some owed → result ≢ Err RunFault.ReadFault }
     ensures code { IfOk result (λ o. IsOutcomeCode o.code) }
-    ensures same { F.held files.new ≡ F.held files.old }
-    ensures cause { Causes (F.faults files.old) (F.faults files.new) result RunFault.ReadFault }
+    ensures asked { Asked F.seen files.old files.new result RunFault.ReadFault }
 {
     match command {
         Command::NoForm => Ok(usage_output(alloc)?),
@@ -47,7 +47,7 @@ pub fn run<F: Files, S: Sink>(
     sink: &mut S,
 ) -> Status
     // What is written and answered is the outcome of the words and of the bytes that are held.
-    ensures told { IfTold (F.held files.old) (λ names.
+    ensures told { IfTold F.seen files.old (λ names.
         Meets (outcome (map string_bytes words.now) names) (S.written sink.old) (S.written sink.new) result.code) }
     // Some words need nothing of the files: what they owe hangs on no name, and no file is read for them.
     ensures alone { (owed : Outcome) → alone (form_of (map string_bytes words.now)) ≡ Some owed →
@@ -55,19 +55,18 @@ pub fn run<F: Files, S: Sink>(
 
     // Each finding is a rule that is broken at its place, and where nothing stays unjudged there is none exactly where no rule
     // is broken.
-    ensures found { IfTold (F.held files.old) (λ names. FindsOnlyBroken (form_of (map string_bytes words.now)) names) }
-    ensures clean { IfTold (F.held files.old) (λ names. IsCleanWhereSound (form_of (map string_bytes words.now)) names result.code) }
-    ensures sound { IfTold (F.held files.old) (λ names. IsSoundWhereClean (form_of (map string_bytes words.now)) names result.code) }
+    ensures found { IfTold F.seen files.old (λ names. FindsOnlyBroken (form_of (map string_bytes words.now)) names) }
+    ensures clean { IfTold F.seen files.old (λ names. IsCleanWhereSound (form_of (map string_bytes words.now)) names result.code) }
+    ensures sound { IfTold F.seen files.old (λ names. IsSoundWhereClean (form_of (map string_bytes words.now)) names result.code) }
     // Where `heap` is clean, each set bit of the map and each set page flag is true, each live tuple has one root, and each of its values
     // that stand in the TOAST table is whole.
-    ensures heap { IfTold (F.held files.old) (λ names. IsTrueWhereClean (form_of (map string_bytes words.now)) names result.code) }
+    ensures heap { IfTold F.seen files.old (λ names. IsTrueWhereClean (form_of (map string_bytes words.now)) names result.code) }
 
     // When a run gives up, and what it leaves.
     ensures nothing { (result.code ≡ 7) ⊎ (result.code ≡ 9) → S.written sink.new ≡ S.written sink.old }
-    ensures read_fault { result.code ≡ 7 → Rose (F.faults files.old) (F.faults files.new) × (F.refused files.new ≡ false) }
+    ensures read_fault { result.code ≡ 7 → Rose (F.seen files.old).faults (F.seen files.new).faults × ((F.seen files.new).refused ≡ false) }
     ensures write_fault { result.code ≡ 8 → Rose (S.faults sink.old) (S.faults sink.new) }
     ensures codes { result.code ≤ 10 }
-    ensures same { F.held files.new ≡ F.held files.old }
 {
     match output_of(alloc, command_of(words), files) {
         Ok(output) => write_output(sink, &output),

@@ -1,7 +1,7 @@
 // The command `show`: prints one page of one file.
 ghost use Rattle.std.specs.Prelude.{◌≡◌, ◌+◌, ◌*◌, ◌≤◌, Some, length, IfOk};
 ghost use Rattle.outside.specs.declared.files.Part.TheVariants.{Segment};
-ghost use Rattle.outside.specs.Outside.{Causes, IfHeld, IfTold, IsHeldAnd};
+ghost use Rattle.outside.specs.Outside.{Asked, IfHeld, IsHeldAnd, Tells};
 ghost use Rattle.page_layout.specs.View.{page_bytes};
 ghost use Rattle.rel_files.specs.Blocks.{block_in};
 ghost use Rattle.amcheck_cmd.specs.Outcome.{IsOutcomeCode, page_shown, show_outcome};
@@ -36,12 +36,11 @@ fn block_output<F: Files>(
     file: &str,
     block: u32,
 ) -> Result<Output, RunFault>
-    requires { IsHeldAnd (F.held files.old) file.now (Segment 0) (λ bytes. 8192 * block + 8192 ≤ length bytes) }
-    ensures output { IfOk result (λ o. IfHeld (F.held files.old) file.now (Segment 0)
+    requires { IsHeldAnd F.seen files.old file.now (Segment 0) (λ bytes. 8192 * block + 8192 ≤ length bytes) }
+    ensures output { IfOk result (λ o. IfHeld F.seen files.old file.now (Segment 0)
         (λ bytes. outcome_seen o ≡ page_shown of block (block_in (Some bytes) block))) }
     ensures code { IfOk result (λ o. o.code ≡ 0) }
-    ensures same { F.held files.new ≡ F.held files.old }
-    ensures cause { Causes (F.faults files.old) (F.faults files.new) result RunFault.ReadFault }
+    ensures asked { Asked F.seen files.old files.new result RunFault.ReadFault }
 {
     let mut page = [0u8; 8192];
     read_block(files, file, block, &mut page)?;
@@ -58,11 +57,9 @@ pub fn show_output<F: Files>(
     file: &str,
     block: u32,
 ) -> Result<Output, RunFault>
-    ensures output { IfOk result (λ o. IfTold (F.held files.old)
-        (λ names. outcome_seen o ≡ show_outcome of file.now block (names file.now (Segment 0)))) }
+    ensures output { Tells F.seen files.old result (λ o names. outcome_seen o ≡ show_outcome of file.now block (names file.now (Segment 0))) }
     ensures code { IfOk result (λ o. IsOutcomeCode o.code) }
-    ensures same { F.held files.new ≡ F.held files.old }
-    ensures cause { Causes (F.faults files.old) (F.faults files.new) result RunFault.ReadFault }
+    ensures asked { Asked F.seen files.old files.new result RunFault.ReadFault }
 {
     match open_file(alloc, files, file)? {
         Opening::Refused(output) => Ok(output),

@@ -1,7 +1,7 @@
 // Reads the text of a case file.
 ghost use Rattle.std.specs.Prelude.{◌≡◌, ◌+◌, ◌≤◌, length, take, drop, IfOk, OnOk};
 ghost use Rattle.outside.specs.declared.files.Part.TheVariants.{Segment};
-ghost use Rattle.outside.specs.Outside.{Causes, IfHeld, IsHeldAnd};
+ghost use Rattle.outside.specs.Outside.{Asked, IfHeld, IsHeldAnd};
 
 use crate::fault::RunFault;
 use key_orders::Octets;
@@ -19,11 +19,10 @@ fn add_piece<F: Files>(
     piece: &mut [u8],
     text: &mut Octets,
 ) -> Result<(), RunFault>
-    requires { IsHeldAnd (F.held files.old) file.now (Segment 0) (λ bytes. at + length piece.old ≤ length bytes) }
-    ensures text { OnOk result (IfHeld (F.held files.old) file.now (Segment 0)
+    requires { IsHeldAnd F.seen files.old file.now (Segment 0) (λ bytes. at + length piece.old ≤ length bytes) }
+    ensures text { OnOk result (IfHeld F.seen files.old file.now (Segment 0)
         (λ bytes. text.old ≡ take at bytes → text.new ≡ take (at + length piece.old) bytes)) }
-    ensures same { F.held files.new ≡ F.held files.old }
-    ensures cause { Causes (F.faults files.old) (F.faults files.new) result RunFault.ReadFault }
+    ensures asked { Asked F.seen files.old files.new result RunFault.ReadFault }
 {
     let name = FileName {
         base: file,
@@ -41,10 +40,9 @@ pub fn read_text<F: Files>(
     file: &str,
     len: usize,
 ) -> Result<Octets, RunFault>
-    requires { IsHeldAnd (F.held files.old) file.now (Segment 0) (λ bytes. length bytes ≡ len) }
-    ensures text { IfOk result (λ text. IfHeld (F.held files.old) file.now (Segment 0) (λ bytes. text ≡ bytes)) }
-    ensures same { F.held files.new ≡ F.held files.old }
-    ensures cause { Causes (F.faults files.old) (F.faults files.new) result RunFault.ReadFault }
+    requires { IsHeldAnd F.seen files.old file.now (Segment 0) (λ bytes. length bytes ≡ len) }
+    ensures text { IfOk result (λ text. IfHeld F.seen files.old file.now (Segment 0) (λ bytes. text ≡ bytes)) }
+    ensures asked { Asked F.seen files.old files.new result RunFault.ReadFault }
 {
     let mut text = Octets::new(alloc);
     let mut buffer = [0u8; PIECE];

@@ -3,6 +3,7 @@
 //! Source: PostgreSQL's `access/nbtree.h` and `access/itup.h`, and the nbtree README.
 #![tactic(auto)]
 
+mod layout;
 mod readers;
 mod records;
 #[cfg(test)]

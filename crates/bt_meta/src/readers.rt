@@ -1,19 +1,17 @@
-// What stands at fixed places of a tree's pages and tuples, read from their bytes.
+//! What stands at fixed places of a tree's pages and tuples, read from their bytes.
 ghost use Rattle.std.specs.Prelude.{◌≡◌, ◌≤◌, ◌↔◌, length, IsNone};
 ghost use Rattle.page_layout.specs.View.{page_bytes};
 ghost use Rattle.bt_meta.specs.Heads.{kind_of, tree_head_of};
-ghost use Rattle.bt_meta.specs.Pages.{KeepsMetaRules, has_bad_root, is_foreign, is_idle, is_no_metapage, meta_of, meta_rule_of, opaque_of};
+ghost use Rattle.bt_meta.specs.Pages.{KeepsMetaRules, has_bad_root, is_foreign, is_idle, is_no_metapage, meta_of};
+ghost use Rattle.bt_meta.specs.Pages.{meta_rule_of, opaque_of};
 
+use crate::layout::{
+    BT_IS_POSTING, BTM_FASTLEVEL, BTM_FASTROOT, BTM_LEVEL, BTM_MAGIC, BTM_ROOT, BTM_VERSION,
+    BTPO_CYCLEID, BTPO_FLAGS, BTPO_LEVEL, BTPO_NEXT, BTPO_PREV, BTREE_MAGIC, BTREE_MIN_VERSION,
+    BTREE_VERSION, INDEX_ALT_TID_MASK, PD_LOWER, SIZE_OF_PAGE_HEADER, T_INFO, TID_BLOCK, TID_ITEM,
+};
 use crate::records::{HeadKind, Meta, Opaque, TreeHead};
-use page_layout::{PageView, Rule, has_bit, u16_at};
-
-// The magic number of a B-tree.
-const MAGIC: u32 = 0x0005_3162;
-
-// The oldest and the newest version of the format, and the one whose pages are judged.
-const OLDEST_VERSION: u32 = 2;
-
-const NEWEST_VERSION: u32 = 4;
+use page_layout::{PageView, Rule, block_at, has_bit, u16_at};
 
 /// The special space of a tree page.
 #[inline]
@@ -22,11 +20,11 @@ pub fn opaque(page: PageView<'_>) -> Opaque
     ensures { result ≡ opaque_of (page_bytes page.entry) }
 {
     Opaque {
-        prev: page.u32_at(8176),
-        next: page.u32_at(8180),
-        level: page.u32_at(8184),
-        flags: page.u16_at(8188),
-        cycle: page.u16_at(8190),
+        prev: page.u32_at(BTPO_PREV),
+        next: page.u32_at(BTPO_NEXT),
+        level: page.u32_at(BTPO_LEVEL),
+        flags: page.u16_at(BTPO_FLAGS),
+        cycle: page.u16_at(BTPO_CYCLEID),
     }
 }
 
@@ -36,12 +34,12 @@ pub fn meta(page: PageView<'_>) -> Meta
     ensures { result ≡ meta_of (page_bytes page.entry) }
 {
     Meta {
-        magic: page.u32_at(24),
-        version: page.u32_at(28),
-        root: page.u32_at(32),
-        level: page.u32_at(36),
-        fastroot: page.u32_at(40),
-        fastlevel: page.u32_at(44),
+        magic: page.u32_at(BTM_MAGIC),
+        version: page.u32_at(BTM_VERSION),
+        root: page.u32_at(BTM_ROOT),
+        level: page.u32_at(BTM_LEVEL),
+        fastroot: page.u32_at(BTM_FASTROOT),
+        fastlevel: page.u32_at(BTM_FASTLEVEL),
     }
 }
 
@@ -52,10 +50,10 @@ pub fn tree_head(bytes: &[u8]) -> TreeHead
     requires { 8 ≤ length bytes.now }
     ensures { result ≡ tree_head_of bytes.now }
 {
-    let item = u16_at(bytes, 4);
-    let info = u16_at(bytes, 6);
+    let item = u16_at(bytes, TID_ITEM);
+    let info = u16_at(bytes, T_INFO);
     TreeHead {
-        block: u16_at(bytes, 0) as u32 * 65536 + u16_at(bytes, 2) as u32,
+        block: block_at(bytes, TID_BLOCK),
         item,
         info,
         kind: kind_by(item, info),
@@ -68,9 +66,9 @@ pub fn tree_head(bytes: &[u8]) -> TreeHead
 fn kind_by(item: u16, info: u16) -> HeadKind
     ensures { result ≡ kind_of item info }
 {
-    if !has_bit(info, 0x2000) {
+    if !has_bit(info, INDEX_ALT_TID_MASK) {
         HeadKind::Plain
-    } else if has_bit(item, 0x2000) {
+    } else if has_bit(item, BT_IS_POSTING) {
         HeadKind::Posting
     } else {
         HeadKind::Pivot
@@ -87,7 +85,7 @@ pub fn is_idle(page: PageView<'_>) -> bool
     let special = opaque(page);
     page.is_new()
         || special.is_deleted()
-        || special.flags == 0 && special.level == 0 && page.u16_at(12) == 24
+        || special.flags == 0 && special.level == 0 && page.u16_at(PD_LOWER) == SIZE_OF_PAGE_HEADER
 }
 
 /// The first of M1 and M2 that block 0 of an index of so many blocks breaks. M2 is asked in version
@@ -101,7 +99,7 @@ pub fn meta_rule(page: PageView<'_>, blocks: u32) -> Option<Rule>
         return Some(Rule::M1);
     }
     let numbers = meta(page);
-    if numbers.version == NEWEST_VERSION && numbers.has_bad_root(blocks) {
+    if numbers.version == BTREE_VERSION && numbers.has_bad_root(blocks) {
         return Some(Rule::M2);
     }
     None
@@ -120,7 +118,9 @@ impl Meta {
     fn is_foreign(self) -> bool
         ensures { result ≡ is_foreign self }
     {
-        self.magic != MAGIC || self.version < OLDEST_VERSION || NEWEST_VERSION < self.version
+        self.magic != BTREE_MAGIC
+            || self.version < BTREE_MIN_VERSION
+            || BTREE_VERSION < self.version
     }
 
     // Whether the root or the fast root isn't below the number of blocks, or is 0 alone.

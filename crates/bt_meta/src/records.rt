@@ -1,7 +1,8 @@
-// What stands at fixed places of a tree's pages and tuples.
+//! What stands at fixed places of a tree's pages and tuples.
 ghost use Rattle.std.specs.Prelude.{◌≡◌};
 ghost use Rattle.bt_meta.specs.Flags.{is_deleted, is_half_dead, is_leaf, is_meta, is_split_unfinished};
 
+use crate::layout::{BTP_DELETED, BTP_HALF_DEAD, BTP_INCOMPLETE_SPLIT, BTP_LEAF, BTP_META};
 use page_layout::has_bit;
 
 /// The numbers of a tree in its metapage, block 0 (`access/nbtree.h`, `BTMetaPageData`; its later
@@ -71,7 +72,7 @@ impl Opaque {
     pub fn is_leaf(self) -> bool
         ensures { result ≡ is_leaf self }
     {
-        has_bit(self.flags, 0x0001)
+        has_bit(self.flags, BTP_LEAF)
     }
 
     /// Whether the page was deleted from the tree (`BTP_DELETED`).
@@ -80,7 +81,7 @@ impl Opaque {
     pub fn is_deleted(self) -> bool
         ensures { result ≡ is_deleted self }
     {
-        has_bit(self.flags, 0x0004)
+        has_bit(self.flags, BTP_DELETED)
     }
 
     /// Whether the page is marked as the metapage (`BTP_META`).
@@ -89,7 +90,7 @@ impl Opaque {
     pub fn is_meta(self) -> bool
         ensures { result ≡ is_meta self }
     {
-        has_bit(self.flags, 0x0008)
+        has_bit(self.flags, BTP_META)
     }
 
     /// Whether the page's deletion was begun and not finished (`BTP_HALF_DEAD`).
@@ -98,7 +99,7 @@ impl Opaque {
     pub fn is_half_dead(self) -> bool
         ensures { result ≡ is_half_dead self }
     {
-        has_bit(self.flags, 0x0010)
+        has_bit(self.flags, BTP_HALF_DEAD)
     }
 
     /// Whether the page was split, and its right half isn't linked from the level above yet
@@ -108,6 +109,6 @@ impl Opaque {
     pub fn is_split_unfinished(self) -> bool
         ensures { result ≡ is_split_unfinished self }
     {
-        has_bit(self.flags, 0x0080)
+        has_bit(self.flags, BTP_INCOMPLETE_SPLIT)
     }
 }

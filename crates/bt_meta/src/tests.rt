@@ -1,4 +1,4 @@
-// The pages of a small index as a server writes them, and pages that are no part of a tree.
+//! The pages of a small index as a server writes them, and pages that are no part of a tree.
 use crate::{HeadKind, Meta, Opaque, TreeHead, is_idle, meta, meta_rule, opaque, tree_head};
 use page_layout::{PageView, Rule};
 

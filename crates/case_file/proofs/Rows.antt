@@ -1,5 +1,6 @@
 -- What a key has whose spot passes the rules: if it is needed it is there, of its kind and in its range.
-use Rattle.std.proofs.Common.{◌≡◌, ℕ, ℤ, pos, negsuc, ◌<◌, List, [], length, Bool, true, false, not, cond, nat_lt, Option, Some, None, is_some, option_and_then, unwrap_or, refl, sym, arith}
+use Rattle.std.proofs.Common.{◌≡◌, ℕ, ℤ, pos, negsuc, ◌<◌, List, [], length, Bool, true, false, not, cond, nat_lt, Option, Some, None, is_some, option_and_then}
+use Rattle.std.proofs.Common.{unwrap_or, refl, sym, arith}
 use Rattle.std.proofs.lemmas.Bool.{false≢true, not-false}
 use Rattle.std.proofs.lemmas.Bool.Decides.{nat_tests}
 use Rattle.std.specs.Int.{is_in_range, IsInRange}
@@ -13,7 +14,8 @@ use Rattle.case_file.specs.declared.keys.Need.{Need}
 use Rattle.case_file.specs.declared.keys.Need.TheVariants.{Always, Optional, WithToastFile, WithToastOid, OfFixed, OfStored}
 use Rattle.case_file.specs.declared.keys.Range.TheVariants.{Between, Alignment}
 use Rattle.case_file.specs.Keys.{row_of}
-use Rattle.case_file.specs.Rules.{applies, breaks, fails, has_other_kind, is_absent, is_align, is_between, is_fit, is_needed, is_of, is_out_of_range, number_is_in_range}
+use Rattle.case_file.specs.Rules.{applies, breaks, fails, has_other_kind, is_absent, is_align, is_between, is_fit, is_needed, is_of, is_out_of_range}
+use Rattle.case_file.specs.Rules.{number_is_in_range}
 use Rattle.case_file.specs.Spots.{listed}
 use Rattle.case_file.specs.Tables.{as_tables, below_2_32, has, is_table, number_at, tables_in, text_at, text_in, values_of}
 use Rattle.case_file.proofs.Passing.{Passes}
@@ -55,7 +57,8 @@ small low high (pos n) l h =
     rw fits within
 small low high (negsuc n) l h = absurd (false≢true h)
 
-number_found : (low high : ℕ) (o : Option Data) → high < 4294967296 → not (is_some o) ≡ false → fails (is_of Integer) o ≡ false → fails (is_between low high) o ≡ false
+number_found : (low high : ℕ) (o : Option Data) → high < 4294967296 → not (is_some o) ≡ false → fails (is_of Integer) o ≡ false
+    → fails (is_between low high) o ≡ false
     → IsInRange low high (number o)
 unfolding is_of is_between
 number_found low high None l there kind range = absurd (false≢true (sym there))
@@ -67,20 +70,23 @@ number_found low high (Some (datetime dt)) l there kind range = absurd (false≢
 number_found low high (Some (array ds)) l there kind range = absurd (false≢true (sym kind))
 number_found low high (Some (table ms)) l there kind range = absurd (false≢true (sym kind))
 
-pub number_in_range : (key : Key) (t : Members) (low high : ℕ) → IsGood key t → (row_of key).kind ≡ Integer → (row_of key).range ≡ Between low high → high < 4294967296
+pub number_in_range : (key : Key) (t : Members) (low high : ℕ) → IsGood key t → (row_of key).kind ≡ Integer → (row_of key).range ≡ Between low high
+    → high < 4294967296
     → IsInRange low high (number_at (row_of key).word t)
 unfolding number_at is_fit
 number_in_range key t low high good kind range l =
     number_found low high (get_member (row_of key).word t) l good.is_there (rw kind at good.kind) (rw range at good.range)
 
 -- a number that may be left out
-pub optional_number : (low high default : ℕ) (o : Option Data) → high < 4294967296 → IsInRange low high default → fails (is_of Integer) o ≡ false → fails (is_between low high) o ≡ false
+pub optional_number : (low high default : ℕ) (o : Option Data) → high < 4294967296 → IsInRange low high default → fails (is_of Integer) o ≡ false
+    → fails (is_between low high) o ≡ false
     → IsInRange low high (cond (is_some o) (number o) default)
 optional_number low high default None l d kind range = d
 optional_number low high default (Some d) l within kind range = number_found low high (Some d) l refl kind range
 
 -- an alignment
-pub align_found : (t : Members) (o : Option Data) → not (is_some o) ≡ false → fails (is_of Integer) o ≡ false → fails (is_fit Alignment t) o ≡ false → is_align t (number o) ≡ true
+pub align_found : (t : Members) (o : Option Data) → not (is_some o) ≡ false → fails (is_of Integer) o ≡ false → fails (is_fit Alignment t) o ≡ false
+    → is_align t (number o) ≡ true
 unfolding is_of is_fit
 align_found t None there kind range = absurd (false≢true (sym there))
 align_found t (Some (integer z)) there kind range = not-false (is_align t (below_2_32 z)) range
@@ -92,7 +98,8 @@ align_found t (Some (array ds)) there kind range = absurd (false≢true (sym kin
 align_found t (Some (table ms)) there kind range = absurd (false≢true (sym kind))
 
 -- a text
-pub text_found : (o : Option Data) → not (is_some o) ≡ false → fails (is_of Text) o ≡ false → option_and_then as_str o ≡ Some (unwrap_or (option_and_then as_str o) [])
+pub text_found : (o : Option Data) → not (is_some o) ≡ false → fails (is_of Text) o ≡ false
+    → option_and_then as_str o ≡ Some (unwrap_or (option_and_then as_str o) [])
 unfolding is_of
 text_found None there kind = absurd (false≢true (sym there))
 text_found (Some (string s)) there kind = refl
@@ -127,7 +134,8 @@ table_found None there kind = absurd (false≢true (sym there))
 table_found (Some d) there kind = not-false (is_some (as_table d)) kind
 
 -- an array of tables
-all_tables : (ds : List Data) (b : Bool) → list_all is_table ds ≡ b → is_some (cond b (Some ds) None) ≡ true → (list_all is_table ds ≡ true) × (cond b (Some ds) None ≡ Some ds)
+all_tables : (ds : List Data) (b : Bool) → list_all is_table ds ≡ b → is_some (cond b (Some ds) None) ≡ true
+    → (list_all is_table ds ≡ true) × (cond b (Some ds) None ≡ Some ds)
 all_tables ds true h some = (h, refl)
 all_tables ds false h some = absurd (false≢true some)
 
@@ -135,7 +143,8 @@ pub record HasTables (low high : ℕ) (o : Option Data) : Type 0 where
   pub are_tables : list_all is_table (tables_in o) ≡ true
   pub count : IsInRange low high (length (tables_in o))
 
-pub tables_found : (low high : ℕ) (d : Data) → fails (is_of Tables) (Some d) ≡ false → fails (is_between low high) (Some d) ≡ false → HasTables low high (Some d)
+pub tables_found : (low high : ℕ) (d : Data) → fails (is_of Tables) (Some d) ≡ false → fails (is_between low high) (Some d) ≡ false
+    → HasTables low high (Some d)
 unfolding is_of is_between as_tables
 tables_found low high (array ds) kind range =
     let all = all_tables (values_of ds) (list_all is_table (values_of ds)) refl (not-false _ kind) in
@@ -147,7 +156,8 @@ tables_found low high (boolean b) kind range = absurd (false≢true (sym kind))
 tables_found low high (datetime dt) kind range = absurd (false≢true (sym kind))
 tables_found low high (table ms) kind range = absurd (false≢true (sym kind))
 
-pub needed_tables : (low high : ℕ) (o : Option Data) → not (is_some o) ≡ false → fails (is_of Tables) o ≡ false → fails (is_between low high) o ≡ false → HasTables low high o
+pub needed_tables : (low high : ℕ) (o : Option Data) → not (is_some o) ≡ false → fails (is_of Tables) o ≡ false → fails (is_between low high) o ≡ false
+    → HasTables low high o
 needed_tables low high None there kind range = absurd (false≢true (sym there))
 needed_tables low high (Some d) there kind range = tables_found low high d kind range
 

@@ -1,5 +1,6 @@
 -- The columns of a document that breaks no rule are sound.
-use Rattle.std.proofs.Common.{◌≡◌, ℕ, ◌≤◌, ◌<◌, ◌+◌, ◌/◌, ◌%◌, List, [], ◌∷◌, length, map, Bool, true, false, not, ◌&&◌, ◌||◌, ◌==◌, cond, nat_le, Option, Some, None, is_some, option_and_then, unwrap_or, refl, sym, codes, arith, lit<}
+use Rattle.std.proofs.Common.{◌≡◌, ℕ, ◌<◌, ◌+◌, ◌/◌, ◌%◌, List, [], ◌∷◌, length, map, Bool, true, false, not, ◌&&◌, ◌||◌, ◌==◌, cond, nat_le, Option, Some}
+use Rattle.std.proofs.Common.{None, is_some, option_and_then, unwrap_or, refl, sym, codes, arith, lit<}
 use Rattle.std.proofs.lemmas.Bool.{and_parts, eqb-true, false≢true, le-leb, lt-ltb, not-false}
 use Rattle.std.proofs.lemmas.Bool.Decides.{nat_tests}
 use Rattle.std.proofs.lemmas.List.Sums.{AllPass-from_list_all}
@@ -9,16 +10,21 @@ use Rattle.hex.specs.Hex.{is_hex_digit}
 use Rattle.hex.proofs.HexLemmas.{decode_of-digits, decode_of-ok}
 use Rattle.key_orders.specs.declared.columns.ColType.{ColType}
 use Rattle.key_orders.specs.declared.columns.ColType.TheVariants.{Bool as BoolType, Int2, Int4, Int8, Uuid, Text, Bytea, Fixed, Varlena}
-use Rattle.key_orders.specs.Values.{value_in}
+use Rattle.key_orders.specs.declared.columns.Value.TheVariants.{Null}
+use Rattle.key_orders.specs.declared.types.ValueKind.{ValueKind}
+use Rattle.key_orders.specs.declared.types.ValueKind.TheVariants.{Flag, Number, Octets}
+use Rattle.key_orders.specs.Types.{fixed_length, type_of}
+use Rattle.key_orders.specs.Values.{value_by, value_in}
 use Rattle.toml.specs.Data.{Data, string, integer, float, boolean, datetime, array, table, Members, get_member, as_str, as_table}
 use Rattle.case_file.specs.declared.keys.Place.TheVariants.{Column}
 use Rattle.case_file.specs.declared.keys.Key.TheVariants.{ColumnType, ColumnLen, ColumnAlign}
 use Rattle.case_file.specs.declared.keys.Kind.TheVariants.{Text as TextKind}
 use Rattle.case_file.specs.declared.keys.Range.TheVariants.{StoredBytes}
-use Rattle.case_file.specs.Columns.{below_or_zero, column_of, decoded, missing_of, stored_type, type_of}
+use Rattle.case_file.specs.Columns.{below_or_zero, column_of, decoded, missing_of, stored_type, told_type}
 use Rattle.case_file.specs.Keys.{keys_of, row_of}
-use Rattle.case_file.specs.Rules.{applies, breaks, fails, has_known_type, has_other_kind, has_type, is_align, is_fit, is_missing_text, is_needed, is_of, is_out_of_range, is_stored_len, is_unknown, key_type, may_be_key}
-use Rattle.case_file.specs.Sound.{is_missing_value, is_sound_type, IsSoundColumn}
+use Rattle.case_file.specs.Rules.{applies, breaks, fails, has_known_type, has_other_kind, has_type, is_align, is_fit, is_len, is_missing_text, is_needed, is_of}
+use Rattle.case_file.specs.Rules.{is_out_of_range, is_stored_len, is_told_len, is_unknown, key_type, has_key_type}
+use Rattle.case_file.specs.Sound.{is_missing_by, is_missing_value, is_sound_type, IsSoundColumn}
 use Rattle.case_file.specs.Spots.{column_spots, flat_map_from, in_table, listed}
 use Rattle.case_file.specs.Tables.{number_at, text_at}
 use Rattle.case_file.proofs.Passing.{EachPasses, Passes, passes_after, passes_before}
@@ -40,8 +46,8 @@ sound_or false false false false false true g s h = refl
 sound_or false false false false false false true s h = refl
 sound_or false false false false false false false s h = h refl
 
-key_or_stored : (t : Members) → (may_be_key t ≡ false → is_sound_type (stored_type t) ≡ true) → is_sound_type (type_of (Some t)) ≡ true
-unfolding key_type type_of
+key_or_stored : (t : Members) → (has_key_type t ≡ false → is_sound_type (stored_type t) ≡ true) → is_sound_type (told_type (Some t)) ≡ true
+unfolding key_type told_type
 key_or_stored t h =
     sound_or (has_type (codes "bool") t) (has_type (codes "int2") t) (has_type (codes "int4") t) (has_type (codes "int8") t) (has_type (codes "uuid") t) (has_type (codes "text") t) (has_type (codes "bytea") t) (stored_type t) h
 
@@ -57,7 +63,8 @@ is_in : (low high n : ℕ) → IsInRange low high n → is_in_range low high n �
 is_in low high n h = rw (le-leb low n h.0, le-leb n high h.1) refl
 
 -- a type that tells its storage, from a length and an alignment
-stored : (fixed : Bool) (len align : ℕ) → (fixed ≡ true → IsInRange 1 8000 len) → cond fixed (align == 1 || align == 2 || align == 4 || align == 8) (align == 4 || align == 8) ≡ true
+stored : (fixed : Bool) (len align : ℕ) → (fixed ≡ true → IsInRange 1 8000 len)
+    → cond fixed (align == 1 || align == 2 || align == 4 || align == 8) (align == 4 || align == 8) ≡ true
     → is_sound_type (cond fixed (Fixed (below_or_zero 65536 len) (below_or_zero 256 align)) (Varlena (below_or_zero 256 align))) ≡ true
 stored true len align l a =
     let within = l refl in
@@ -74,41 +81,56 @@ is_stored false false true known no_key = refl
 is_stored false false false known no_key = absurd (false≢true (sym known))
 
 -- the length of a column of the type `fixed`
-fixed_len : (top : Members) (k : ℕ) (t : Members) → Passes top (listed (Column k) ColumnLen t) → has_type (codes "fixed") t ≡ true → IsInRange 1 8000 (number_at (codes "len") t)
+fixed_len : (top : Members) (k : ℕ) (t : Members) → Passes top (listed (Column k) ColumnLen t) → has_type (codes "fixed") t ≡ true
+    → IsInRange 1 8000 (number_at (codes "len") t)
 unfolding row_of is_needed
 fixed_len top k t len fixed = number_in_range ColumnLen t 1 8000 (needed_key top (Column k) ColumnLen t len fixed) refl refl (lit< tt)
 
-sound_type : (top : Members) (k : ℕ) (t : Members) → Passes top (listed (Column k) ColumnType t) → Passes top (listed (Column k) ColumnLen t) → Passes top (listed (Column k) ColumnAlign t)
-    → is_sound_type (type_of (Some t)) ≡ true
+sound_type : (top : Members) (k : ℕ) (t : Members) → Passes top (listed (Column k) ColumnType t) → Passes top (listed (Column k) ColumnLen t)
+    → Passes top (listed (Column k) ColumnAlign t)
+    → is_sound_type (told_type (Some t)) ≡ true
 unfolding breaks is_unknown is_needed row_of has_known_type stored_type is_align number_at
 sound_type top k t ctype len align =
     key_or_stored t (λ no_key.
     let fixed : Bool = has_type (codes "fixed") t in
     let varlena : Bool = has_type (codes "varlena") t in
-    let needed = is_stored (may_be_key t) fixed varlena ctype.c5 no_key in
+    let needed = is_stored (has_key_type t) fixed varlena ctype.c5 no_key in
     let good = needed_key top (Column k) ColumnAlign t align needed in
     stored fixed (number_at (codes "len") t) (number_at (codes "align") t) (fixed_len top k t len) (align_found t (get_member (codes "align") t) good.is_there good.kind good.range))
 
-few_bytes : (bytes : List ℕ) (len : ℕ) → length bytes == len ≡ true → len ≤ 8000 → nat_le (length bytes) 8000 ≡ true
-few_bytes bytes len fit l = let same = eqb-true (length bytes) len fit in le-leb (length bytes) 8000 (omega arith)
+-- how many bytes a value may have, where the words of the column are tests
+abbrev is_told_by : Option ColType → (fixed varlena : Bool) → (len n : ℕ) → Bool
+is_told_by (Some ctype) fixed varlena len n = is_len (fixed_length ctype) n
+is_told_by None fixed varlena len n = cond fixed (n == len) (cond varlena (nat_le n 8000) true)
 
--- as many bytes as a stored value of the type has are one
-bytes_fit : (a b c d e f g fixed known : Bool) (len kept align : ℕ) (bytes : List ℕ) → (fixed ≡ true → len ≤ 8000) → (fixed ≡ true → kept ≡ len) → known ≡ true
-    → cond a (length bytes == 1) (cond b (length bytes == 2) (cond c (length bytes == 4) (cond d (length bytes == 8) (cond e (length bytes == 16) (cond fixed (length bytes == len) (cond known (nat_le (length bytes) 8000) true)))))) ≡ true
-    → is_missing_value (unwrap_or (key_or a b c d e f g) (cond fixed (Fixed kept align) (Varlena align))) (value_in (unwrap_or (key_or a b c d e f g) (cond fixed (Fixed kept align) (Varlena align))) bytes) ≡ true
+-- as many bytes as a stored value of a kind has are one
+kind_fits : (kind : ValueKind) (len : Option ℕ) (bytes : List ℕ) → is_len len (length bytes) ≡ true → is_missing_by kind len (value_by kind len bytes) ≡ true
+kind_fits Flag len bytes fit = refl
+kind_fits (Number true low high) len bytes fit = refl
+kind_fits (Number false low high) len bytes fit = refl
+kind_fits Octets len bytes fit = fit
+
+-- null is one of each
+null_fits : (kind : ValueKind) (len : Option ℕ) → is_missing_by kind len Null ≡ true
+null_fits Flag len = refl
+null_fits (Number signed low high) len = refl
+null_fits Octets len = refl
+
+-- and so of the type that the words of a column tell
+bytes_fit : (o : Option ColType) (fixed varlena : Bool) (len kept align : ℕ) (bytes : List ℕ) → (fixed ≡ true → kept ≡ len)
+    → (is_some o || (fixed || varlena)) ≡ true
+    → is_told_by o fixed varlena len (length bytes) ≡ true
+    → is_missing_value (unwrap_or o (cond fixed (Fixed kept align) (Varlena align))) (value_in (unwrap_or o (cond fixed (Fixed kept align) (Varlena align))) bytes) ≡ true
 unfolding value_in
-bytes_fit true b c d e f g fixed known len kept align bytes l same is fit = refl
-bytes_fit false true c d e f g fixed known len kept align bytes l same is fit = refl
-bytes_fit false false true d e f g fixed known len kept align bytes l same is fit = refl
-bytes_fit false false false true e f g fixed known len kept align bytes l same is fit = refl
-bytes_fit false false false false true f g fixed known len kept align bytes l same is fit = fit
-bytes_fit false false false false false f g fixed false len kept align bytes l same is fit = absurd (false≢true is)
-bytes_fit false false false false false true g true true len kept align bytes l same is fit = few_bytes bytes len fit (l refl)
-bytes_fit false false false false false true g false true len kept align bytes l same is fit = fit
-bytes_fit false false false false false false true true true len kept align bytes l same is fit = few_bytes bytes len fit (l refl)
-bytes_fit false false false false false false true false true len kept align bytes l same is fit = fit
-bytes_fit false false false false false false false true true len kept align bytes l same is fit = rw (same refl) fit
-bytes_fit false false false false false false false false true len kept align bytes l same is fit = fit
+bytes_fit (Some ctype) fixed varlena len kept align bytes same known fit = kind_fits (type_of ctype).kind (fixed_length ctype) bytes fit
+bytes_fit None true varlena len kept align bytes same known fit = rw (same refl) fit
+bytes_fit None false true len kept align bytes same known fit = fit
+bytes_fit None false false len kept align bytes same known fit = absurd (false≢true known)
+
+told_as : (o : Option ColType) (t : Members) (n : ℕ) → is_told_len o t n ≡ true
+    → is_told_by o (has_type (codes "fixed") t) (has_type (codes "varlena") t) (number_at (codes "len") t) n ≡ true
+told_as (Some ctype) t n h = h
+told_as None t n h = h
 
 -- digits write half as many bytes
 length-decoded : (s : List ℕ) → list_all is_hex_digit s ≡ true → length s % 2 ≡ 0 → length s / 2 ≡ length (decoded s)
@@ -118,22 +140,25 @@ length-decoded s digits even =
     let twice = (decode_of-ok s bytes.0 bytes.1).2 in
     rw bytes.1 (omega arith)
 
-missing_fits : (t : Members) (s : List ℕ) → has_known_type t ≡ true → (has_type (codes "fixed") t ≡ true → IsInRange 1 8000 (number_at (codes "len") t)) → is_missing_text t s ≡ true
-    → is_missing_value (type_of (Some t)) (value_in (type_of (Some t)) (decoded s)) ≡ true
-unfolding is_missing_text is_stored_len type_of key_type stored_type
+missing_fits : (t : Members) (s : List ℕ) → has_known_type t ≡ true → (has_type (codes "fixed") t ≡ true → IsInRange 1 8000 (number_at (codes "len") t))
+    → is_missing_text t s ≡ true
+    → is_missing_value (told_type (Some t)) (value_in (told_type (Some t)) (decoded s)) ≡ true
+unfolding is_missing_text is_stored_len told_type stored_type has_known_type
 missing_fits t s known len fit =
     let whole = and_parts (list_all is_hex_digit s && length s % 2 == 0) (is_stored_len t (length s / 2)) fit in
     let parts = and_parts (list_all is_hex_digit s) (length s % 2 == 0) whole.0 in
     let half = length-decoded s parts.0 (eqb-true (length s % 2) 0 parts.1) in
     let fixed : Bool = has_type (codes "fixed") t in
-    bytes_fit (has_type (codes "bool") t) (has_type (codes "int2") t) (has_type (codes "int4") t) (has_type (codes "int8") t) (has_type (codes "uuid") t) (has_type (codes "text") t) (has_type (codes "bytea") t)
-    fixed (has_known_type t) (number_at (codes "len") t) (below_or_zero 65536 (number_at (codes "len") t)) (below_or_zero 256 (number_at (codes "align") t)) (decoded s)
-    (λ is. (len is).1) (λ is. below-kept 65536 (number_at (codes "len") t) (let within = len is in omega arith)) known (rw half at whole.1)
+    let varlena : Bool = has_type (codes "varlena") t in
+    let length_of : ℕ = number_at (codes "len") t in
+    bytes_fit (key_type t) fixed varlena length_of (below_or_zero 65536 length_of) (below_or_zero 256 (number_at (codes "align") t)) (decoded s)
+    (λ is. below-kept 65536 length_of (let within = len is in omega arith)) known (told_as (key_type t) t (length (decoded s)) (rw half at whole.1))
 
-sound_missing : (t : Members) (o : Option Data) → has_known_type t ≡ true → (has_type (codes "fixed") t ≡ true → IsInRange 1 8000 (number_at (codes "len") t)) → fails (is_of TextKind) o ≡ false → fails (is_fit StoredBytes t) o ≡ false
-    → is_missing_value (type_of (Some t)) (missing_of (type_of (Some t)) (option_and_then as_str o)) ≡ true
+sound_missing : (t : Members) (o : Option Data) → has_known_type t ≡ true → (has_type (codes "fixed") t ≡ true → IsInRange 1 8000 (number_at (codes "len") t))
+    → fails (is_of TextKind) o ≡ false → fails (is_fit StoredBytes t) o ≡ false
+    → is_missing_value (told_type (Some t)) (missing_of (told_type (Some t)) (option_and_then as_str o)) ≡ true
 unfolding is_of is_fit missing_of
-sound_missing t None known len kind range = refl
+sound_missing t None known len kind range = null_fits (type_of (told_type (Some t))).kind (fixed_length (told_type (Some t)))
 sound_missing t (Some (string s)) known len kind range = missing_fits t s known len (not-false (is_missing_text t s) range)
 sound_missing t (Some (integer z)) known len kind range = absurd (false≢true (sym kind))
 sound_missing t (Some (float x)) known len kind range = absurd (false≢true (sym kind))
@@ -143,7 +168,7 @@ sound_missing t (Some (array ds)) known len kind range = absurd (false≢true (s
 sound_missing t (Some (table ms)) known len kind range = absurd (false≢true (sym kind))
 
 sound_column : (top : Members) (k : ℕ) (d : Data) (o : Option Members) → as_table d ≡ o → EachPasses top (in_table (Column k) o) → IsSoundColumn (column_of d)
-unfolding in_table keys_of column_of type_of missing_of breaks has_other_kind is_out_of_range applies is_unknown row_of text_at
+unfolding in_table keys_of column_of told_type missing_of breaks has_other_kind is_out_of_range applies is_unknown row_of text_at
 sound_column top k d None is all = rw is (record { ctype = refl; missing = refl })
 sound_column top k d (Some t) is all =
     let ctype = all.1.1.0 in
@@ -155,7 +180,8 @@ sound_column top k d (Some t) is all =
       missing = sound_missing t (get_member (codes "missing") t) (not-false (has_known_type t) ctype.c5) (fixed_len top k t len) missing.c3 missing.c4;
     })
 
-pub sound_columns : (top : Members) (k : ℕ) (ds : List Data) → EachPasses top (flat_map_from column_spots k ds) → AllByRecursion IsSoundColumn (map column_of ds)
+pub sound_columns : (top : Members) (k : ℕ) (ds : List Data) → EachPasses top (flat_map_from column_spots k ds)
+    → AllByRecursion IsSoundColumn (map column_of ds)
 sound_columns top k [] all = tt
 sound_columns top k (d ∷ ds) all = (
   sound_column top k d (as_table d) refl (passes_before top (column_spots k d) _ all),

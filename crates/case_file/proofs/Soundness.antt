@@ -1,5 +1,6 @@
 -- The case of a document that breaks no rule is sound.
-use Rattle.std.proofs.Common.{◌≡◌, ℕ, ◌≤◌, ◌<◌, List, ◌++◌, true, false, Option, Some, None, is_some, option_map, option_and_then, unwrap_or, refl, sym, ap, subst, codes, arith, lit<}
+use Rattle.std.proofs.Common.{◌≡◌, ℕ, ◌≤◌, ◌<◌, List, ◌++◌, true, false, Option, Some, None, is_some, option_map, option_and_then, unwrap_or, refl, sym, ap}
+use Rattle.std.proofs.Common.{subst, codes, arith, lit<}
 use Rattle.std.proofs.lemmas.Bool.{false≢true, leb-false, or_parts}
 use Rattle.std.proofs.lemmas.Bool.Decides.{nat_tests}
 use Rattle.std.proofs.lemmas.List.{length-map}
@@ -9,13 +10,15 @@ use Rattle.std.specs.Option.{ForSome}
 use Rattle.toml.specs.Data.{Data, string, integer, float, boolean, datetime, array, table, Members, get_member, as_str}
 use Rattle.rel_files.specs.Ranges.{distance}
 use Rattle.case_file.specs.declared.keys.Place.TheVariants.{Top, Cluster, Heap}
-use Rattle.case_file.specs.declared.keys.Key.TheVariants.{SegmentBlocks, ClusterTable, NextXid, OldestXid, NextMulti, OldestMulti, NextMember, XactDir, OffsetsDir, MembersDir, HeapTable, HeapFile, ToastOid, Columns}
+use Rattle.case_file.specs.declared.keys.Key.TheVariants.{SegmentBlocks, ClusterTable, NextXid, OldestXid, NextMulti, OldestMulti, NextMember, XactDir}
+use Rattle.case_file.specs.declared.keys.Key.TheVariants.{OffsetsDir, MembersDir, HeapTable, HeapFile, ToastOid, Columns}
 use Rattle.case_file.specs.declared.keys.Kind.TheVariants.{Text}
 use Rattle.case_file.specs.Case.{cluster_of, first_broken, record_of, rules_in_order, segment_blocks_of, toast_of}
 use Rattle.case_file.specs.Columns.{column_of}
 use Rattle.case_file.specs.Indexes.{index_of}
 use Rattle.case_file.specs.Keys.{keys_of, row_of}
-use Rattle.case_file.specs.Rules.{applies, at_least_one, breaks, fails, has_other_kind, has_too_old, is_between, is_fit, is_needed, is_of, is_out_of_range, is_too_old}
+use Rattle.case_file.specs.Rules.{applies, at_least_one, breaks, fails, has_other_kind, has_too_old, is_between, is_fit, is_needed, is_of, is_out_of_range}
+use Rattle.case_file.specs.Rules.{is_too_old}
 use Rattle.case_file.specs.Sound.{IsPath, IsSound, IsSoundCluster}
 use Rattle.case_file.specs.Spots.{cluster_part, column_part, heap_part, in_table, index_part, listed, spots, top_part}
 use Rattle.case_file.specs.Tables.{has, number_at, number_in, table_at, tables_at, text_at, text_in}
@@ -46,7 +49,8 @@ sound_cluster top (Some t) there all =
     let next_member = needed_key top Cluster NextMember t all.1.1.1.1.1.0 refl in
     let multi = number_in_range NextMulti t 0 4294967295 next_multi refl refl (lit< tt) in
     let member = number_in_range NextMember t 0 4294967295 next_member refl refl (lit< tt) in
-    let turned = or_parts (is_too_old (number_at (codes "oldest_xid") t) (number_at (codes "next_xid") t)) (is_too_old (number_at (codes "oldest_multi") t) (at_least_one (number_at (codes "next_multi") t))) all.0.c7 in
+    let turned =
+    or_parts (is_too_old (number_at (codes "oldest_xid") t) (number_at (codes "next_xid") t)) (is_too_old (number_at (codes "oldest_multi") t) (at_least_one (number_at (codes "next_multi") t))) all.0.c7 in
     record {
       next_xid = number_in_range NextXid t 3 4294967295 next_xid refl refl (lit< tt);
       oldest_xid = number_in_range OldestXid t 3 4294967295 oldest_xid refl refl (lit< tt);

@@ -1,5 +1,6 @@
 -- What the code reads of a value or a table, beside the document's words.
-use Rattle.std.proofs.Common.{◌≡◌, List, [], ◌∷◌, Bool, ◌||◌, ℕ, ◌+◌, cond, Vec, Global, length, suc, take, map, String, string_bytes, BTreeMap, not, Option, Some, None, is_some, option_map, refl, ap}
+use Rattle.std.proofs.Common.{◌≡◌, List, [], ◌∷◌, Bool, ◌||◌, ℕ, ◌+◌, cond, Vec, Global, length, suc, take, map, String, string_bytes, BTreeMap, not, Option}
+use Rattle.std.proofs.Common.{Some, None, is_some, option_map, refl, ap}
 use Rattle.std.proofs.lemmas.List.{take-map, take_all, length-map}
 use Rattle.std.proofs.lemmas.Option.{slice_get-map}
 use Rattle.std.proofs.lemmas.List.Folds.{list_all-map}
@@ -12,7 +13,7 @@ use Rattle.toml.specs.Data.{Data}
 use Rattle.toml.specs.View.{view, items_view, members_view, table_view}
 use Rattle.toml.proofs.Views.{view-Array}
 use Rattle.case_file.specs.declared.keys.Place.{Place}
-use Rattle.case_file.specs.Rules.{has_name, has_unlisted, is_between, is_key_column, is_listed, names}
+use Rattle.case_file.specs.Rules.{has_name, has_unlisted, is_between, is_key_column, is_listed, member_names}
 use Rattle.case_file.specs.Tables.{is_table, values_of}
 
 pub values_of-view : (vs : List Value) → values_of (items_view vs) ≡ map view vs
@@ -44,14 +45,17 @@ list_any-view test (v ∷ vs) = ap (λ b. test (view v) || b) (list_any-view tes
 pub has_name-view : (name : Option (List ℕ)) (vs : List Value) → list_any (has_name name) (map view vs) ≡ list_any (λ v. has_name name (view v)) vs
 has_name-view name vs = list_any-view (has_name name) vs
 
-pub is_key_column-view : (name : Option (List ℕ)) (vs : List Value) → list_any (is_key_column name) (map view vs) ≡ list_any (λ v. is_key_column name (view v)) vs
+pub is_key_column-view : (name : Option (List ℕ)) (vs : List Value)
+    → list_any (is_key_column name) (map view vs) ≡ list_any (λ v. is_key_column name (view v)) vs
 is_key_column-view name vs = list_any-view (is_key_column name) vs
 
-list_any-names : (test : List ℕ → Bool) (es : List (String Global × Value)) → list_any test (names (members_view es)) ≡ list_any (λ k. test (string_bytes k)) (keys_of es)
+list_any-names : (test : List ℕ → Bool) (es : List (String Global × Value))
+    → list_any test (member_names (members_view es)) ≡ list_any (λ k. test (string_bytes k)) (keys_of es)
 list_any-names test [] = refl
 list_any-names test (e ∷ es) = ap (λ b. test (string_bytes e.0) || b) (list_any-names test es)
 
-pub has_unlisted-view : (p : Place) (m : BTreeMap (String Global) Value) → has_unlisted p (table_view m) ≡ list_any (λ k. not (is_listed p (table_view m) (string_bytes k))) (keys m)
+pub has_unlisted-view : (p : Place) (m : BTreeMap (String Global) Value)
+    → has_unlisted p (table_view m) ≡ list_any (λ k. not (is_listed p (table_view m) (string_bytes k))) (keys m)
 unfolding has_unlisted
 has_unlisted-view p m = list_any-names (λ name. not (is_listed p (table_view m) name)) m.entries
 
@@ -59,7 +63,8 @@ position_or_len-view : (test : Data → Bool) (vs : List Value) → position_or_
 position_or_len-view test [] = refl
 position_or_len-view test (v ∷ vs) = ap (λ n. cond (not (test (view v))) (1 + n) 0) (position_or_len-view test vs)
 
-pub position-view : (name : List ℕ) (vs : List Value) → position (is_key_column (Some name)) (map view vs) ≡ position (λ v. is_key_column (Some name) (view v)) vs
+pub position-view : (name : List ℕ) (vs : List Value)
+    → position (is_key_column (Some name)) (map view vs) ≡ position (λ v. is_key_column (Some name) (view v)) vs
 position-view name vs = rw (position_or_len-view (is_key_column (Some name)) vs, length-map vs view) refl
 
 pub slice_get-view : (vs : List Value) (k : ℕ) → slice_get (map view vs) k ≡ option_map view (slice_get vs k)

@@ -1,5 +1,6 @@
 -- What a text means: a case, or the first rule that the text breaks, with its place.
-use Rattle.std.specs.Prelude.{◌≡◌, ℕ, List, [], ◌∷◌, map, if◌then◌else◌, Option, Some, None, option_map, option_and_then, Result, Ok, Err, codes, find}
+use Rattle.std.specs.Prelude.{◌≡◌, ℕ, List, [], ◌∷◌, map, if◌then◌else◌, Option, Some, None, option_map}
+use Rattle.std.specs.Prelude.{option_and_then, Result, Ok, Err, codes, find}
 use Rattle.std.specs.Str.{is_utf8}
 use Rattle.rel_files.specs.declared.cluster.Cluster.{Cluster}
 use Rattle.toml.specs.Data.{Members}
@@ -41,7 +42,8 @@ cluster_of t = record {
 }
 
 unfoldable pub toast_of : Option Members → Option (List ℕ × ℕ)
-toast_of t = option_map (λ file. (file, number_in t (codes "toast_oid"))) (option_and_then (text_at (codes "toast_file")) t)
+toast_of t =
+    option_map (λ file. (file, number_in t (codes "toast_oid"))) (option_and_then (text_at (codes "toast_file")) t)
 
 unfoldable pub record_of : Members → CaseRecord
 record_of top =

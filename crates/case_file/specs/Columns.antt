@@ -1,4 +1,5 @@
--- The columns of a document that breaks no rule. Each definition gives something for any document, so that building needs no
+-- The columns of a document that breaks no rule. Each definition gives something for any document, so that building
+-- needs no
 -- premise.
 use Rattle.std.specs.Prelude.{ℕ, List, [], if◌then◌else◌, Option, Some, None, option_and_then, unwrap_or, nat_lt, codes}
 use Rattle.std.specs.Result.{result_unwrap_or}
@@ -23,9 +24,9 @@ stored_type t =
     let align = below_or_zero 256 (number_at (codes "align") t) in
     if has_type (codes "fixed") t then Fixed (below_or_zero 65536 (number_at (codes "len") t)) align else Varlena align
 
-unfoldable pub type_of : Option Members → ColType
-type_of (Some t) = unwrap_or (key_type t) (stored_type t)
-type_of None = Text
+unfoldable pub told_type : Option Members → ColType
+told_type (Some t) = unwrap_or (key_type t) (stored_type t)
+told_type None = Text
 
 -- the bytes that hexadecimal digits write
 unfoldable pub decoded : List ℕ → List ℕ
@@ -38,5 +39,5 @@ missing_of ctype None = Null
 
 unfoldable pub column_of : Data → Column
 column_of d =
-    let ctype = type_of (as_table d) in
+    let ctype = told_type (as_table d) in
     record { ctype = ctype; missing = missing_of ctype (option_and_then (text_at (codes "missing")) (as_table d)) }

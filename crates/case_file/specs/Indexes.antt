@@ -3,7 +3,7 @@ use Rattle.std.specs.Prelude.{ℕ, List, [], map, false, Option, Some, None, opt
 use Rattle.std.specs.List.{slice_get}
 use Rattle.key_orders.specs.declared.columns.KeySpec.{KeySpec}
 use Rattle.toml.specs.Data.{Data, Members, as_table}
-use Rattle.case_file.specs.Columns.{below_or_zero, type_of}
+use Rattle.case_file.specs.Columns.{below_or_zero, told_type}
 use Rattle.case_file.specs.Record.{IndexRecord}
 use Rattle.case_file.specs.Rules.{is_key_column}
 use Rattle.case_file.specs.Tables.{flag_in, tables_at, text_in}
@@ -22,7 +22,7 @@ key_of columns d =
     let desc = flag_in (as_table d) (codes "desc") false in
     record {
       column = below_or_zero 65536 column;
-      ctype = type_of (table_of columns column);
+      ctype = told_type (table_of columns column);
       desc = desc;
       nulls_first = flag_in (as_table d) (codes "nulls_first") desc;
     }

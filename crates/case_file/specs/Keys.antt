@@ -3,15 +3,22 @@ use Rattle.std.specs.Prelude.{ℕ, List, [], ◌∷◌, ◌++◌, codes, decimal
 use Rattle.case_file.specs.declared.keys.Place.{Place}
 use Rattle.case_file.specs.declared.keys.Place.TheVariants.{Top, Cluster, Heap, Column, Index, IndexKey}
 use Rattle.case_file.specs.declared.keys.Key.{Key}
-use Rattle.case_file.specs.declared.keys.Key.TheVariants.{SegmentBlocks, ClusterTable, NextXid, OldestXid, NextMulti, OldestMulti, NextMember, XactDir, OffsetsDir, MembersDir, HeapTable, HeapFile, ToastFile, ToastOid, Columns, ColumnName, ColumnType, ColumnLen, ColumnAlign, ColumnMissing, Indexes, IndexName, IndexFile, IndexKeys, KeyColumn, KeyDesc, KeyNullsFirst}
+use Rattle.case_file.specs.declared.keys.Key.TheVariants.{SegmentBlocks, ClusterTable, NextXid, OldestXid, NextMulti}
+use Rattle.case_file.specs.declared.keys.Key.TheVariants.{OldestMulti, NextMember, XactDir, OffsetsDir, MembersDir}
+use Rattle.case_file.specs.declared.keys.Key.TheVariants.{HeapTable, HeapFile, ToastFile, ToastOid, Columns, ColumnName}
+use Rattle.case_file.specs.declared.keys.Key.TheVariants.{ColumnType, ColumnLen, ColumnAlign, ColumnMissing, Indexes}
+use Rattle.case_file.specs.declared.keys.Key.TheVariants.{IndexName, IndexFile, IndexKeys, KeyColumn, KeyDesc}
+use Rattle.case_file.specs.declared.keys.Key.TheVariants.{KeyNullsFirst}
 use Rattle.case_file.specs.declared.keys.Kind.{Kind}
 use Rattle.case_file.specs.declared.keys.Kind.TheVariants.{Text, Integer, Boolean, Table, Tables}
 use Rattle.case_file.specs.declared.keys.Need.{Need}
-use Rattle.case_file.specs.declared.keys.Need.TheVariants.{Always, Optional, WithToastFile, WithToastOid, OfFixed, OfStored}
+use Rattle.case_file.specs.declared.keys.Need.TheVariants.{Always, Optional, WithToastFile, WithToastOid, OfFixed}
+use Rattle.case_file.specs.declared.keys.Need.TheVariants.{OfStored}
 use Rattle.case_file.specs.declared.keys.Range.{Range}
 use Rattle.case_file.specs.declared.keys.Range.TheVariants.{Any, Between, Alignment, StoredBytes}
 
--- a row of the key table: the key as it stands in the text, the kind of its value, when it has to be there, and which values
+-- a row of the key table: the key as it stands in the text, the kind of its value, when it has to be there, and which
+-- values
 -- of that kind it may have
 pub record Row : Type 0 where
   pub word : List ℕ

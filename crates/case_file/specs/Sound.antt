@@ -1,17 +1,22 @@
 -- What every case has: each number and length is in its range, and each key column is a column that may be one.
-use Rattle.std.specs.Prelude.{◌≡◌, ◌≤◌, ◌<◌, ◌==◌, ◌&&◌, ◌||◌, ℕ, Bool, true, false, nat_le, List, length, Some, option_map}
+use Rattle.std.specs.Prelude.{◌≡◌, ◌≤◌, ◌<◌, ◌==◌, ◌&&◌, ◌||◌, ℕ, Bool, true, false, List, length, Option, Some, None}
+use Rattle.std.specs.Prelude.{option_map}
 use Rattle.std.specs.Int.{is_in_range, IsInRange}
 use Rattle.std.specs.List.{AllByRecursion, slice_get}
 use Rattle.std.specs.Option.{ForSome}
 use Rattle.key_orders.specs.declared.columns.ColType.{ColType}
-use Rattle.key_orders.specs.declared.columns.ColType.TheVariants.{Bool as BoolType, Int2, Int4, Int8, Uuid, Text, Bytea, Fixed, Varlena}
 use Rattle.key_orders.specs.declared.columns.KeySpec.{KeySpec}
 use Rattle.key_orders.specs.declared.columns.Value.{Value}
 use Rattle.key_orders.specs.declared.columns.Value.TheVariants.{Null, Bool as BoolValue, Int, Bytes}
+use Rattle.key_orders.specs.declared.types.ValueKind.{ValueKind}
+use Rattle.key_orders.specs.declared.types.ValueKind.TheVariants.{Flag, Number, Octets}
+use Rattle.key_orders.specs.Orders.{is_bool, is_int, is_null}
+use Rattle.key_orders.specs.Types.{alignment_of, fixed_length, is_alignment, may_be_key, type_of}
 use Rattle.rel_files.specs.Ranges.{distance}
 use Rattle.rel_files.specs.declared.cluster.Cluster.{Cluster}
 use Rattle.case_file.specs.declared.case.Column.{Column}
 use Rattle.case_file.specs.Record.{CaseRecord, IndexRecord}
+use Rattle.case_file.specs.Rules.{is_len}
 
 -- transaction numbers are below 2 ^ 32, and the oldest is less than half of the way round behind the next
 pub record IsSoundCluster (c : Cluster) : Type 0 where
@@ -26,40 +31,39 @@ pub record IsSoundCluster (c : Cluster) : Type 0 where
 abbrev pub IsPath : List ℕ → Type 0
 IsPath path = IsInRange 1 200 (length path)
 
--- lengths and alignments are in range
+-- a length is in range, and so is an alignment: that of a varlena is 4 or 8
+abbrev pub is_sound_storage : Option ℕ → ℕ → Bool
+is_sound_storage (Some len) align = is_in_range 1 8000 len && is_alignment align
+is_sound_storage None align = align == 4 || align == 8
+
 abbrev pub is_sound_type : ColType → Bool
-is_sound_type (Fixed len align) = is_in_range 1 8000 len && (align == 1 || align == 2 || align == 4 || align == 8)
-is_sound_type (Varlena align) = align == 4 || align == 8
-is_sound_type _ = true
+is_sound_type ctype = is_sound_storage (fixed_length ctype) (alignment_of ctype)
+
+-- so many bytes as a value may have
+abbrev pub has_stored_len : Option ℕ → Value → Bool
+has_stored_len len Null = false
+has_stored_len len (BoolValue b) = false
+has_stored_len len (Int z) = false
+has_stored_len len (Bytes bytes) = is_len len (length bytes)
+
+-- null, or a value of a kind and length
+abbrev pub is_missing_by : ValueKind → Option ℕ → Value → Bool
+is_missing_by Flag len v = is_null v || is_bool v
+is_missing_by (Number signed low high) len v = is_null v || is_int v
+is_missing_by Octets len v = is_null v || has_stored_len len v
 
 -- null, or a value that a column of the type may have
 abbrev pub is_missing_value : ColType → Value → Bool
-is_missing_value ctype Null = true
-is_missing_value BoolType (BoolValue b) = true
-is_missing_value Int2 (Int z) = true
-is_missing_value Int4 (Int z) = true
-is_missing_value Int8 (Int z) = true
-is_missing_value Uuid (Bytes bytes) = length bytes == 16
-is_missing_value Text (Bytes bytes) = nat_le (length bytes) 8000
-is_missing_value Bytea (Bytes bytes) = nat_le (length bytes) 8000
-is_missing_value (Fixed len align) (Bytes bytes) = length bytes == len
-is_missing_value (Varlena align) (Bytes bytes) = nat_le (length bytes) 8000
-is_missing_value _ _ = false
+is_missing_value ctype v = is_missing_by (type_of ctype).kind (fixed_length ctype) v
 
 pub record IsSoundColumn (column : Column) : Type 0 where
   pub ctype : is_sound_type column.ctype ≡ true
   pub missing : is_missing_value column.ctype column.missing ≡ true
 
--- the type may be a key's
-abbrev pub is_key_type : ColType → Bool
-is_key_type (Fixed len align) = false
-is_key_type (Varlena align) = false
-is_key_type _ = true
-
 -- a key column is a column of the case, of a type that may be a key's
 pub record IsSoundKey (columns : List Column) (key : KeySpec) : Type 0 where
   pub is_there : option_map (λ c. c.ctype) (slice_get columns key.column) ≡ Some key.ctype
-  pub may_be_key : is_key_type key.ctype ≡ true
+  pub may_be_key : may_be_key key.ctype ≡ true
 
 pub record IsSoundIndex (columns : List Column) (index : IndexRecord) : Type 0 where
   pub name : IsInRange 1 63 (length index.name)

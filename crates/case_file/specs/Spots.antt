@@ -1,4 +1,5 @@
--- The spots of a document, where its rules are asked: each of its tables as a whole, and each listed key of each table, in
+-- The spots of a document, where its rules are asked: each of its tables as a whole, and each listed key of each table,
+-- in
 -- the order of the key table.
 use Rattle.std.specs.Prelude.{ℕ, ◌+◌, List, [], ◌∷◌, ◌++◌, map, Option, Some, None, codes}
 use Rattle.toml.specs.Data.{Data, Members, as_table}

@@ -1,7 +1,8 @@
-// The case that a document means that breaks no rule.
+//! The case that a document means that breaks no rule.
 ghost use Rattle.std.specs.Prelude.{◌≡◌, option_map, IfOk, None};
 ghost use Rattle.toml.specs.View.{table_view};
-ghost use Rattle.case_file.specs.Case.{cluster_of, first_broken, record_of, rules_in_order, segment_blocks_of, toast_of};
+ghost use Rattle.case_file.specs.Case.{cluster_of, first_broken, record_of, rules_in_order, segment_blocks_of};
+ghost use Rattle.case_file.specs.Case.{toast_of};
 ghost use Rattle.case_file.specs.Spots.{spots};
 
 use crate::case::{Case, Toast};

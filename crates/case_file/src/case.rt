@@ -1,4 +1,4 @@
-// A case, and what it tells.
+//! A case, and what it tells.
 ghost use Rattle.std.specs.Prelude.{◌≡◌, ◌-◌, ◌<◌, ◌≤◌, length, map, option_map, string_bytes, position, Some, IfSome};
 ghost use Rattle.std.specs.List.{slice_get};
 ghost use Rattle.std.specs.Str.{bytes_eq};

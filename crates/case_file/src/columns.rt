@@ -1,10 +1,11 @@
-// The columns of a document that breaks no rule.
-ghost use Rattle.std.specs.Prelude.{◌≡◌, map, option_and_then, option_copied, option_map, codes, slice_index, IfOk};
+//! The columns of a document that breaks no rule.
+ghost use Rattle.std.specs.Prelude.{◌≡◌, pos, map, option_and_then, option_copied, option_map, codes, slice_index};
+ghost use Rattle.std.specs.Prelude.{IfOk};
 ghost use Rattle.std.specs.Int.{cast_signed, from_le_bytes};
 ghost use mir.Syntax.{w16, w32, w64};
 ghost use Rattle.key_orders.specs.Values.{value_in};
 ghost use Rattle.toml.specs.View.{view, table_view};
-ghost use Rattle.case_file.specs.Columns.{below_or_zero, column_of, decoded, missing_of, stored_type, type_of};
+ghost use Rattle.case_file.specs.Columns.{below_or_zero, column_of, decoded, missing_of, stored_type, told_type};
 ghost use Rattle.case_file.specs.Tables.{text_at};
 
 use crate::case::Column;
@@ -43,9 +44,9 @@ fn stored_type(column: &Table) -> ColType
 }
 
 /// The type of a column.
-#[tactic(auto, unfolding(crate::specs::Columns::type_of))]
-pub fn type_of(column: Option<&Table>) -> ColType
-    ensures { result ≡ type_of (option_map (λ t. table_view t.now) column.entry) }
+#[tactic(auto, unfolding(crate::specs::Columns::told_type))]
+pub fn told_type(column: Option<&Table>) -> ColType
+    ensures { result ≡ told_type (option_map (λ t. table_view t.now) column.entry) }
 {
     match column {
         None => ColType::Text,
@@ -91,6 +92,17 @@ fn int4_of(bytes: &[u8]) -> i64
     ]) as i64
 }
 
+fn oid_of(bytes: &[u8]) -> i64
+    ensures { result ≡ pos (from_le_bytes w32 bytes.now) }
+{
+    i64::from(u32::from_le_bytes([
+        byte_at(bytes, 0),
+        byte_at(bytes, 1),
+        byte_at(bytes, 2),
+        byte_at(bytes, 3),
+    ]))
+}
+
 fn int8_of(bytes: &[u8]) -> i64
     ensures { result ≡ cast_signed w64 (from_le_bytes w64 bytes.now) }
 {
@@ -113,9 +125,14 @@ fn value_in(ctype: ColType, bytes: Vec<u8>) -> Stored
     match ctype {
         ColType::Bool => Stored::Bool(byte_at(&bytes, 0) != 0),
         ColType::Int2 => Stored::Int(int2_of(&bytes)),
-        ColType::Int4 => Stored::Int(int4_of(&bytes)),
-        ColType::Int8 => Stored::Int(int8_of(&bytes)),
-        _ => Stored::Bytes(Octets::from_vec(bytes)),
+        ColType::Int4 | ColType::Date => Stored::Int(int4_of(&bytes)),
+        ColType::Oid => Stored::Int(oid_of(&bytes)),
+        ColType::Int8 | ColType::Timestamp | ColType::Timestamptz => Stored::Int(int8_of(&bytes)),
+        ColType::Uuid
+        | ColType::Text
+        | ColType::Bytea
+        | ColType::Fixed { .. }
+        | ColType::Varlena { .. } => Stored::Bytes(Octets::from_vec(bytes)),
     }
 }
 
@@ -130,7 +147,8 @@ fn missing_of(alloc: Global, ctype: ColType, text: Option<&str>) -> Result<Store
 }
 
 fn missing_text(column: Option<&Table>) -> Option<&str>
-    ensures { option_copied result ≡ option_and_then (text_at (codes "missing")) (option_map (λ t. table_view t.now) column.entry) }
+    ensures { option_copied result
+        ≡ option_and_then (text_at (codes "missing")) (option_map (λ t. table_view t.now) column.entry) }
 {
     match column {
         Some(table) => text_at(table, "missing"),
@@ -143,7 +161,7 @@ fn column_of(alloc: Global, column: &Value) -> Result<Column, NoMemory>
     ensures { IfOk result (λ c. c ≡ column_of (view column.now)) }
 {
     let table = column.as_table();
-    let ctype = type_of(table);
+    let ctype = told_type(table);
     let missing = missing_of(alloc, ctype, missing_text(table))?;
     Ok(Column { ctype, missing })
 }

@@ -1,4 +1,4 @@
-// The rules of a case file, and why a text gives no case.
+//! The rules of a case file, and why a text gives no case.
 ghost use Rattle.std.specs.Prelude.{◌≡◌};
 ghost use Rattle.case_file.specs.Rules.{rule_code};
 ghost use Rattle.case_file.specs.declared.fault.CaseFault.TheVariants as fault;

@@ -1,4 +1,4 @@
-// The first rule that a document breaks, and where.
+//! The first rule that a document breaks, and where.
 ghost use Rattle.std.specs.Prelude.{◌≡◌, find, option_map};
 ghost use Rattle.toml.specs.View.{table_view};
 ghost use Rattle.case_file.specs.Case.{first_broken};
@@ -29,7 +29,8 @@ pub fn first_broken<'a>(
     spots: &[Spot<'a>],
     rules: &[CaseRule],
 ) -> Option<(CaseRule, Spot<'a>)>
-    ensures { option_map (λ p. (p.0, spot_view p.1)) result ≡ first_broken (table_view top.now) (spots_view spots.now) rules.now }
+    ensures { option_map (λ p. (p.0, spot_view p.1)) result
+        ≡ first_broken (table_view top.now) (spots_view spots.now) rules.now }
 {
     for rule in rules {
         if let Some(spot) = first_spot(top, *rule, spots) {

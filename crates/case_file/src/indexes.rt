@@ -1,11 +1,11 @@
-// The indexes of a document that breaks no rule.
+//! The indexes of a document that breaks no rule.
 ghost use Rattle.std.specs.Prelude.{◌≡◌, map, option_map, IfOk, position, Some};
 ghost use Rattle.toml.specs.View.{view, table_view};
 ghost use Rattle.case_file.specs.Indexes.{column_named, index_of, key_of, keys_in, table_of};
 ghost use Rattle.case_file.specs.Rules.{is_key_column};
 
 use crate::case::Index;
-use crate::columns::{below_2_16, type_of};
+use crate::columns::{below_2_16, told_type};
 use crate::rules::is_key_column;
 use crate::tables::{flag_in, string_in, tables_at, text_in};
 use key_orders::KeySpec;
@@ -50,7 +50,7 @@ fn key_of(columns: &[Value], key: &Value) -> KeySpec
     let desc = flag_in(table, "desc", false);
     KeySpec {
         column: below_2_16(column),
-        ctype: type_of(table_of(columns, column)),
+        ctype: told_type(table_of(columns, column)),
         desc,
         nulls_first: flag_in(table, "nulls_first", desc),
     }

@@ -1,4 +1,4 @@
-// The key table: the tables of a case file, the keys of each, and what is asked of each value.
+//! The key table: the tables of a case file, the keys of each, and what is asked of each value.
 ghost use Rattle.std.specs.Prelude.{◌≡◌};
 ghost use Rattle.case_file.specs.Keys.{keys_of, row_of};
 

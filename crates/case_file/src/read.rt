@@ -1,4 +1,4 @@
-// Reading a case file.
+//! Reading a case file.
 ghost use Rattle.std.specs.Prelude.{◌≡◌, Some, Ok, IfOk, IfErr};
 ghost use Rattle.case_file.specs.Case.{case_of, meaning_of, Tells};
 ghost use Rattle.toml.specs.View.{table_view};

@@ -1,5 +1,6 @@
-// The rules C2 to C7, each as a test of one spot.
-ghost use Rattle.std.specs.Prelude.{◌≡◌, not, ◌&&◌, map, option_map, option_and_then, option_copied, string_bytes, take};
+//! The rules C2 to C7, each as a test of one spot.
+ghost use Rattle.std.specs.Prelude.{◌≡◌, find, not, ◌&&◌, map, option_map, option_and_then, option_copied};
+ghost use Rattle.std.specs.Prelude.{string_bytes, take};
 ghost use Rattle.std.specs.BTreeMap.{keys};
 ghost use Rattle.std.specs.Int.{is_in_range};
 ghost use Rattle.std.specs.List.{list_all, list_any};
@@ -8,7 +9,12 @@ ghost use Rattle.hex.specs.Hex.{is_hex_digit};
 ghost use Rattle.toml.specs.Data.{as_integer, as_table, get_member};
 ghost use Rattle.toml.specs.View.{view, table_view};
 ghost use Rattle.case_file.specs.Keys.{keys_of, row_of};
-ghost use Rattle.case_file.specs.Rules.{applies, at_least_one, breaks, fails, has_known_type, has_name, has_other_kind, has_stored_type, has_too_old, has_type, has_unlisted, is_absent, is_align, is_between, is_fit, is_key_column, is_listed, is_missing_text, is_name_taken, is_needed, is_of, is_out_of_range, is_stored_len, is_too_old, is_unknown, key_type, may_be_key, names, number_is_in_range, number_of, same_text};
+ghost use Rattle.case_file.specs.Rules.{applies, at_least_one, breaks, fails, has_known_type, has_name, has_other_kind};
+ghost use Rattle.case_file.specs.Rules.{has_stored_type, has_too_old, has_type, has_unlisted, is_absent, is_align};
+ghost use Rattle.case_file.specs.Rules.{is_between, is_fit, is_key_column, is_len, is_listed, is_missing_text};
+ghost use Rattle.case_file.specs.Rules.{is_name_taken, is_needed, is_of, is_out_of_range, is_stored_len, is_told};
+ghost use Rattle.case_file.specs.Rules.{is_too_old, is_unknown, key_type, has_key_type, member_names};
+ghost use Rattle.case_file.specs.Rules.{number_is_in_range, number_of, same_text, word_of};
 ghost use Rattle.case_file.specs.Spots.{spot_view};
 ghost use Rattle.case_file.specs.Tables.{has, number_at, tables_at, text_at};
 
@@ -35,32 +41,70 @@ pub fn has_type(column: &Table, word: &str) -> bool
     same_text(text_at(column, "type"), Some(word))
 }
 
+// The types that may be keys.
+const KEY_TYPES: [ColType; 11] = [
+    ColType::Bool,
+    ColType::Int2,
+    ColType::Int4,
+    ColType::Int8,
+    ColType::Uuid,
+    ColType::Text,
+    ColType::Bytea,
+    ColType::Oid,
+    ColType::Date,
+    ColType::Timestamp,
+    ColType::Timestamptz,
+];
+
+// The word of a type. The words of the four without one come later.
+fn word_of(ctype: ColType) -> Option<&'static str>
+    ensures { option_copied result ≡ word_of ctype }
+{
+    match ctype {
+        ColType::Bool => Some("bool"),
+        ColType::Int2 => Some("int2"),
+        ColType::Int4 => Some("int4"),
+        ColType::Int8 => Some("int8"),
+        ColType::Uuid => Some("uuid"),
+        ColType::Text => Some("text"),
+        ColType::Bytea => Some("bytea"),
+        ColType::Oid | ColType::Date | ColType::Timestamp | ColType::Timestamptz => None,
+        ColType::Fixed { .. } => Some("fixed"),
+        ColType::Varlena { .. } => Some("varlena"),
+    }
+}
+
+fn is_told(column: &Table, ctype: ColType) -> bool
+    ensures { result ≡ is_told (table_view column.now) ctype }
+{
+    match word_of(ctype) {
+        Some(word) => has_type(column, word),
+        None => false,
+    }
+}
+
+// The first of some types that a column has.
+fn first_told(column: &Table, types: &[ColType]) -> Option<ColType>
+    ensures { result ≡ find (is_told (table_view column.now)) types.now }
+{
+    for ctype in types {
+        if is_told(column, *ctype) {
+            return Some(*ctype);
+        }
+    }
+    None
+}
+
 /// The type of a column that may be a key.
 #[tactic(auto, unfolding(crate::specs::Rules::key_type))]
 pub fn key_type(column: &Table) -> Option<ColType>
     ensures { result ≡ key_type (table_view column.now) }
 {
-    if has_type(column, "bool") {
-        Some(ColType::Bool)
-    } else if has_type(column, "int2") {
-        Some(ColType::Int2)
-    } else if has_type(column, "int4") {
-        Some(ColType::Int4)
-    } else if has_type(column, "int8") {
-        Some(ColType::Int8)
-    } else if has_type(column, "uuid") {
-        Some(ColType::Uuid)
-    } else if has_type(column, "text") {
-        Some(ColType::Text)
-    } else if has_type(column, "bytea") {
-        Some(ColType::Bytea)
-    } else {
-        None
-    }
+    first_told(column, &KEY_TYPES)
 }
 
-fn may_be_key(column: &Table) -> bool
-    ensures { result ≡ may_be_key (table_view column.now) }
+fn has_key_type(column: &Table) -> bool
+    ensures { result ≡ has_key_type (table_view column.now) }
 {
     key_type(column).is_some()
 }
@@ -75,7 +119,7 @@ fn has_stored_type(column: &Table) -> bool
 fn has_known_type(column: &Table) -> bool
     ensures { result ≡ has_known_type (table_view column.now) }
 {
-    may_be_key(column) || has_stored_type(column)
+    has_key_type(column) || has_stored_type(column)
 }
 
 #[tactic(auto, unfolding(crate::specs::Rules::is_needed))]
@@ -175,26 +219,30 @@ fn is_align(column: &Table, n: u32) -> bool
     }
 }
 
+fn is_len(len: Option<u16>, n: usize) -> bool
+    ensures { result ≡ is_len len n }
+{
+    match len {
+        Some(len) => n == usize::from(len),
+        None => n <= 8000,
+    }
+}
+
 #[tactic(auto, unfolding(crate::specs::Rules::is_stored_len))]
 fn is_stored_len(column: &Table, n: usize) -> bool
     ensures { result ≡ is_stored_len (table_view column.now) n }
 {
-    if has_type(column, "bool") {
-        n == 1
-    } else if has_type(column, "int2") {
-        n == 2
-    } else if has_type(column, "int4") {
-        n == 4
-    } else if has_type(column, "int8") {
-        n == 8
-    } else if has_type(column, "uuid") {
-        n == 16
-    } else if has_type(column, "fixed") {
-        n == number_at(column, "len") as usize
-    } else if has_known_type(column) {
-        n <= 8000
-    } else {
-        true
+    match key_type(column) {
+        Some(ctype) => is_len(ctype.fixed_length(), n),
+        None => {
+            if has_type(column, "fixed") {
+                n == number_at(column, "len") as usize
+            } else if has_type(column, "varlena") {
+                n <= 8000
+            } else {
+                true
+            }
+        }
     }
 }
 
@@ -262,7 +310,7 @@ pub fn is_key_column(name: Option<&str>, value: &Value) -> bool
     ensures { result ≡ is_key_column (option_copied name.entry) (view value.now) }
 {
     match value.as_table() {
-        Some(table) => same_text(text_at(table, "name"), name) && may_be_key(table),
+        Some(table) => same_text(text_at(table, "name"), name) && has_key_type(table),
         None => false,
     }
 }
@@ -330,7 +378,8 @@ fn is_listed(place: Place, table: &Table, name: &str) -> bool
 
 // C6
 fn has_unlisted(place: Place, table: &Table) -> bool
-    ensures { result ≡ list_any (λ name. not (is_listed place (table_view table.now) (string_bytes name))) (keys table.now) }
+    ensures { result
+        ≡ list_any (λ name. not (is_listed place (table_view table.now) (string_bytes name))) (keys table.now) }
 {
     table
         .keys()

@@ -1,9 +1,10 @@
-// The spots of a document, gathered in the order of the key table.
+//! The spots of a document, gathered in the order of the key table.
 ghost use Rattle.std.specs.Prelude.{◌≡◌, ◌++◌, [], ◌∷◌, OnOk, IfOk, map, option_map};
 ghost use Rattle.toml.specs.Data.{as_table};
 ghost use Rattle.toml.specs.View.{view, table_view};
 ghost use Rattle.case_file.specs.Keys.{keys_of};
-ghost use Rattle.case_file.specs.Spots.{column_spots, flat_map_from, in_table, index_keys_spots, index_spots, key_spots, listed, listed_all, spot_view, spots_view, spots};
+ghost use Rattle.case_file.specs.Spots.{column_spots, flat_map_from, in_table, index_keys_spots, index_spots};
+ghost use Rattle.case_file.specs.Spots.{key_spots, listed, listed_all, spot_view, spots_view, spots};
 
 use crate::keys::{Key, Place, place_keys};
 use crate::tables::{table_at, tables_at};
@@ -34,7 +35,8 @@ fn add_keys<'a>(
     keys: &[Key],
     table: &'a Table,
 ) -> Result<(), NoMemory>
-    ensures { OnOk result (spots_view spots.new.items ≡ spots_view spots.old.items ++ listed_all place (table_view table.now) keys.now) }
+    ensures { OnOk result (spots_view spots.new.items
+        ≡ spots_view spots.old.items ++ listed_all place (table_view table.now) keys.now) }
 {
     for key in keys {
         add(spots, Spot::Listed(place, *key, table))?;
@@ -49,7 +51,8 @@ fn add_table<'a>(
     place: Place,
     table: Option<&'a Table>,
 ) -> Result<(), NoMemory>
-    ensures { OnOk result (spots_view spots.new.items ≡ spots_view spots.old.items ++ in_table place (option_map (λ t. table_view t.now) table.entry)) }
+    ensures { OnOk result (spots_view spots.new.items
+        ≡ spots_view spots.old.items ++ in_table place (option_map (λ t. table_view t.now) table.entry)) }
 {
     if let Some(table) = table {
         add(spots, Spot::Whole(place, table))?;
@@ -59,13 +62,15 @@ fn add_table<'a>(
 }
 
 fn add_column<'a>(spots: &mut Vec<Spot<'a>>, k: usize, column: &'a Value) -> Result<(), NoMemory>
-    ensures { OnOk result (spots_view spots.new.items ≡ spots_view spots.old.items ++ column_spots k (view column.now)) }
+    ensures { OnOk result (spots_view spots.new.items
+        ≡ spots_view spots.old.items ++ column_spots k (view column.now)) }
 {
     add_table(spots, Place::Column(k), column.as_table())
 }
 
 fn add_columns<'a>(spots: &mut Vec<Spot<'a>>, columns: &'a [Value]) -> Result<(), NoMemory>
-    ensures { OnOk result (spots_view spots.new.items ≡ spots_view spots.old.items ++ flat_map_from column_spots 0 (map view columns.now)) }
+    ensures { OnOk result (spots_view spots.new.items
+        ≡ spots_view spots.old.items ++ flat_map_from column_spots 0 (map view columns.now)) }
 {
     for (k, column) in columns.iter().enumerate() {
         add_column(spots, k, column)?;
@@ -89,7 +94,8 @@ fn add_index_keys<'a>(
     k: usize,
     keys: &'a [Value],
 ) -> Result<(), NoMemory>
-    ensures { OnOk result (spots_view spots.new.items ≡ spots_view spots.old.items ++ flat_map_from (key_spots k) 0 (map view keys.now)) }
+    ensures { OnOk result (spots_view spots.new.items
+        ≡ spots_view spots.old.items ++ flat_map_from (key_spots k) 0 (map view keys.now)) }
 {
     for (j, key) in keys.iter().enumerate() {
         add_index_key(spots, k, j, key)?;
@@ -102,7 +108,8 @@ fn add_keys_of_index<'a>(
     k: usize,
     index: Option<&'a Table>,
 ) -> Result<(), NoMemory>
-    ensures { OnOk result (spots_view spots.new.items ≡ spots_view spots.old.items ++ index_keys_spots k (option_map (λ t. table_view t.now) index.entry)) }
+    ensures { OnOk result (spots_view spots.new.items
+        ≡ spots_view spots.old.items ++ index_keys_spots k (option_map (λ t. table_view t.now) index.entry)) }
 {
     match index {
         Some(table) => add_index_keys(spots, k, tables_at(table, "key")),
@@ -119,7 +126,8 @@ fn add_index<'a>(spots: &mut Vec<Spot<'a>>, k: usize, index: &'a Value) -> Resul
 }
 
 fn add_indexes<'a>(spots: &mut Vec<Spot<'a>>, indexes: &'a [Value]) -> Result<(), NoMemory>
-    ensures { OnOk result (spots_view spots.new.items ≡ spots_view spots.old.items ++ flat_map_from index_spots 0 (map view indexes.now)) }
+    ensures { OnOk result (spots_view spots.new.items
+        ≡ spots_view spots.old.items ++ flat_map_from index_spots 0 (map view indexes.now)) }
 {
     for (k, index) in indexes.iter().enumerate() {
         add_index(spots, k, index)?;

@@ -1,9 +1,10 @@
-// What a table of the document holds at a key.
+//! What a table of the document holds at a key.
 ghost use Rattle.std.specs.Prelude.{◌≡◌, [], map, option_map, option_copied, string_bytes, IfOk};
 ghost use Rattle.std.specs.List.{list_all};
 ghost use Rattle.toml.specs.Data.{get_member};
 ghost use Rattle.toml.specs.View.{view, table_view};
-ghost use Rattle.case_file.specs.Tables.{as_tables, below_2_32, flag_in, has, is_table, number_at, number_in, table_at, tables_at, text_at, text_in};
+ghost use Rattle.case_file.specs.Tables.{as_tables, below_2_32, flag_in, has, is_table, number_at, number_in, table_at};
+ghost use Rattle.case_file.specs.Tables.{tables_at, text_at, text_in};
 
 use outside::NoMemory;
 use std::alloc::Global;

@@ -1,4 +1,4 @@
-// That texts mean what docs/CASE-FILE.md says, by hand-made examples: no clause ties the document's words to these.
+//! That texts mean what docs/CASE-FILE.md says, by hand-made examples: no clause ties the document's words to these.
 ghost use Rattle.std.specs.Prelude.{◌≤◌, length};
 
 use crate::case::{Case, Column};
@@ -60,8 +60,10 @@ column = "flag"
 nulls_first = true
 "#;
 
-// On each line an outcome, and the edits of FULL that lead to it: what stands before ` -> ` is put in place of what stands
-// behind it; `*` is the whole text, `\n` a line end. The outcome of a refusal is its rule and place; that of a case is a part of
+// On each line an outcome, and the edits of FULL that lead to it: what stands before ` -> ` is put in place of what
+// stands
+// behind it; `*` is the whole text, `\n` a line end. The outcome of a refusal is its rule and place; that of a case is
+// a part of
 // how `described` tells it. `<200x>` and the like stand for so many of a piece, and `<none>`
 // for none, as `with_many` says.
 const EDITS: &str = r#"
@@ -165,6 +167,8 @@ C4 index[0].key | [[index.key]]\ncolumn = "id" -> key = []
 C4 index[0].key | column = "id"\n -> column = "id"\n<8 keys>
 C5 column[0].type | type = "int8" -> type = "real"
 C5 column[0].type | type = "int8" -> type = "INT8"
+C5 column[0].type | type = "int8" -> type = "oid"
+C5 column[0].type | type = "int8" -> type = "timestamptz"
 C5 column[2].type | type = "text" -> type = ""
 C5 column[2].type | type = "text" -> type = "real"\nmissing = "01"
 C5 column[1].name | name = "flag" -> name = "id"

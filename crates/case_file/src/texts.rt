@@ -1,4 +1,4 @@
-// How a refusal names a spot.
+//! How a refusal names a spot.
 ghost use Rattle.std.specs.Prelude.{◌≡◌, ◌++◌, decimal, IfOk, OnOk};
 ghost use Rattle.case_file.specs.Keys.{key_text, numbered_text, place_text};
 ghost use Rattle.case_file.specs.Spots.{spot_text, spot_view};

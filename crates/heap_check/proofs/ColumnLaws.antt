@@ -5,10 +5,11 @@ use Rattle.std.specs.List.{All, AllByRecursion}
 use Rattle.std.proofs.lemmas.Grind.{common_steps}
 use Rattle.std.proofs.lemmas.List.Elements.{All-cons, All-nil}
 use Rattle.key_orders.specs.declared.columns.ColType.{ColType}
-use Rattle.key_orders.specs.declared.columns.ColType.TheVariants.{Bool as BoolType, Int2, Int4, Int8, Uuid, Text, Bytea, Fixed, Varlena}
+use Rattle.key_orders.specs.declared.columns.ColType.TheVariants.{Bool as BoolType, Int2, Int4, Int8, Uuid, Text, Bytea}
+use Rattle.key_orders.specs.declared.columns.ColType.TheVariants.{Oid, Date, Timestamp, Timestamptz, Fixed, Varlena}
 use Rattle.case_file.specs.Sound.{IsSoundColumn, is_sound_type}
 use Rattle.case_file.specs.declared.case.Column.{Column}
-use Rattle.varlena_attrs.specs.Shown.{HasAlignment, is_alignment}
+use Rattle.key_orders.specs.Types.{HasAlignment, is_alignment}
 
 both : (a b : Bool) → (a && b) ≡ true → b ≡ true
 both true b e = e
@@ -23,6 +24,10 @@ aligned Int8 e = refl
 aligned Uuid e = refl
 aligned Text e = refl
 aligned Bytea e = refl
+aligned Oid e = refl
+aligned Date e = refl
+aligned Timestamp e = refl
+aligned Timestamptz e = refl
 aligned (Fixed len align) e = both _ (is_alignment align) e
 aligned (Varlena align) e = grind (arith, common_steps)
 

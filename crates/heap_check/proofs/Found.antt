@@ -1,11 +1,11 @@
 -- What the code adds and keeps of an item, a page and a relation is what is found and kept of them.
 use Rattle.std.proofs.Common.{◌≡◌, ℕ, List, ◌++◌, ap}
 use Rattle.outside.specs.Outside.{Names}
-use Rattle.varlena_attrs.specs.Tuples.{attributes_in}
+use Rattle.heap_tuples.specs.Tuples.{attributes_in}
 use Rattle.rel_files.specs.Blocks.{block_of}
 use Rattle.rel_files.specs.Relation.{base_of, count_of, long_of, size_of}
 use Rattle.rel_files.specs.declared.relation.Relation.{Relation}
-use Rattle.toast_chunks.specs.Stored.{tuple_at}
+use Rattle.heap_tuples.specs.Places.{tuple_at}
 use Rattle.reports.specs.declared.places.Finding.{Finding}
 use Rattle.reports.specs.declared.places.Place.TheVariants.{Item}
 use Rattle.heap_check.specs.Below.{each_below}

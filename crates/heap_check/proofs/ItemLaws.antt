@@ -13,8 +13,8 @@ use Rattle.page_layout.specs.declared.rules.Rule.TheVariants.{H1, H2, H4, H5, H6
 use Rattle.tuple_head.specs.Head.{KeepsHeadRules, breaks_head_rule, head_rule_of, is_old_form}
 use Rattle.tuple_head.specs.declared.HeapHead.{HeapHead}
 use Rattle.tuple_head.proofs.Exact.{first_is_broken, none_is_exact}
-use Rattle.varlena_attrs.specs.Tuples.{attributes_in}
-use Rattle.toast_chunks.specs.Stored.{tuple_at}
+use Rattle.heap_tuples.specs.Tuples.{attributes_in}
+use Rattle.heap_tuples.specs.Places.{tuple_at}
 use Rattle.liveness.specs.Life.{judged_of}
 use Rattle.liveness.specs.declared.states.Doubt.{Doubt}
 use Rattle.liveness.specs.declared.states.ItemState.{ItemState}

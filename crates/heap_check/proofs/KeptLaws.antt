@@ -10,10 +10,10 @@ use Rattle.page_layout.specs.Page.{count_of, item_of}
 use Rattle.page_layout.specs.declared.rules.Rule.{Rule}
 use Rattle.varlena_attrs.specs.Forms.{Attribute, Null, Missing, Plain, Packed, External}
 use Rattle.varlena_attrs.specs.Reading.{Outcome}
-use Rattle.varlena_attrs.specs.Tuples.{attributes_in}
+use Rattle.heap_tuples.specs.Tuples.{attributes_in}
 use Rattle.varlena_attrs.specs.declared.places.ToastPointer.{ToastPointer}
 use Rattle.toast_chunks.specs.Rows.{row_of}
-use Rattle.toast_chunks.specs.Stored.{tuple_at}
+use Rattle.heap_tuples.specs.Places.{tuple_at}
 use Rattle.toast_chunks.specs.declared.map.Chunk.{Chunk}
 use Rattle.toast_chunks.specs.declared.rows.ChunkRow.{ChunkRow}
 use Rattle.liveness.specs.Life.{judged_of}

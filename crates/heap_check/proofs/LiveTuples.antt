@@ -12,7 +12,7 @@ use Rattle.tuple_head.specs.declared.HeapHead.{HeapHead}
 use Rattle.tuple_head.proofs.Exact.{none_is_exact}
 use Rattle.varlena_attrs.specs.Forms.{Attribute}
 use Rattle.varlena_attrs.specs.Reading.{Outcome}
-use Rattle.varlena_attrs.specs.Tuples.{attributes_in}
+use Rattle.heap_tuples.specs.Tuples.{attributes_in}
 use Rattle.varlena_attrs.specs.declared.fault.AttrFault.TheVariants as fault
 use Rattle.liveness.specs.Life.{judged_of}
 use Rattle.liveness.specs.declared.states.ItemState.{ItemState}
@@ -21,7 +21,7 @@ use Rattle.liveness.specs.declared.states.Judged.{Judged}
 use Rattle.liveness.specs.declared.states.Life.{Life}
 use Rattle.liveness.specs.declared.states.Life.TheVariants as life
 use Rattle.hot_chains.specs.Chains.{is_live, is_live_tuple}
-use Rattle.toast_chunks.specs.Stored.{tuple_at}
+use Rattle.heap_tuples.specs.Places.{tuple_at}
 use Rattle.reports.specs.declared.places.Reason.TheVariants as reason
 use Rattle.heap_check.specs.declared.verdict.ItemVerdict.{ItemVerdict}
 use Rattle.heap_check.specs.declared.verdict.ItemVerdict.TheVariants.{Passes, Breaks, InDoubt}

@@ -26,14 +26,14 @@ use Rattle.case_file.specs.declared.case.Column.{Column}
 use Rattle.tuple_head.specs.declared.HeapHead.{HeapHead}
 use Rattle.varlena_attrs.specs.Forms.{Attribute, External, Missing, Null, Packed, Plain}
 use Rattle.varlena_attrs.specs.Reading.{Outcome}
-use Rattle.varlena_attrs.specs.Tuples.{attributes_in}
+use Rattle.heap_tuples.specs.Tuples.{attributes_in}
 use Rattle.varlena_attrs.specs.declared.places.ToastPointer.{ToastPointer}
 use Rattle.liveness.specs.LogFiles.{LogFiles, log_files_of}
 use Rattle.liveness.specs.declared.states.ItemState.{ItemState}
 use Rattle.hot_chains.specs.Chains.{item_at}
 use Rattle.hot_chains.specs.Table.{AreChains}
 use Rattle.toast_chunks.specs.Chunks.{is_whole}
-use Rattle.toast_chunks.specs.Stored.{tuple_at}
+use Rattle.heap_tuples.specs.Places.{tuple_at}
 use Rattle.toast_chunks.specs.declared.map.Chunk.{Chunk}
 use Rattle.reports.specs.declared.places.Finding.{Finding}
 use Rattle.reports.specs.declared.places.Place.{Place}

@@ -5,11 +5,12 @@ use Rattle.std.proofs.lemmas.List.{length-take-le, length-drop}
 use Rattle.std.proofs.lemmas.List.Elements.{recursion_from_All}
 use Rattle.key_orders.specs.declared.columns.ColType.{ColType}
 use Rattle.varlena_attrs.specs.Attributes.{AttributesFrom, IsAttribute, Presence, Absent, As_null, Stored}
-use Rattle.varlena_attrs.specs.Forms.{Attribute, External, IsStored, Missing, Null, Packed, Plain, bytes_between, fixed, fixed_length, varlena}
-use Rattle.varlena_attrs.specs.Shown.{HasAlignment}
-use Rattle.varlena_attrs.specs.Tuples.{attributes_in, body_of, nulls_of}
+use Rattle.key_orders.specs.Types.{fixed_length}
+use Rattle.varlena_attrs.specs.Forms.{Attribute, External, IsStored, Missing, Null, Packed, Plain, bytes_between, fixed, varlena}
+use Rattle.key_orders.specs.Types.{HasAlignment}
+use Rattle.heap_tuples.specs.Tuples.{attributes_in, body_of, nulls_of}
 use Rattle.tuple_head.specs.Head.{natts_of, tuple_head_of}
-use Rattle.varlena_attrs.specs.Values.{IsLength}
+use Rattle.key_orders.specs.Types.{IsLength}
 use Rattle.varlena_attrs.proofs.Law.{read_sound}
 use Rattle.heap_check.specs.RowValues.{FitTypes, FitsType}
 

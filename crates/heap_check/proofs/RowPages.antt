@@ -19,7 +19,7 @@ use Rattle.case_file.specs.Record.{CaseRecord}
 use Rattle.case_file.specs.declared.case.Column.{Column}
 use Rattle.rel_files.specs.declared.relation.Relation.{Relation}
 use Rattle.varlena_attrs.specs.Shown.{shown_in}
-use Rattle.varlena_attrs.specs.Tuples.{attributes_in}
+use Rattle.heap_tuples.specs.Tuples.{attributes_in}
 use Rattle.varlena_attrs.specs.declared.places.AttrPlace.{AttrPlace}
 use Rattle.varlena_attrs.specs.declared.places.ToastPointer.{ToastPointer}
 use Rattle.liveness.specs.declared.states.ItemState.{ItemState}

@@ -3,7 +3,7 @@ use Rattle.std.proofs.Common.{◌≡◌, ℕ, ◌-◌, ◌≤◌, Bool, true, fa
 use Rattle.std.specs.Prelude.{◌==◌, ◌&&◌, ◌||◌, Result, Ok, Err, IfOk, OnErr, Option, Some, None}
 use Rattle.std.specs.List.{AllByRecursion}
 use Rattle.std.specs.Option.{option_copied}
-use Rattle.outside.specs.Outside.{Held, IfTold, Names}
+use Rattle.outside.specs.Outside.{IfTold, Names, Seen}
 use Rattle.rel_files.specs.Relation.{size_of}
 use Rattle.rel_files.specs.declared.relation.Relation.{Relation}
 use Rattle.std.specs.Int.{is_in_range}
@@ -13,7 +13,7 @@ use Rattle.key_orders.specs.declared.columns.ColType.TheVariants as ctype
 use Rattle.case_file.specs.Record.{CaseRecord}
 use Rattle.case_file.specs.Sound.{IsSound, IsSoundColumn, is_sound_type}
 use Rattle.case_file.specs.declared.case.Column.{Column}
-use Rattle.varlena_attrs.specs.Shown.{HasAlignment}
+use Rattle.key_orders.specs.Types.{HasAlignment}
 use Rattle.varlena_attrs.specs.declared.places.ToastPointer.{ToastPointer}
 use Rattle.toast_chunks.specs.Stored.{AllStand}
 use Rattle.toast_chunks.specs.declared.map.Chunk.{Chunk}
@@ -47,6 +47,10 @@ sound_alignment ctype.Int8 h = refl
 sound_alignment ctype.Uuid h = refl
 sound_alignment ctype.Text h = refl
 sound_alignment ctype.Bytea h = refl
+sound_alignment ctype.Oid h = refl
+sound_alignment ctype.Date h = refl
+sound_alignment ctype.Timestamp h = refl
+sound_alignment ctype.Timestamptz h = refl
 sound_alignment (ctype.Fixed len align) h = and_right (is_in_range 1 8000 len) _ h
 sound_alignment (ctype.Varlena align) h = four_or_eight (align == 1) (align == 2) (align == 4) (align == 8) h
   where
@@ -132,33 +136,33 @@ given_left names old new found next case gives =
     ∙ ap (λ (xs : List LiveRow). rows_given found ++ xs) (sym same)
 
 -- a row of the page in hand was given, or none is left there
-pub given_by : {E : Type 0} (result : Result (Option LiveRow) E) (held : Held) (old new : LiveRows) → new.next ≡ old.next → case_of new ≡ case_of old → IfOk result (λ found. IfTold held (λ names. IsFirst found (rows_in_hand (case_of old) names old.page) (rows_in_hand (case_of old) names new.page))) → IfOk result (λ found. IfTold held (λ names. rows_left names old ≡ rows_given found ++ rows_left names new))
-given_by (Ok found) held old new next case first = λ names told. given_left names old new found next case (given_first found _ _ (first names told))
-given_by (Err e) held old new next case first = tt
+pub given_by : {S E : Type 0} (result : Result (Option LiveRow) E) (seen : S → Seen) (files : S) (old new : LiveRows) → new.next ≡ old.next → case_of new ≡ case_of old → IfOk result (λ found. IfTold seen files (λ names. IsFirst found (rows_in_hand (case_of old) names old.page) (rows_in_hand (case_of old) names new.page))) → IfOk result (λ found. IfTold seen files (λ names. rows_left names old ≡ rows_given found ++ rows_left names new))
+given_by (Ok found) seen files old new next case first = λ names told. given_left names old new found next case (given_first found _ _ (first names told))
+given_by (Err e) seen files old new next case first = tt
 
 page_done : (names : Names) (old new : LiveRows) (found : Option LiveRow) → case_of new ≡ case_of old → IsFirst found (rows_in_hand (case_of old) names old.page) (rows_in_hand (case_of old) names new.page) → IsPageDoneBy names found new
 page_done names old new (Some row) case first = tt
 page_done names old new None case first = ap (λ (c : CaseRecord). rows_in_hand c names new.page) case ∙ first.1
 
-pub done_by : {E : Type 0} (result : Result (Option LiveRow) E) (held : Held) (old new : LiveRows) → case_of new ≡ case_of old → IfOk result (λ found. IfTold held (λ names. IsFirst found (rows_in_hand (case_of old) names old.page) (rows_in_hand (case_of old) names new.page))) → IfOk result (λ found. IfTold held (λ names. IsPageDoneBy names found new))
-done_by (Ok found) held old new case first = λ names told. page_done names old new found case (first names told)
-done_by (Err e) held old new case first = tt
+pub done_by : {S E : Type 0} (result : Result (Option LiveRow) E) (seen : S → Seen) (files : S) (old new : LiveRows) → case_of new ≡ case_of old → IfOk result (λ found. IfTold seen files (λ names. IsFirst found (rows_in_hand (case_of old) names old.page) (rows_in_hand (case_of old) names new.page))) → IfOk result (λ found. IfTold seen files (λ names. IsPageDoneBy names found new))
+done_by (Ok found) seen files old new case first = λ names told. page_done names old new found case (first names told)
+done_by (Err e) seen files old new case first = tt
 
-pub kept_by : {E : Type 0} (result : Result (Option LiveRow) E) (held : Held) (old new : LiveRows) → new.next ≡ old.next → case_of new ≡ case_of old → OnErr result (IfTold held (λ names. rows_in_hand (case_of old) names new.page ≡ rows_in_hand (case_of old) names old.page)) → OnErr result (IfTold held (λ names. rows_left names new ≡ rows_left names old))
-kept_by (Ok found) held old new next case left = tt
-kept_by (Err e) held old new next case left = λ names told. sym (given_left names old new None next case (sym (left names told)))
+pub kept_by : {S E : Type 0} (result : Result (Option LiveRow) E) (seen : S → Seen) (files : S) (old new : LiveRows) → new.next ≡ old.next → case_of new ≡ case_of old → OnErr result (IfTold seen files (λ names. rows_in_hand (case_of old) names new.page ≡ rows_in_hand (case_of old) names old.page)) → OnErr result (IfTold seen files (λ names. rows_left names new ≡ rows_left names old))
+kept_by (Ok found) seen files old new next case left = tt
+kept_by (Err e) seen files old new next case left = λ names told. sym (given_left names old new None next case (sym (left names told)))
 
 -- what was told of the call on the page, for a cursor
-pub first_told : {E : Type 0} (result : Result (Option LiveRow) E) (held : Held) (old : LiveRows) (new : RowPage) (values : RowValues) → option_copied values.toast ≡ (heap_of old).files.toast → values.chunks.now ≡ (heap_of old).chunks → values.columns.now ≡ (case_of old).columns → IfTold held (λ names. AreRowsOf names old) → IfOk result (λ found. IfTold held (λ names. (case : CaseRecord) → IsInHand case names (option_copied values.toast) values.chunks.now old.page → AreValuesOf case names values → length old.page.work.states.items ≤ 2042 → IsFirst found (rows_in_hand case names old.page) (rows_in_hand case names new))) → IfOk result (λ found. IfTold held (λ names. IsFirst found (rows_in_hand (case_of old) names old.page) (rows_in_hand (case_of old) names new)))
-first_told (Ok found) held old new values toast chunks columns are first = λ names told.
+pub first_told : {S E : Type 0} (result : Result (Option LiveRow) E) (seen : S → Seen) (files : S) (old : LiveRows) (new : RowPage) (values : RowValues) → option_copied values.toast ≡ (heap_of old).files.toast → values.chunks.now ≡ (heap_of old).chunks → values.columns.now ≡ (case_of old).columns → IfTold seen files (λ names. AreRowsOf names old) → IfOk result (λ found. IfTold seen files (λ names. (case : CaseRecord) → IsInHand case names (option_copied values.toast) values.chunks.now old.page → AreValuesOf case names values → length old.page.work.states.items ≤ 2042 → IsFirst found (rows_in_hand case names old.page) (rows_in_hand case names new))) → IfOk result (λ found. IfTold seen files (λ names. IsFirst found (rows_in_hand (case_of old) names old.page) (rows_in_hand (case_of old) names new)))
+first_told (Ok found) seen files old new values toast chunks columns are first = λ names told.
     let here = are names told in
     let hand = subst (λ (t : Option Relation). IsInHand (case_of old) names t values.chunks.now old.page) (sym toast) (subst (λ (cs : List Chunk). IsInHand (case_of old) names (heap_of old).files.toast cs old.page) (sym chunks) here.hand) in
     first names told (case_of old) hand (values_are names old values toast chunks columns here) here.few
-first_told (Err e) held old new values toast chunks columns are first = tt
+first_told (Err e) seen files old new values toast chunks columns are first = tt
 
-pub left_told : {E : Type 0} (result : Result (Option LiveRow) E) (held : Held) (old : LiveRows) (new : RowPage) (values : RowValues) → option_copied values.toast ≡ (heap_of old).files.toast → values.chunks.now ≡ (heap_of old).chunks → values.columns.now ≡ (case_of old).columns → IfTold held (λ names. AreRowsOf names old) → OnErr result (IfTold held (λ names. (case : CaseRecord) → IsInHand case names (option_copied values.toast) values.chunks.now old.page → AreValuesOf case names values → length old.page.work.states.items ≤ 2042 → rows_in_hand case names new ≡ rows_in_hand case names old.page)) → OnErr result (IfTold held (λ names. rows_in_hand (case_of old) names new ≡ rows_in_hand (case_of old) names old.page))
-left_told (Ok found) held old new values toast chunks columns are left = tt
-left_told (Err e) held old new values toast chunks columns are left = λ names told.
+pub left_told : {S E : Type 0} (result : Result (Option LiveRow) E) (seen : S → Seen) (files : S) (old : LiveRows) (new : RowPage) (values : RowValues) → option_copied values.toast ≡ (heap_of old).files.toast → values.chunks.now ≡ (heap_of old).chunks → values.columns.now ≡ (case_of old).columns → IfTold seen files (λ names. AreRowsOf names old) → OnErr result (IfTold seen files (λ names. (case : CaseRecord) → IsInHand case names (option_copied values.toast) values.chunks.now old.page → AreValuesOf case names values → length old.page.work.states.items ≤ 2042 → rows_in_hand case names new ≡ rows_in_hand case names old.page)) → OnErr result (IfTold seen files (λ names. rows_in_hand (case_of old) names new ≡ rows_in_hand (case_of old) names old.page))
+left_told (Ok found) seen files old new values toast chunks columns are left = tt
+left_told (Err e) seen files old new values toast chunks columns are left = λ names told.
     let here = are names told in
     let hand = subst (λ (t : Option Relation). IsInHand (case_of old) names t values.chunks.now old.page) (sym toast) (subst (λ (cs : List Chunk). IsInHand (case_of old) names (heap_of old).files.toast cs old.page) (sym chunks) here.hand) in
     left names told (case_of old) hand (values_are names old values toast chunks columns here) here.few

@@ -15,14 +15,15 @@ use Rattle.case_file.specs.Record.{CaseRecord}
 use Rattle.tuple_head.specs.Head.{has_more_attributes_than_columns}
 use Rattle.varlena_attrs.specs.Forms.{Attribute}
 use Rattle.varlena_attrs.specs.Reading.{Outcome}
-use Rattle.varlena_attrs.specs.Tuples.{attributes_in}
+use Rattle.heap_tuples.specs.Tuples.{attributes_in}
 use Rattle.liveness.specs.declared.states.ItemState.{ItemState}
 use Rattle.liveness.specs.declared.states.ItemState.TheVariants.{Unused, Dead, Redirect, Tuple}
 use Rattle.liveness.specs.declared.states.Life.{Life}
 use Rattle.liveness.specs.declared.states.Life.TheVariants as life
 use Rattle.hot_chains.specs.Chains.{is_live, is_live_tuple}
 use Rattle.toast_chunks.specs.Rows.{row_of, toast_columns}
-use Rattle.toast_chunks.specs.Stored.{AllStand, IsRowOf, StandsIn, tuple_at}
+use Rattle.heap_tuples.specs.Places.{tuple_at}
+use Rattle.toast_chunks.specs.Stored.{AllStand, IsRowOf, StandsIn}
 use Rattle.toast_chunks.specs.declared.map.Chunk.{Chunk}
 use Rattle.toast_chunks.specs.declared.rows.ChunkRow.{ChunkRow}
 use Rattle.reports.specs.declared.places.Rel.{Rel}
@@ -86,11 +87,7 @@ row_stands table page i row c rules first last columns is same =
     let read = ok_by_row (attributes_in table.columns (tuple_at page i)) list row are is in
     record {
       row = record {
-        rules = rules;
-        first = first;
-        last = last;
-        normal = sound.normal;
-        placed = sound.placed;
+        tuple = record { rules = rules; first = first; last = last; normal = sound.normal; placed = sound.placed };
         form = sound.form;
         columns = subst (λ (cs : List ColType). has_more_attributes_than_columns (length cs) (head_at page i) ≡ false) columns (header_count table page i sound);
         attributes = header_place table page i sound;

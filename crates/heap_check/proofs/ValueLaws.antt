@@ -10,11 +10,11 @@ use Rattle.page_layout.specs.declared.rules.Rule.TheVariants.{H17, H18, H19, H20
 use Rattle.tuple_head.specs.declared.HeapHead.{HeapHead}
 use Rattle.varlena_attrs.specs.Forms.{Attribute, Null, Missing, Plain, Packed, External}
 use Rattle.varlena_attrs.specs.Reading.{Outcome}
-use Rattle.varlena_attrs.specs.Tuples.{attributes_in}
+use Rattle.heap_tuples.specs.Tuples.{attributes_in}
 use Rattle.varlena_attrs.specs.declared.fault.AttrFault.TheVariants.{PastEnd, BadHeader, BadTag, NoMemory}
 use Rattle.varlena_attrs.specs.declared.places.ToastPointer.{ToastPointer}
 use Rattle.toast_chunks.specs.Pointer.{KeepsPointerRule, keeps_pointer_rule}
-use Rattle.toast_chunks.specs.Stored.{tuple_at}
+use Rattle.heap_tuples.specs.Places.{tuple_at}
 use Rattle.toast_chunks.proofs.Pointers.{pointer-sentence}
 use Rattle.reports.specs.declared.places.Place.TheVariants.{Item}
 use Rattle.heap_check.specs.Broken.{BreaksItem, HasExternal, IsLiveTuple, past_end, bad_length, bad_tag, stray_pointer, bad_pointer}

@@ -10,7 +10,7 @@ use Rattle.rel_files.specs.Blocks.{block_of}
 use Rattle.case_file.specs.Record.{CaseRecord}
 use Rattle.tuple_head.specs.Head.{breaks_head_rule, is_old_form}
 use Rattle.varlena_attrs.specs.Forms.{Attribute, External}
-use Rattle.varlena_attrs.specs.Tuples.{attributes_in}
+use Rattle.heap_tuples.specs.Tuples.{attributes_in}
 use Rattle.varlena_attrs.specs.declared.fault.AttrFault.TheVariants.{PastEnd, BadHeader, BadTag}
 use Rattle.varlena_attrs.specs.declared.places.ToastPointer.{ToastPointer}
 use Rattle.liveness.specs.Life.{judged_of}
@@ -21,7 +21,7 @@ use Rattle.hot_chains.specs.Sentences.{IsChainRuleBroken}
 use Rattle.vis_map.specs.Rules.{IsMapRuleBroken}
 use Rattle.toast_chunks.specs.Chunks.{IsWhole}
 use Rattle.toast_chunks.specs.Pointer.{KeepsPointerRule}
-use Rattle.toast_chunks.specs.Stored.{tuple_at}
+use Rattle.heap_tuples.specs.Places.{tuple_at}
 use Rattle.reports.specs.declared.places.Place.{Place}
 use Rattle.reports.specs.declared.places.Place.TheVariants.{Block, Column, Item, Segment}
 use Rattle.reports.specs.declared.places.Reason.{Reason}

@@ -8,7 +8,7 @@ use Rattle.page_layout.specs.declared.page.PageKind.TheVariants.{Heap, Map}
 use Rattle.page_layout.specs.declared.rules.Rule.{Rule}
 use Rattle.case_file.specs.Record.{CaseRecord}
 use Rattle.varlena_attrs.specs.Forms.{Attribute, External}
-use Rattle.varlena_attrs.specs.Tuples.{attributes_in}
+use Rattle.heap_tuples.specs.Tuples.{attributes_in}
 use Rattle.liveness.specs.Life.{judged_of}
 use Rattle.liveness.specs.declared.states.ItemState.{ItemState}
 use Rattle.liveness.specs.declared.states.ItemState.TheVariants.{Unused, Dead, Redirect, Tuple}
@@ -18,7 +18,7 @@ use Rattle.vis_map.specs.Bits.{bits_of, map_page_of, no_bits}
 use Rattle.vis_map.specs.Truth.{AreTrue}
 use Rattle.vis_map.specs.declared.bits.MapBits.{MapBits}
 use Rattle.toast_chunks.specs.Rows.{row_of, toast_columns}
-use Rattle.toast_chunks.specs.Stored.{tuple_at}
+use Rattle.heap_tuples.specs.Places.{tuple_at}
 use Rattle.toast_chunks.specs.declared.map.Chunk.{Chunk}
 use Rattle.reports.specs.declared.places.Finding.{Finding}
 use Rattle.reports.specs.declared.places.Place.{Place}

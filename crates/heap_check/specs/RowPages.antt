@@ -2,8 +2,7 @@
 use Rattle.std.specs.Prelude.{◌≡◌, ℕ, ◌+◌, ◌-◌, ◌≤◌, true, false, List, [], ◌∷◌, All, length, map, Option, Some, None, Ok, Err}
 use Rattle.std.specs.Option.{option_copied}
 use Rattle.outside.specs.Outside.{Names}
-use Rattle.page_layout.specs.Items.{is_misplaced_heap_item, is_normal}
-use Rattle.page_layout.specs.Page.{count_of, item_of, page_rule_of, upper_of}
+use Rattle.page_layout.specs.Page.{item_of, page_rule_of}
 use Rattle.page_layout.specs.declared.page.PageKind.TheVariants.{Heap}
 use Rattle.rel_files.specs.declared.relation.Relation.{Relation}
 use Rattle.key_orders.specs.declared.columns.ColType.{ColType}
@@ -11,13 +10,13 @@ use Rattle.case_file.specs.Record.{CaseRecord}
 use Rattle.tuple_head.specs.Head.{has_misplaced_attributes}
 use Rattle.varlena_attrs.specs.Forms.{Attribute}
 use Rattle.varlena_attrs.specs.Reading.{Outcome}
-use Rattle.varlena_attrs.specs.Tuples.{attributes_in}
+use Rattle.heap_tuples.specs.Tuples.{attributes_in}
 use Rattle.varlena_attrs.specs.declared.fault.AttrFault.TheVariants as fault
 use Rattle.varlena_attrs.specs.declared.places.ToastPointer.{ToastPointer}
 use Rattle.liveness.specs.declared.states.ItemState.{ItemState}
 use Rattle.hot_chains.specs.Chains.{is_live_tuple, item_at}
 use Rattle.hot_chains.specs.Table.{AreChains}
-use Rattle.toast_chunks.specs.Stored.{tuple_at}
+use Rattle.heap_tuples.specs.Places.{IsTupleAt, tuple_at}
 use Rattle.toast_chunks.specs.declared.map.Chunk.{Chunk}
 use Rattle.heap_check.specs.declared.row_page.RowPage.{RowPage}
 use Rattle.heap_check.specs.declared.rows.LiveRow.{LiveRow}
@@ -28,16 +27,6 @@ use Rattle.heap_check.specs.declared.row_values.RowValues.{RowValues}
 use Rattle.heap_check.specs.RowValues.{IsThere, bytes_seen}
 use Rattle.heap_check.specs.Rows.{each_from, item_rows, toast_bytes}
 use Rattle.heap_check.specs.Verdicts.{Table, head_at, item_verdict}
-
--- TUPLES
-
--- item i of the page is a tuple that lies where it may
-pub record IsTupleAt (page : List ℕ) (i : ℕ) : Type 0 where
-  pub rules : page_rule_of Heap page ≡ None
-  pub first : 1 ≤ i
-  pub last : i ≤ count_of page
-  pub normal : is_normal (item_of page i).flag ≡ true
-  pub placed : is_misplaced_heap_item (upper_of page) (item_of page i) ≡ false
 
 -- these attributes were read; of want of memory nothing is said
 abbrev pub IsReadAs : Outcome → List Attribute → Type 0

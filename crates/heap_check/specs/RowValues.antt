@@ -4,8 +4,9 @@ use Rattle.outside.specs.Outside.{Names}
 use Rattle.rel_files.specs.Relation.{IsAttached, base_of, size_of}
 use Rattle.rel_files.specs.declared.relation.Relation.{Relation}
 use Rattle.key_orders.specs.declared.columns.ColType.{ColType}
-use Rattle.varlena_attrs.specs.Forms.{Attribute, Null, Missing, Plain, Packed, External, fixed_length}
-use Rattle.varlena_attrs.specs.Values.{HasLength}
+use Rattle.key_orders.specs.Types.{fixed_length}
+use Rattle.varlena_attrs.specs.Forms.{Attribute, Null, Missing, Plain, Packed, External}
+use Rattle.key_orders.specs.Types.{HasLength}
 use Rattle.varlena_attrs.specs.declared.places.ToastPointer.{ToastPointer}
 use Rattle.toast_chunks.specs.Chunks.{is_whole}
 use Rattle.toast_chunks.specs.Stored.{AllStand}

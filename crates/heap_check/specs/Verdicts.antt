@@ -8,9 +8,9 @@ use Rattle.page_layout.specs.declared.page.LineFlag.TheVariants as flag
 use Rattle.page_layout.specs.declared.rules.Rule.{Rule}
 use Rattle.page_layout.specs.declared.rules.Rule.TheVariants.{H1, H2}
 use Rattle.tuple_head.specs.Head.{head_rule_of, is_old_form, tuple_head_of}
-use Rattle.varlena_attrs.specs.Tuples.{attributes_in}
+use Rattle.heap_tuples.specs.Tuples.{attributes_in}
 use Rattle.vis_map.specs.declared.bits.MapBits.{MapBits}
-use Rattle.toast_chunks.specs.Stored.{tuple_at}
+use Rattle.heap_tuples.specs.Places.{tuple_at}
 use Rattle.tuple_head.specs.declared.HeapHead.{HeapHead}
 use Rattle.liveness.specs.Life.{judged_of}
 use Rattle.liveness.specs.Logs.{Logs}

@@ -1,7 +1,7 @@
 // Judges a whole case but for its indexes: its visibility map, its heap and its TOAST table.
 ghost use Rattle.std.specs.Prelude.{◌≡◌, ◌↔◌, ◌⊎◌, None, [], IfErr, IfOk, IfSome, IsSome, OnOk};
 ghost use Rattle.outside.specs.Adds.{Adds};
-ghost use Rattle.outside.specs.Outside.{Causes, IfTold};
+ghost use Rattle.outside.specs.Outside.{Asked, IfTold, Tells};
 ghost use Rattle.liveness.specs.LogFiles.{log_files_of};
 ghost use Rattle.heap_check.specs.CaseLogs.{log_files_kept};
 ghost use Rattle.heap_check.specs.Files.{AreFilesOf, BelongTo, IsSoundHeapOf, files_of};
@@ -17,6 +17,7 @@ use crate::logs::CaseLogs;
 use crate::map::MapPage;
 use crate::table::{TableRules, toast_oid};
 use case_file::Case;
+use multi_members::{Answers, Multixacts, Remembering};
 use outside::{Files, NoMemory};
 use page_layout::Rule;
 use reports::{CheckFault, Place, Rel, Report};
@@ -32,14 +33,13 @@ fn judge_map<F: Files>(
     hand: &mut MapPage,
     report: &mut Report,
 ) -> Result<(), RowFault>
-    requires told { IfTold (F.held files.old) (λ names. AreFilesOf case.now names at.now) }
+    requires told { IfTold F.seen files.old (λ names. AreFilesOf case.now names at.now) }
     requires belong { BelongTo case.now at.now }
-    requires hand { IfTold (F.held files.old) (λ names. IsOptionalMapInHand names at.now.map hand.old) }
-    ensures findings { IfTold (F.held files.old) (λ names. Adds result report.old.findings report.new.findings (map_findings case.now names)) }
+    requires hand { IfTold F.seen files.old (λ names. IsOptionalMapInHand names at.now.map hand.old) }
+    ensures findings { IfTold F.seen files.old (λ names. Adds result report.old.findings report.new.findings (map_findings case.now names)) }
     ensures doubts { report.new.unjudged ≡ report.old.unjudged }
-    ensures hand { IfTold (F.held files.old) (λ names. IsOptionalMapInHand names at.now.map hand.new) }
-    ensures same { F.held files.new ≡ F.held files.old }
-    ensures cause { Causes (F.faults files.old) (F.faults files.new) result RowFault.ReadFault }
+    ensures hand { IfTold F.seen files.old (λ names. IsOptionalMapInHand names at.now.map hand.new) }
+    ensures asked { Asked F.seen files.old files.new result RowFault.ReadFault }
 {
     case.sound();
     match &at.map {
@@ -52,7 +52,7 @@ fn judge_map<F: Files>(
 }
 
 // Judges the heap of a case, and keeps the values of its live tuples that stand in the TOAST table.
-fn judge_heap<F: Files>(
+fn judge_heap<F: Multixacts>(
     alloc: Global,
     files: &mut F,
     case: &Case,
@@ -62,16 +62,15 @@ fn judge_heap<F: Files>(
     kept: &mut Kept,
     report: &mut Report,
 ) -> Result<(), RowFault>
-    requires told { IfTold (F.held files.old) (λ names. AreFilesOf case.now names at.now) }
+    requires told { IfTold F.seen files.old (λ names. AreFilesOf case.now names at.now) }
     requires belong { BelongTo case.now at.now }
     requires logs { log_files_kept logs.now ≡ log_files_in case.now }
-    requires hand { IfTold (F.held files.old) (λ names. IsOptionalMapInHand names at.now.map hand.old) }
+    requires hand { IfTold F.seen files.old (λ names. IsOptionalMapInHand names at.now.map hand.old) }
     requires blank { kept.old.externals.items ≡ [] }
-    ensures findings { IfTold (F.held files.old) (λ names. Adds result report.old.findings report.new.findings (heap_findings case.now names)) }
-    ensures doubts { IfTold (F.held files.old) (λ names. Adds result report.old.unjudged report.new.unjudged (heap_doubts case.now names)) }
-    ensures externals { OnOk result (IfTold (F.held files.old) (λ names. kept.new.externals.items ≡ externals_of case.now names)) }
-    ensures same { F.held files.new ≡ F.held files.old }
-    ensures cause { Causes (F.faults files.old) (F.faults files.new) result RowFault.ReadFault }
+    ensures findings { IfTold F.seen files.old (λ names. Adds result report.old.findings report.new.findings (heap_findings case.now names)) }
+    ensures doubts { IfTold F.seen files.old (λ names. Adds result report.old.unjudged report.new.unjudged (heap_doubts case.now names)) }
+    ensures externals { OnOk result (IfTold F.seen files.old (λ names. kept.new.externals.items ≡ externals_of case.now names)) }
+    ensures asked { Asked F.seen files.old files.new result RowFault.ReadFault }
 {
     case.sound();
     let columns = ColumnLayout::new(case.column_types());
@@ -103,7 +102,7 @@ fn toast_rules<'p>(columns: &'p ColumnLayout<'p>, logs: &'p CaseLogs) -> TableRu
 }
 
 // Judges the TOAST table of a case, if it has one, and keeps its live chunks.
-fn judge_toast<F: Files>(
+fn judge_toast<F: Multixacts>(
     alloc: Global,
     files: &mut F,
     case: &Case,
@@ -112,15 +111,14 @@ fn judge_toast<F: Files>(
     kept: &mut Kept,
     report: &mut Report,
 ) -> Result<(), RowFault>
-    requires told { IfTold (F.held files.old) (λ names. AreFilesOf case.now names at.now) }
+    requires told { IfTold F.seen files.old (λ names. AreFilesOf case.now names at.now) }
     requires belong { BelongTo case.now at.now }
     requires logs { log_files_kept logs.now ≡ log_files_in case.now }
     requires blank { kept.old.chunks ≡ [] }
-    ensures findings { IfTold (F.held files.old) (λ names. Adds result report.old.findings report.new.findings (toast_findings case.now names)) }
-    ensures doubts { IfTold (F.held files.old) (λ names. Adds result report.old.unjudged report.new.unjudged (toast_doubts case.now names)) }
-    ensures chunks { OnOk result (IfTold (F.held files.old) (λ names. kept.new.chunks ≡ chunks_of case.now names)) }
-    ensures same { F.held files.new ≡ F.held files.old }
-    ensures cause { Causes (F.faults files.old) (F.faults files.new) result RowFault.ReadFault }
+    ensures findings { IfTold F.seen files.old (λ names. Adds result report.old.findings report.new.findings (toast_findings case.now names)) }
+    ensures doubts { IfTold F.seen files.old (λ names. Adds result report.old.unjudged report.new.unjudged (toast_doubts case.now names)) }
+    ensures chunks { OnOk result (IfTold F.seen files.old (λ names. kept.new.chunks ≡ chunks_of case.now names)) }
+    ensures asked { Asked F.seen files.old files.new result RowFault.ReadFault }
 {
     match &at.toast {
         None => Ok(()),
@@ -140,8 +138,36 @@ fn judge_toast<F: Files>(
     }
 }
 
-// Judges the map, the heap and the TOAST table of a case, each by itself, and keeps of the tuples what
-// is wanted to judge values.
+// Judges the map, the heap and the TOAST table of a case in turn, and keeps of the tuples what is wanted
+// to judge values.
+fn judge_in_turn<F: Multixacts>(
+    alloc: Global,
+    files: &mut F,
+    case: &Case,
+    logs: &CaseLogs,
+    at: &HeapFiles,
+    heap: &mut Kept,
+    toast: &mut Kept,
+    report: &mut Report,
+) -> Result<(), RowFault>
+    requires told { IfTold F.seen files.old (λ names. AreFilesOf case.now names at.now) }
+    requires belong { BelongTo case.now at.now }
+    requires logs { log_files_kept logs.now ≡ log_files_in case.now }
+    requires no_externals { heap.old.externals.items ≡ [] }
+    requires no_chunks { toast.old.chunks ≡ [] }
+    ensures findings { IfTold F.seen files.old (λ names. Adds result report.old.findings report.new.findings (file_findings case.now names)) }
+    ensures doubts { IfTold F.seen files.old (λ names. Adds result report.old.unjudged report.new.unjudged (doubts_of case.now names)) }
+    ensures externals { OnOk result (IfTold F.seen files.old (λ names. heap.new.externals.items ≡ externals_of case.now names)) }
+    ensures chunks { OnOk result (IfTold F.seen files.old (λ names. toast.new.chunks ≡ chunks_of case.now names)) }
+    ensures asked { Asked F.seen files.old files.new result RowFault.ReadFault }
+{
+    let mut hand = MapPage::new();
+    judge_map(files, case, at, &mut hand, report)?;
+    judge_heap(alloc, files, case, logs, at, &mut hand, heap, report)?;
+    judge_toast(alloc, files, case, logs, at, toast, report)
+}
+
+// The same over files of which it is remembered what was found of multixacts.
 fn judge_files<F: Files>(
     alloc: Global,
     files: &mut F,
@@ -151,22 +177,21 @@ fn judge_files<F: Files>(
     toast: &mut Kept,
     report: &mut Report,
 ) -> Result<(), RowFault>
-    requires told { IfTold (F.held files.old) (λ names. AreFilesOf case.now names at.now) }
+    requires told { IfTold F.seen files.old (λ names. AreFilesOf case.now names at.now) }
     requires belong { BelongTo case.now at.now }
     requires no_externals { heap.old.externals.items ≡ [] }
     requires no_chunks { toast.old.chunks ≡ [] }
-    ensures findings { IfTold (F.held files.old) (λ names. Adds result report.old.findings report.new.findings (file_findings case.now names)) }
-    ensures doubts { IfTold (F.held files.old) (λ names. Adds result report.old.unjudged report.new.unjudged (doubts_of case.now names)) }
-    ensures externals { OnOk result (IfTold (F.held files.old) (λ names. heap.new.externals.items ≡ externals_of case.now names)) }
-    ensures chunks { OnOk result (IfTold (F.held files.old) (λ names. toast.new.chunks ≡ chunks_of case.now names)) }
-    ensures same { F.held files.new ≡ F.held files.old }
-    ensures cause { Causes (F.faults files.old) (F.faults files.new) result RowFault.ReadFault }
+    ensures findings { IfTold F.seen files.old (λ names. Adds result report.old.findings report.new.findings (file_findings case.now names)) }
+    ensures doubts { IfTold F.seen files.old (λ names. Adds result report.old.unjudged report.new.unjudged (doubts_of case.now names)) }
+    ensures externals { OnOk result (IfTold F.seen files.old (λ names. heap.new.externals.items ≡ externals_of case.now names)) }
+    ensures chunks { OnOk result (IfTold F.seen files.old (λ names. toast.new.chunks ≡ chunks_of case.now names)) }
+    ensures asked { Asked F.seen files.old files.new result RowFault.ReadFault }
 {
     let logs = CaseLogs::new(alloc, case)?;
-    let mut hand = MapPage::new();
-    judge_map(files, case, at, &mut hand, report)?;
-    judge_heap(alloc, files, case, &logs, at, &mut hand, heap, report)?;
-    judge_toast(alloc, files, case, &logs, at, toast, report)
+    let mut answers = Answers::new(alloc, &logs.offsets, &logs.members, &logs.cluster)?;
+    let mut files = Remembering::new(files, &mut answers);
+    judge_in_turn(alloc, &mut files, case, &logs, at, heap, toast, report)?;
+    Ok(())
 }
 
 // Adds the finding of a value whose chunks aren't those that it should have (H21).
@@ -219,16 +244,15 @@ pub fn check_heap<F: Files>(
     at: HeapFiles,
     report: &mut Report,
 ) -> Result<Option<SoundHeap>, CheckFault>
-    requires told { IfTold (F.held files.old) (λ names. AreFilesOf case.now names at) }
+    requires told { IfTold F.seen files.old (λ names. AreFilesOf case.now names at) }
     requires belong { BelongTo case.now at }
-    ensures findings { IfTold (F.held files.old) (λ names. Adds result report.old.findings report.new.findings (findings_of case.now names)) }
-    ensures doubts { IfTold (F.held files.old) (λ names. Adds result report.old.unjudged report.new.unjudged (doubts_of case.now names)) }
-    ensures quiet { IfOk result (λ sound. IfTold (F.held files.old) (λ names. IsSome sound ↔ IsQuiet case.now names)) }
-    ensures sound { IfOk result (λ answer. IfSome answer (λ sound. IfTold (F.held files.old) (λ names. IsSoundHeapOf case.now names sound))) }
+    ensures findings { IfTold F.seen files.old (λ names. Adds result report.old.findings report.new.findings (findings_of case.now names)) }
+    ensures doubts { IfTold F.seen files.old (λ names. Adds result report.old.unjudged report.new.unjudged (doubts_of case.now names)) }
+    ensures quiet { Tells F.seen files.old result (λ sound names. IsSome sound ↔ IsQuiet case.now names) }
+    ensures sound { IfOk result (λ answer. IfSome answer (λ sound. IfTold F.seen files.old (λ names. IsSoundHeapOf case.now names sound))) }
     ensures belong { IfOk result (λ answer. IfSome answer (λ sound. BelongTo case.now (files_of sound))) }
     ensures only { IfErr result (λ e. e ≡ CheckFault.ReadFault ⊎ e ≡ CheckFault.NoMemory) }
-    ensures same { F.held files.new ≡ F.held files.old }
-    ensures cause { Causes (F.faults files.old) (F.faults files.new) result CheckFault.ReadFault }
+    ensures asked { Asked F.seen files.old files.new result CheckFault.ReadFault }
 {
     let before = report.counts();
     let mut heap = Kept::new(alloc);

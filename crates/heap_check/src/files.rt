@@ -1,6 +1,6 @@
 // The files of a table that are judged.
 ghost use Rattle.std.specs.Prelude.{◌≡◌, ◌≤◌, ◌⊎◌, IfErr, IfOk, IfSome, string_bytes};
-ghost use Rattle.outside.specs.Outside.{Causes, IfTold};
+ghost use Rattle.outside.specs.Outside.{Asked, IfTold, Tells};
 ghost use Rattle.rel_files.specs.Relation.{FindsFront, IsRelationOf};
 ghost use Rattle.vis_map.specs.Bits.{map_pages_for};
 ghost use Rattle.heap_check.specs.Faults.{fault_of};
@@ -64,10 +64,9 @@ fn attach_file<F: Files>(
     requires some { 1 ≤ segment_blocks }
     requires small { segment_blocks ≤ 131072 }
     ensures named { IfOk result (IsNamed base.now segment_blocks) }
-    ensures told { IfOk result (λ r. IfTold (F.held files.old) (λ names. IsRelationOf names base.now segment_blocks block_limit r)) }
-    ensures refusal { IfTold (F.held files.old) (λ names. TellsRefusal (file_refusal which names base.now segment_blocks) result) }
-    ensures same { F.held files.new ≡ F.held files.old }
-    ensures cause { Causes (F.faults files.old) (F.faults files.new) result CheckFault.ReadFault }
+    ensures told { Tells F.seen files.old result (λ r names. IsRelationOf names base.now segment_blocks block_limit r) }
+    ensures refusal { IfTold F.seen files.old (λ names. TellsRefusal (file_refusal which names base.now segment_blocks) result) }
+    ensures asked { Asked F.seen files.old files.new result CheckFault.ReadFault }
 {
     match Relation::attach(alloc, files, base, segment_blocks, BLOCK_LIMIT) {
         Ok(relation) => Ok(relation),
@@ -94,10 +93,9 @@ fn attach_map<F: Files>(
     requires some { 1 ≤ segment_blocks }
     requires small { segment_blocks ≤ 131072 }
     ensures named { IfOk result (λ map. IfSome map (IsNamed (map_name heap.now) segment_blocks)) }
-    ensures told { IfOk result (λ map. IfTold (F.held files.old) (λ names. FindsFront names (map_name heap.now) segment_blocks (map_pages_for blocks) map)) }
+    ensures told { Tells F.seen files.old result (λ map names. FindsFront names (map_name heap.now) segment_blocks (map_pages_for blocks) map) }
     ensures only { IfErr result (λ e. e ≡ CheckFault.ReadFault ⊎ e ≡ CheckFault.NoMemory) }
-    ensures same { F.held files.new ≡ F.held files.old }
-    ensures cause { Causes (F.faults files.old) (F.faults files.new) result CheckFault.ReadFault }
+    ensures asked { Asked F.seen files.old files.new result CheckFault.ReadFault }
 {
     let name = map_name(alloc, heap)?;
     let limit = map_pages_for(blocks);
@@ -115,10 +113,9 @@ fn attach_toast<F: Files>(
     case: &Case,
 ) -> Result<Option<Relation>, CheckFault>
     ensures named { IfOk result (IsToastNamed case.now.segment_blocks case.now.toast) }
-    ensures told { IfOk result (λ toast. IfTold (F.held files.old) (λ names. IsToastIn names case.now.segment_blocks case.now.toast toast)) }
-    ensures refusal { IfTold (F.held files.old) (λ names. TellsRefusal (toast_refusal names case.now.segment_blocks case.now.toast) result) }
-    ensures same { F.held files.new ≡ F.held files.old }
-    ensures cause { Causes (F.faults files.old) (F.faults files.new) result CheckFault.ReadFault }
+    ensures told { Tells F.seen files.old result (λ toast names. IsToastIn names case.now.segment_blocks case.now.toast toast) }
+    ensures refusal { IfTold F.seen files.old (λ names. TellsRefusal (toast_refusal names case.now.segment_blocks case.now.toast) result) }
+    ensures asked { Asked F.seen files.old files.new result CheckFault.ReadFault }
 {
     case.sound();
     match case.toast() {
@@ -148,11 +145,10 @@ impl HeapFiles {
         files: &mut F,
         case: &Case,
     ) -> Result<HeapFiles, CheckFault>
-        ensures told { IfOk result (λ at. IfTold (F.held files.old) (λ names. AreFilesOf case.now names at)) }
+        ensures told { Tells F.seen files.old result (λ at names. AreFilesOf case.now names at) }
         ensures belong { IfOk result (λ at. BelongTo case.now at) }
-        ensures refusal { IfTold (F.held files.old) (λ names. TellsRefusal (refusal_of case.now names) result) }
-        ensures same { F.held files.new ≡ F.held files.old }
-        ensures cause { Causes (F.faults files.old) (F.faults files.new) result CheckFault.ReadFault }
+        ensures refusal { IfTold F.seen files.old (λ names. TellsRefusal (refusal_of case.now names) result) }
+        ensures asked { Asked F.seen files.old files.new result CheckFault.ReadFault }
     {
         case.sound();
         let size = case.segment_blocks();

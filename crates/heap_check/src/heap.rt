@@ -2,9 +2,9 @@
 ghost use Rattle.std.specs.Prelude.{◌≡◌, ◌++◌, ◌<◌, ◌≤◌, All, OnOk, length};
 ghost use Rattle.std.specs.Option.{option_copied};
 ghost use Rattle.outside.specs.Adds.{Adds};
-ghost use Rattle.outside.specs.Outside.{Causes, IfTold};
+ghost use Rattle.outside.specs.Outside.{Asked, IfTold};
 ghost use Rattle.rel_files.specs.Relation.{IsAttached, base_of, count_of, size_of};
-ghost use Rattle.varlena_attrs.specs.Shown.{HasAlignment};
+ghost use Rattle.key_orders.specs.Types.{HasAlignment};
 ghost use Rattle.heap_check.specs.Below.{each_below};
 ghost use Rattle.heap_check.specs.Heap.{block_chunks, block_doubts, block_externals, block_findings, segment_findings};
 ghost use Rattle.heap_check.specs.MapPage.{IsMapAttached, IsOptionalMapInHand};
@@ -16,14 +16,15 @@ use crate::map::MapPage;
 use crate::table::TableRules;
 use crate::table_page::judge_table_page;
 use crate::work::Work;
-use outside::{Files, NoMemory};
+use multi_members::Multixacts;
+use outside::NoMemory;
 use page_layout::Rule;
 use rel_files::Relation;
 use reports::{Finding, Place, Rel, Report};
 use std::alloc::Global;
 
 // Reads a block of a table into the page, and judges it.
-fn judge_block<F: Files>(
+fn judge_block<F: Multixacts>(
     files: &mut F,
     table: &TableRules<'_>,
     relation: &Relation,
@@ -36,17 +37,16 @@ fn judge_block<F: Files>(
 ) -> Result<(), RowFault>
     requires few { length table.now.columns.now ≤ 64 }
     requires aligned { All HasAlignment table.now.columns.now }
-    requires attached { IfTold (F.held files.old) (λ names. IsAttached names relation.now) }
+    requires attached { IfTold F.seen files.old (λ names. IsAttached names relation.now) }
     requires inside { block < count_of relation.now }
-    requires map { IfTold (F.held files.old) (λ names. IsMapAttached names (option_copied table.now.map)) }
-    requires hand { IfTold (F.held files.old) (λ names. IsOptionalMapInHand names (option_copied table.now.map) hand.old) }
-    ensures findings { IfTold (F.held files.old) (λ names. Adds result report.old.findings report.new.findings (block_findings (table_seen names table.now) names (base_of relation.now) (size_of relation.now) block)) }
-    ensures doubts { IfTold (F.held files.old) (λ names. Adds result report.old.unjudged report.new.unjudged (block_doubts (table_seen names table.now) names (base_of relation.now) (size_of relation.now) block)) }
-    ensures externals { OnOk result (IfTold (F.held files.old) (λ names. kept.new.externals.items ≡ kept.old.externals.items ++ block_externals (table_seen names table.now) names (base_of relation.now) (size_of relation.now) block)) }
-    ensures chunks { OnOk result (IfTold (F.held files.old) (λ names. kept.new.chunks ≡ kept.old.chunks ++ block_chunks (table_seen names table.now) names (base_of relation.now) (size_of relation.now) block)) }
-    ensures hand { IfTold (F.held files.old) (λ names. IsOptionalMapInHand names (option_copied table.now.map) hand.new) }
-    ensures same { F.held files.new ≡ F.held files.old }
-    ensures cause { Causes (F.faults files.old) (F.faults files.new) result RowFault.ReadFault }
+    requires map { IfTold F.seen files.old (λ names. IsMapAttached names (option_copied table.now.map)) }
+    requires hand { IfTold F.seen files.old (λ names. IsOptionalMapInHand names (option_copied table.now.map) hand.old) }
+    ensures findings { IfTold F.seen files.old (λ names. Adds result report.old.findings report.new.findings (block_findings (table_seen names table.now) names (base_of relation.now) (size_of relation.now) block)) }
+    ensures doubts { IfTold F.seen files.old (λ names. Adds result report.old.unjudged report.new.unjudged (block_doubts (table_seen names table.now) names (base_of relation.now) (size_of relation.now) block)) }
+    ensures externals { OnOk result (IfTold F.seen files.old (λ names. kept.new.externals.items ≡ kept.old.externals.items ++ block_externals (table_seen names table.now) names (base_of relation.now) (size_of relation.now) block)) }
+    ensures chunks { OnOk result (IfTold F.seen files.old (λ names. kept.new.chunks ≡ kept.old.chunks ++ block_chunks (table_seen names table.now) names (base_of relation.now) (size_of relation.now) block)) }
+    ensures hand { IfTold F.seen files.old (λ names. IsOptionalMapInHand names (option_copied table.now.map) hand.new) }
+    ensures asked { Asked F.seen files.old files.new result RowFault.ReadFault }
 {
     let bits = hand.bits_of(files, table.map, block)?;
     relation.read_block(files, block, page)?;
@@ -54,7 +54,7 @@ fn judge_block<F: Files>(
 }
 
 // Reads and judges the blocks of a table, one after the other, with one page in hand.
-fn judge_blocks<F: Files>(
+fn judge_blocks<F: Multixacts>(
     files: &mut F,
     table: &TableRules<'_>,
     relation: &Relation,
@@ -65,15 +65,14 @@ fn judge_blocks<F: Files>(
 ) -> Result<(), RowFault>
     requires few { length table.now.columns.now ≤ 64 }
     requires aligned { All HasAlignment table.now.columns.now }
-    requires attached { IfTold (F.held files.old) (λ names. IsAttached names relation.now) }
-    requires map { IfTold (F.held files.old) (λ names. IsMapAttached names (option_copied table.now.map)) }
-    requires hand { IfTold (F.held files.old) (λ names. IsOptionalMapInHand names (option_copied table.now.map) hand.old) }
-    ensures findings { IfTold (F.held files.old) (λ names. Adds result report.old.findings report.new.findings (each_below (block_findings (table_seen names table.now) names (base_of relation.now) (size_of relation.now)) (count_of relation.now))) }
-    ensures doubts { IfTold (F.held files.old) (λ names. Adds result report.old.unjudged report.new.unjudged (each_below (block_doubts (table_seen names table.now) names (base_of relation.now) (size_of relation.now)) (count_of relation.now))) }
-    ensures externals { OnOk result (IfTold (F.held files.old) (λ names. kept.new.externals.items ≡ kept.old.externals.items ++ each_below (block_externals (table_seen names table.now) names (base_of relation.now) (size_of relation.now)) (count_of relation.now))) }
-    ensures chunks { OnOk result (IfTold (F.held files.old) (λ names. kept.new.chunks ≡ kept.old.chunks ++ each_below (block_chunks (table_seen names table.now) names (base_of relation.now) (size_of relation.now)) (count_of relation.now))) }
-    ensures same { F.held files.new ≡ F.held files.old }
-    ensures cause { Causes (F.faults files.old) (F.faults files.new) result RowFault.ReadFault }
+    requires attached { IfTold F.seen files.old (λ names. IsAttached names relation.now) }
+    requires map { IfTold F.seen files.old (λ names. IsMapAttached names (option_copied table.now.map)) }
+    requires hand { IfTold F.seen files.old (λ names. IsOptionalMapInHand names (option_copied table.now.map) hand.old) }
+    ensures findings { IfTold F.seen files.old (λ names. Adds result report.old.findings report.new.findings (each_below (block_findings (table_seen names table.now) names (base_of relation.now) (size_of relation.now)) (count_of relation.now))) }
+    ensures doubts { IfTold F.seen files.old (λ names. Adds result report.old.unjudged report.new.unjudged (each_below (block_doubts (table_seen names table.now) names (base_of relation.now) (size_of relation.now)) (count_of relation.now))) }
+    ensures externals { OnOk result (IfTold F.seen files.old (λ names. kept.new.externals.items ≡ kept.old.externals.items ++ each_below (block_externals (table_seen names table.now) names (base_of relation.now) (size_of relation.now)) (count_of relation.now))) }
+    ensures chunks { OnOk result (IfTold F.seen files.old (λ names. kept.new.chunks ≡ kept.old.chunks ++ each_below (block_chunks (table_seen names table.now) names (base_of relation.now) (size_of relation.now)) (count_of relation.now))) }
+    ensures asked { Asked F.seen files.old files.new result RowFault.ReadFault }
 {
     let mut page = [0u8; 8192];
     for block in 0..relation.blocks() {
@@ -99,7 +98,7 @@ pub fn add_segment(report: &mut Report, rel: Rel, long: Option<u32>) -> Result<(
 }
 
 /// Judges a table: its segments, and then its blocks. What of its live tuples is wanted later is kept.
-pub fn judge_table<F: Files>(
+pub fn judge_table<F: Multixacts>(
     alloc: Global,
     files: &mut F,
     table: &TableRules<'_>,
@@ -110,15 +109,14 @@ pub fn judge_table<F: Files>(
 ) -> Result<(), RowFault>
     requires few { length table.now.columns.now ≤ 64 }
     requires aligned { All HasAlignment table.now.columns.now }
-    requires attached { IfTold (F.held files.old) (λ names. IsAttached names relation.now) }
-    requires map { IfTold (F.held files.old) (λ names. IsMapAttached names (option_copied table.now.map)) }
-    requires hand { IfTold (F.held files.old) (λ names. IsOptionalMapInHand names (option_copied table.now.map) hand.old) }
-    ensures findings { IfTold (F.held files.old) (λ names. Adds result report.old.findings report.new.findings (table_findings (table_seen names table.now) names relation.now)) }
-    ensures doubts { IfTold (F.held files.old) (λ names. Adds result report.old.unjudged report.new.unjudged (table_doubts (table_seen names table.now) names relation.now)) }
-    ensures externals { OnOk result (IfTold (F.held files.old) (λ names. kept.new.externals.items ≡ kept.old.externals.items ++ table_externals (table_seen names table.now) names relation.now)) }
-    ensures chunks { OnOk result (IfTold (F.held files.old) (λ names. kept.new.chunks ≡ kept.old.chunks ++ table_chunks (table_seen names table.now) names relation.now)) }
-    ensures same { F.held files.new ≡ F.held files.old }
-    ensures cause { Causes (F.faults files.old) (F.faults files.new) result RowFault.ReadFault }
+    requires attached { IfTold F.seen files.old (λ names. IsAttached names relation.now) }
+    requires map { IfTold F.seen files.old (λ names. IsMapAttached names (option_copied table.now.map)) }
+    requires hand { IfTold F.seen files.old (λ names. IsOptionalMapInHand names (option_copied table.now.map) hand.old) }
+    ensures findings { IfTold F.seen files.old (λ names. Adds result report.old.findings report.new.findings (table_findings (table_seen names table.now) names relation.now)) }
+    ensures doubts { IfTold F.seen files.old (λ names. Adds result report.old.unjudged report.new.unjudged (table_doubts (table_seen names table.now) names relation.now)) }
+    ensures externals { OnOk result (IfTold F.seen files.old (λ names. kept.new.externals.items ≡ kept.old.externals.items ++ table_externals (table_seen names table.now) names relation.now)) }
+    ensures chunks { OnOk result (IfTold F.seen files.old (λ names. kept.new.chunks ≡ kept.old.chunks ++ table_chunks (table_seen names table.now) names relation.now)) }
+    ensures asked { Asked F.seen files.old files.new result RowFault.ReadFault }
 {
     let mut work = Work::new(alloc)?;
     add_segment(report, table.rel, relation.long_segment())?;

@@ -1,13 +1,13 @@
 // Judges the items of a heap page, each by itself.
 ghost use Rattle.std.specs.Prelude.{◌≡◌, ◌++◌, ◌+◌, ◌-◌, ◌≤◌, ℕ, List, All, length, true, IfOk, OnOk};
 ghost use Rattle.outside.specs.Adds.{Adds};
-ghost use Rattle.outside.specs.Outside.{Causes, IfTold};
+ghost use Rattle.outside.specs.Outside.{Asked, IfTold, Tells};
 ghost use Rattle.page_layout.specs.Items.{is_normal};
 ghost use Rattle.page_layout.specs.Page.{HasItems, count_of, item_of};
 ghost use Rattle.page_layout.specs.View.{page_bytes};
-ghost use Rattle.toast_chunks.specs.Stored.{tuple_at};
-ghost use Rattle.varlena_attrs.specs.Shown.{HasAlignment};
-ghost use Rattle.varlena_attrs.specs.Tuples.{attributes_in};
+ghost use Rattle.heap_tuples.specs.Places.{tuple_at};
+ghost use Rattle.key_orders.specs.Types.{HasAlignment};
+ghost use Rattle.heap_tuples.specs.Tuples.{attributes_in};
 ghost use Rattle.heap_check.specs.Below.{each_upto};
 ghost use Rattle.heap_check.specs.Heap.{items_doubts, items_findings};
 ghost use Rattle.heap_check.specs.Kept.{attributes_by, chunks_by, externals_by, item_chunks, item_externals, item_state, state_in};
@@ -24,14 +24,15 @@ use crate::verdict::{ItemVerdict, add_verdict};
 use crate::work::Work;
 use key_orders::Tid;
 use liveness::ItemState;
-use outside::{Files, NoMemory};
+use multi_members::Multixacts;
+use outside::NoMemory;
 use page_layout::{LineFlag, PageView, Rule};
 use reports::{Place, Report};
 use varlena_attrs::AttrBuffer;
 
 // Judges a normal item: where it lies, and then its tuple.
 #[tactic(auto, using(crate::proofs::KeptRules::no_externals, crate::proofs::KeptRules::no_chunks), unfolding(crate::specs::Verdicts::normal_verdict, crate::specs::Storage::overlaps_lower_item, page_layout::specs::Page::header_of))]
-fn judge_normal<F: Files>(
+fn judge_normal<F: Multixacts>(
     files: &mut F,
     table: &TableRules<'_>,
     page: PageView<'_>,
@@ -47,12 +48,11 @@ fn judge_normal<F: Files>(
     requires last { tid.item ≤ count_of (page_bytes page) }
     requires normal { is_normal (item_of (page_bytes page) tid.item).flag ≡ true }
     requires before { AreCells (page_bytes page) (tid.item - 1) cells.old }
-    ensures told { IfOk result (λ verdict. IfTold (F.held files.old) (λ names. verdict ≡ normal_verdict (table_seen names table.now) (page_bytes page.entry) tid.item)) }
+    ensures told { Tells F.seen files.old result (λ verdict names. verdict ≡ normal_verdict (table_seen names table.now) (page_bytes page.entry) tid.item) }
     ensures externals { IfOk result (λ verdict. kept.new.externals.items ≡ kept.old.externals.items ++ externals_by table.now.rel tid.block tid.item (attributes_by (attributes_in table.now.columns.now (tuple_at (page_bytes page.entry) tid.item)) verdict)) }
     ensures chunks { IfOk result (λ verdict. kept.new.chunks ≡ kept.old.chunks ++ chunks_by table.now.rel tid.block tid.item (attributes_by (attributes_in table.now.columns.now (tuple_at (page_bytes page.entry) tid.item)) verdict)) }
     ensures after { AreCells (page_bytes page.entry) tid.item cells.new }
-    ensures same { F.held files.new ≡ F.held files.old }
-    ensures cause { Causes (F.faults files.old) (F.faults files.new) result RowFault.ReadFault }
+    ensures asked { Asked F.seen files.old files.new result RowFault.ReadFault }
 {
     let item = page.item(tid.item);
     if item.is_misplaced_heap_item(page.header().upper) {
@@ -67,7 +67,7 @@ fn judge_normal<F: Files>(
 
 // Judges an item.
 #[tactic(auto, using(crate::proofs::KeptRules::no_externals, crate::proofs::KeptRules::no_chunks), unfolding(crate::specs::Verdicts::item_verdict))]
-fn judge_item<F: Files>(
+fn judge_item<F: Multixacts>(
     files: &mut F,
     table: &TableRules<'_>,
     page: PageView<'_>,
@@ -82,12 +82,11 @@ fn judge_item<F: Files>(
     requires first { 1 ≤ tid.item }
     requires last { tid.item ≤ count_of (page_bytes page) }
     requires before { AreCells (page_bytes page) (tid.item - 1) cells.old }
-    ensures told { IfOk result (λ verdict. IfTold (F.held files.old) (λ names. verdict ≡ item_verdict (table_seen names table.now) (page_bytes page.entry) tid.item)) }
+    ensures told { Tells F.seen files.old result (λ verdict names. verdict ≡ item_verdict (table_seen names table.now) (page_bytes page.entry) tid.item) }
     ensures externals { IfOk result (λ verdict. kept.new.externals.items ≡ kept.old.externals.items ++ externals_by table.now.rel tid.block tid.item (attributes_by (attributes_in table.now.columns.now (tuple_at (page_bytes page.entry) tid.item)) verdict)) }
     ensures chunks { IfOk result (λ verdict. kept.new.chunks ≡ kept.old.chunks ++ chunks_by table.now.rel tid.block tid.item (attributes_by (attributes_in table.now.columns.now (tuple_at (page_bytes page.entry) tid.item)) verdict)) }
     ensures after { AreCells (page_bytes page.entry) tid.item cells.new }
-    ensures same { F.held files.new ≡ F.held files.old }
-    ensures cause { Causes (F.faults files.old) (F.faults files.new) result RowFault.ReadFault }
+    ensures asked { Asked F.seen files.old files.new result RowFault.ReadFault }
 {
     let item = page.item(tid.item);
     match item.flag {
@@ -113,7 +112,7 @@ fn add_state(states: &mut Vec<ItemState>, verdict: ItemVerdict) -> Result<(), No
 }
 
 // Judges an item, and adds what is found of it, its state, and what of it is kept.
-fn judge_and_add<F: Files>(
+fn judge_and_add<F: Multixacts>(
     files: &mut F,
     table: &TableRules<'_>,
     page: PageView<'_>,
@@ -128,15 +127,14 @@ fn judge_and_add<F: Files>(
     requires first { 1 ≤ tid.item }
     requires last { tid.item ≤ count_of (page_bytes page) }
     requires before { AreCells (page_bytes page) (tid.item - 1) work.old.cells }
-    ensures findings { IfTold (F.held files.old) (λ names. Adds result report.old.findings report.new.findings (item_findings (table_seen names table.now) tid.block (page_bytes page.entry) tid.item)) }
-    ensures doubts { IfTold (F.held files.old) (λ names. Adds result report.old.unjudged report.new.unjudged (item_doubts (table_seen names table.now) tid.block (page_bytes page.entry) tid.item)) }
-    ensures states { OnOk result (IfTold (F.held files.old) (λ names. work.new.states.items ≡ work.old.states.items ++ item_state (table_seen names table.now) (page_bytes page.entry) tid.item)) }
+    ensures findings { IfTold F.seen files.old (λ names. Adds result report.old.findings report.new.findings (item_findings (table_seen names table.now) tid.block (page_bytes page.entry) tid.item)) }
+    ensures doubts { IfTold F.seen files.old (λ names. Adds result report.old.unjudged report.new.unjudged (item_doubts (table_seen names table.now) tid.block (page_bytes page.entry) tid.item)) }
+    ensures states { OnOk result (IfTold F.seen files.old (λ names. work.new.states.items ≡ work.old.states.items ++ item_state (table_seen names table.now) (page_bytes page.entry) tid.item)) }
     ensures more { length work.new.states.items ≤ length work.old.states.items + 1 }
-    ensures externals { OnOk result (IfTold (F.held files.old) (λ names. kept.new.externals.items ≡ kept.old.externals.items ++ item_externals (table_seen names table.now) tid.block (page_bytes page.entry) tid.item)) }
-    ensures chunks { OnOk result (IfTold (F.held files.old) (λ names. kept.new.chunks ≡ kept.old.chunks ++ item_chunks (table_seen names table.now) tid.block (page_bytes page.entry) tid.item)) }
+    ensures externals { OnOk result (IfTold F.seen files.old (λ names. kept.new.externals.items ≡ kept.old.externals.items ++ item_externals (table_seen names table.now) tid.block (page_bytes page.entry) tid.item)) }
+    ensures chunks { OnOk result (IfTold F.seen files.old (λ names. kept.new.chunks ≡ kept.old.chunks ++ item_chunks (table_seen names table.now) tid.block (page_bytes page.entry) tid.item)) }
     ensures after { AreCells (page_bytes page.entry) tid.item work.new.cells }
-    ensures same { F.held files.new ≡ F.held files.old }
-    ensures cause { Causes (F.faults files.old) (F.faults files.new) result RowFault.ReadFault }
+    ensures asked { Asked F.seen files.old files.new result RowFault.ReadFault }
 {
     let verdict = judge_item(
         files,
@@ -155,7 +153,7 @@ fn judge_and_add<F: Files>(
 /// Judges the items of a page, each by itself, and adds what is found of them, their states, and what
 /// of them is kept. The cells are free at first, and there are no states.
 #[tactic(auto, unfolding(crate::specs::Heap::items_findings, crate::specs::Heap::items_doubts))]
-pub fn judge_items<F: Files>(
+pub fn judge_items<F: Multixacts>(
     files: &mut F,
     table: &TableRules<'_>,
     page: PageView<'_>,
@@ -169,14 +167,13 @@ pub fn judge_items<F: Files>(
     requires page { HasItems (page_bytes page) }
     requires free { AreCells (page_bytes page) 0 work.old.cells }
     requires blank { length work.old.states.items ≤ 0 }
-    ensures findings { IfTold (F.held files.old) (λ names. Adds result report.old.findings report.new.findings (items_findings (table_seen names table.now) block (page_bytes page.entry))) }
-    ensures doubts { IfTold (F.held files.old) (λ names. Adds result report.old.unjudged report.new.unjudged (items_doubts (table_seen names table.now) block (page_bytes page.entry))) }
-    ensures states { OnOk result (IfTold (F.held files.old) (λ names. work.new.states.items ≡ work.old.states.items ++ each_upto (item_state (table_seen names table.now) (page_bytes page.entry)) (count_of (page_bytes page.entry)))) }
+    ensures findings { IfTold F.seen files.old (λ names. Adds result report.old.findings report.new.findings (items_findings (table_seen names table.now) block (page_bytes page.entry))) }
+    ensures doubts { IfTold F.seen files.old (λ names. Adds result report.old.unjudged report.new.unjudged (items_doubts (table_seen names table.now) block (page_bytes page.entry))) }
+    ensures states { OnOk result (IfTold F.seen files.old (λ names. work.new.states.items ≡ work.old.states.items ++ each_upto (item_state (table_seen names table.now) (page_bytes page.entry)) (count_of (page_bytes page.entry)))) }
     ensures room { length work.new.states.items ≤ 2042 }
-    ensures externals { OnOk result (IfTold (F.held files.old) (λ names. kept.new.externals.items ≡ kept.old.externals.items ++ each_upto (item_externals (table_seen names table.now) block (page_bytes page.entry)) (count_of (page_bytes page.entry)))) }
-    ensures chunks { OnOk result (IfTold (F.held files.old) (λ names. kept.new.chunks ≡ kept.old.chunks ++ each_upto (item_chunks (table_seen names table.now) block (page_bytes page.entry)) (count_of (page_bytes page.entry)))) }
-    ensures same { F.held files.new ≡ F.held files.old }
-    ensures cause { Causes (F.faults files.old) (F.faults files.new) result RowFault.ReadFault }
+    ensures externals { OnOk result (IfTold F.seen files.old (λ names. kept.new.externals.items ≡ kept.old.externals.items ++ each_upto (item_externals (table_seen names table.now) block (page_bytes page.entry)) (count_of (page_bytes page.entry)))) }
+    ensures chunks { OnOk result (IfTold F.seen files.old (λ names. kept.new.chunks ≡ kept.old.chunks ++ each_upto (item_chunks (table_seen names table.now) block (page_bytes page.entry)) (count_of (page_bytes page.entry)))) }
+    ensures asked { Asked F.seen files.old files.new result RowFault.ReadFault }
 {
     for k in 0..page.item_count() {
         let tid = Tid { block, item: k + 1 };

@@ -2,7 +2,8 @@
 ghost use Rattle.std.specs.Prelude.{◌≡◌, ◌<◌, None, Some, IfOk, OnOk};
 ghost use Rattle.std.specs.Option.{option_copied};
 ghost use Rattle.outside.specs.Adds.{Adds};
-ghost use Rattle.outside.specs.Outside.{Causes, HasCause, IfTold};
+ghost use Rattle.outside.specs.Outside.{Asked, IfTold, Tells};
+ghost use Rattle.rel_files.specs.Faults.{read_fault};
 ghost use Rattle.rel_files.specs.Blocks.{block_of};
 ghost use Rattle.rel_files.specs.Relation.{IsAttached, base_of, count_of, size_of};
 ghost use Rattle.heap_check.specs.Below.{each_below};
@@ -41,14 +42,13 @@ impl MapPage {
 
     // Takes a page of the map in hand.
     fn take<F: Files>(&mut self, files: &mut F, map: &Relation, block: u32) -> Result<(), ReadFault>
-        requires attached { IfTold (F.held files.old) (λ names. IsAttached names map.now) }
+        requires attached { IfTold F.seen files.old (λ names. IsAttached names map.now) }
         requires inside { block < count_of map.now }
-        requires hand { IfTold (F.held files.old) (λ names. IsMapInHand names map.now self.old) }
-        ensures hand { IfTold (F.held files.old) (λ names. IsMapInHand names map.now self.new) }
+        requires hand { IfTold F.seen files.old (λ names. IsMapInHand names map.now self.old) }
+        ensures hand { IfTold F.seen files.old (λ names. IsMapInHand names map.now self.new) }
         ensures taken { OnOk result (self.new.block ≡ Some block) }
-        ensures bytes { OnOk result (IfTold (F.held files.old) (λ names. self.new.bytes ≡ block_of names (base_of map.now) (size_of map.now) block)) }
-        ensures same { F.held files.new ≡ F.held files.old }
-        ensures cause { HasCause (F.faults files.old) (F.faults files.new) result }
+        ensures bytes { OnOk result (IfTold F.seen files.old (λ names. self.new.bytes ≡ block_of names (base_of map.now) (size_of map.now) block)) }
+        ensures asked { Asked F.seen files.old files.new result read_fault }
     {
         if self.block == Some(block) {
             return Ok(());
@@ -85,12 +85,11 @@ impl MapPage {
         map: Option<&Relation>,
         heap_block: u32,
     ) -> Result<MapBits, ReadFault>
-        requires attached { IfTold (F.held files.old) (λ names. IsMapAttached names (option_copied map)) }
-        requires hand { IfTold (F.held files.old) (λ names. IsOptionalMapInHand names (option_copied map) self.old) }
-        ensures told { IfOk result (λ bits. IfTold (F.held files.old) (λ names. bits ≡ bits_seen names (option_copied map.entry) heap_block)) }
-        ensures hand { IfTold (F.held files.old) (λ names. IsOptionalMapInHand names (option_copied map.entry) self.new) }
-        ensures same { F.held files.new ≡ F.held files.old }
-        ensures cause { HasCause (F.faults files.old) (F.faults files.new) result }
+        requires attached { IfTold F.seen files.old (λ names. IsMapAttached names (option_copied map)) }
+        requires hand { IfTold F.seen files.old (λ names. IsOptionalMapInHand names (option_copied map) self.old) }
+        ensures told { Tells F.seen files.old result (λ bits names. bits ≡ bits_seen names (option_copied map.entry) heap_block) }
+        ensures hand { IfTold F.seen files.old (λ names. IsOptionalMapInHand names (option_copied map.entry) self.new) }
+        ensures asked { Asked F.seen files.old files.new result read_fault }
     {
         let Some(map) = map else {
             return Ok(MapBits::NONE);
@@ -111,14 +110,13 @@ impl MapPage {
         block: u32,
         report: &mut Report,
     ) -> Result<(), RowFault>
-        requires attached { IfTold (F.held files.old) (λ names. IsAttached names map.now) }
+        requires attached { IfTold F.seen files.old (λ names. IsAttached names map.now) }
         requires inside { block < count_of map.now }
-        requires hand { IfTold (F.held files.old) (λ names. IsMapInHand names map.now self.old) }
-        ensures findings { IfTold (F.held files.old) (λ names. Adds result report.old.findings report.new.findings (map_block_findings names (base_of map.now) (size_of map.now) block)) }
+        requires hand { IfTold F.seen files.old (λ names. IsMapInHand names map.now self.old) }
+        ensures findings { IfTold F.seen files.old (λ names. Adds result report.old.findings report.new.findings (map_block_findings names (base_of map.now) (size_of map.now) block)) }
         ensures doubts { report.new.unjudged ≡ report.old.unjudged }
-        ensures hand { IfTold (F.held files.old) (λ names. IsMapInHand names map.now self.new) }
-        ensures same { F.held files.new ≡ F.held files.old }
-        ensures cause { Causes (F.faults files.old) (F.faults files.new) result RowFault.ReadFault }
+        ensures hand { IfTold F.seen files.old (λ names. IsMapInHand names map.now self.new) }
+        ensures asked { Asked F.seen files.old files.new result RowFault.ReadFault }
     {
         self.take(files, map, block)?;
         add_rule(report, Place::Block(Rel::Map, block), self.rule())?;
@@ -132,13 +130,12 @@ impl MapPage {
         map: &Relation,
         report: &mut Report,
     ) -> Result<(), RowFault>
-        requires attached { IfTold (F.held files.old) (λ names. IsAttached names map.now) }
-        requires hand { IfTold (F.held files.old) (λ names. IsMapInHand names map.now self.old) }
-        ensures findings { IfTold (F.held files.old) (λ names. Adds result report.old.findings report.new.findings (each_below (map_block_findings names (base_of map.now) (size_of map.now)) (count_of map.now))) }
+        requires attached { IfTold F.seen files.old (λ names. IsAttached names map.now) }
+        requires hand { IfTold F.seen files.old (λ names. IsMapInHand names map.now self.old) }
+        ensures findings { IfTold F.seen files.old (λ names. Adds result report.old.findings report.new.findings (each_below (map_block_findings names (base_of map.now) (size_of map.now)) (count_of map.now))) }
         ensures doubts { report.new.unjudged ≡ report.old.unjudged }
-        ensures hand { IfTold (F.held files.old) (λ names. IsMapInHand names map.now self.new) }
-        ensures same { F.held files.new ≡ F.held files.old }
-        ensures cause { Causes (F.faults files.old) (F.faults files.new) result RowFault.ReadFault }
+        ensures hand { IfTold F.seen files.old (λ names. IsMapInHand names map.now self.new) }
+        ensures asked { Asked F.seen files.old files.new result RowFault.ReadFault }
     {
         for block in 0..map.blocks() {
             self.judge_page(files, map, block, report)?;

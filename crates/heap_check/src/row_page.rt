@@ -1,20 +1,21 @@
 // The page of a heap from which rows are taken.
 ghost use Rattle.std.specs.Prelude.{◌≡◌, ◌<◌, ◌≤◌, [], List, ℕ, All, false, length, map, Ok, Some, IfOk, IfSome, OnErr, OnOk};
 ghost use Rattle.std.specs.Option.{option_copied};
-ghost use Rattle.outside.specs.Outside.{Causes, IfTold};
+ghost use Rattle.outside.specs.Outside.{Asked, IfTold, Tells};
 ghost use Rattle.rel_files.specs.Relation.{IsAttached, base_of, count_of, size_of};
 ghost use Rattle.rel_files.specs.Blocks.{block_of};
 ghost use Rattle.page_layout.specs.Page.{item_of};
 ghost use Rattle.tuple_head.specs.Head.{has_misplaced_attributes, tuple_head_of};
 ghost use Rattle.varlena_attrs.specs.Forms.{Attribute};
-ghost use Rattle.varlena_attrs.specs.Shown.{HasAlignment, IsWithin, shown_in};
-ghost use Rattle.varlena_attrs.specs.Tuples.{attributes_in};
+ghost use Rattle.key_orders.specs.Types.{HasAlignment};
+ghost use Rattle.varlena_attrs.specs.Shown.{IsWithin, shown_in};
+ghost use Rattle.heap_tuples.specs.Tuples.{attributes_in};
 ghost use Rattle.liveness.specs.declared.states.ItemState.{ItemState as State};
 ghost use Rattle.hot_chains.specs.Chains.{is_live_tuple};
 ghost use Rattle.hot_chains.specs.Table.{AreChains};
-ghost use Rattle.toast_chunks.specs.Stored.{tuple_at};
+ghost use Rattle.heap_tuples.specs.Places.{tuple_at};
 ghost use Rattle.case_file.specs.Record.{CaseRecord};
-ghost use Rattle.heap_check.specs.RowPages.{AreStates, HasAttributes, IsRead, IsRow, IsTupleAt, rows_given};
+ghost use Rattle.heap_check.specs.RowPages.{AreStates, HasAttributes, IsRead, IsRow, rows_given};
 ghost use Rattle.heap_check.specs.RowValues.{IsReadable, IsThere, bytes_seen};
 ghost use Rattle.heap_check.specs.Rows.{cells_of, item_rows, root_item};
 ghost use Rattle.heap_check.specs.Tables.{table_seen};
@@ -27,9 +28,11 @@ use crate::row_values::{RowValues, cells_of};
 use crate::rows::LiveRow;
 use crate::table::TableRules;
 use crate::work::Work;
+use heap_tuples::{read_tuple, tuple_at};
 use hot_chains::Chains;
 use key_orders::{ColType, Tid};
 use liveness::{ItemState, Life};
+use multi_members::{Answers, Remembering};
 use outside::{Files, NoMemory};
 use page_layout::{PageKind, PageView};
 use rel_files::Relation;
@@ -40,27 +43,6 @@ use varlena_attrs::{AttrBuffer, AttrFault};
 
 // How many items a page may have.
 const MAX_ITEMS: usize = 2042;
-
-// The bytes of an item of a page, where they can be those of a tuple.
-#[tactic(auto, unfolding(page_layout::specs::Page::header_of))]
-fn tuple_at(page: &[u8; 8192], item: u16) -> Option<&[u8]>
-    ensures tuple { IsTupleAt page.now item → option_copied result ≡ Some (tuple_at page.now item) }
-    ensures long { IfSome result (λ tuple. 24 ≤ length tuple.now) }
-    ensures len { IfSome result (λ tuple. length tuple.now ≡ (item_of page.now item).len) }
-{
-    let view = PageView::new(page);
-    if view.page_rule(PageKind::Heap).is_some() || item == 0 || view.item_count() < item {
-        return None;
-    }
-    let pointer = view.item(item);
-    if !pointer.flag.is_normal() {
-        return None;
-    }
-    if pointer.is_misplaced_heap_item(view.header().upper) {
-        return None;
-    }
-    Some(view.piece(pointer.off, pointer.len))
-}
 
 // Reads the attributes of a tuple, if they can be read, and gives its body.
 fn read_attributes<'p>(
@@ -79,7 +61,7 @@ fn read_attributes<'p>(
     if hoff < 23 || tuple.len() < hoff {
         return Ok(None);
     }
-    match attrs.read_tuple(columns, tuple, head) {
+    match read_tuple(attrs, columns, tuple, head) {
         Ok(body) => Ok(Some(body)),
         Err(AttrFault::NoMemory) => Err(NoMemory),
         Err(_) => Ok(None),
@@ -97,15 +79,14 @@ fn cells_at<F: Files>(
     item: u16,
     attrs: &mut AttrBuffer,
 ) -> Result<Option<Cells>, RowFault>
-    requires readable { IfTold (F.held files.old) (λ names. IsReadable names (option_copied values.now.toast) values.now.chunks.now) }
+    requires readable { IfTold F.seen files.old (λ names. IsReadable names (option_copied values.now.toast) values.now.chunks.now) }
     requires columns { columns.now ≡ map (λ c. c.ctype) values.now.columns.now }
     requires aligned { All HasAlignment columns.now }
-    ensures told { IfOk result (λ found. IfTold (F.held files.old) (λ names. (list : List Attribute)
+    ensures told { Tells F.seen files.old result (λ found names. (list : List Attribute)
         → HasAttributes columns.now page.now item list → All (IsThere (option_copied values.now.toast) values.now.chunks.now) list
-        → found ≡ Some (cells_of (bytes_seen names (option_copied values.now.toast) values.now.chunks.now) values.now.columns.now list))) }
+        → found ≡ Some (cells_of (bytes_seen names (option_copied values.now.toast) values.now.chunks.now) values.now.columns.now list)) }
     ensures each { IfOk result (λ found. IfSome found (λ cells. length cells ≡ length values.now.columns.now)) }
-    ensures same { F.held files.new ≡ F.held files.old }
-    ensures cause { Causes (F.faults files.old) (F.faults files.new) result RowFault.ReadFault }
+    ensures asked { Asked F.seen files.old files.new result RowFault.ReadFault }
 {
     let Some(tuple) = tuple_at(page, item) else {
         return Ok(None);
@@ -168,10 +149,9 @@ fn find_states<F: Files>(
 ) -> Result<(), RowFault>
     requires few { length table.now.columns.now ≤ 64 }
     requires aligned { All HasAlignment table.now.columns.now }
-    ensures states { OnOk result (IfTold (F.held files.old) (λ names. AreStates (table_seen names table.now) block page.now work.new.states.items)) }
+    ensures states { OnOk result (IfTold F.seen files.old (λ names. AreStates (table_seen names table.now) block page.now work.new.states.items)) }
     ensures most { OnOk result (length work.new.states.items ≤ 2042) }
-    ensures same { F.held files.new ≡ F.held files.old }
-    ensures cause { Causes (F.faults files.old) (F.faults files.new) result RowFault.ReadFault }
+    ensures asked { Asked F.seen files.old files.new result RowFault.ReadFault }
 {
     work.cells.clear();
     work.states.clear();
@@ -182,7 +162,10 @@ fn find_states<F: Files>(
     let count = view.item_count() as usize;
     let mut kept = Kept::new(alloc);
     let mut report = Report::new(alloc);
-    judge_items(files, table, view, block, work, &mut kept, &mut report)?;
+    let logs = &table.logs;
+    let mut answers = Answers::new(alloc, logs.offsets, logs.members, &logs.cluster)?;
+    let mut files = Remembering::new(files, &mut answers);
+    judge_items(&mut files, table, view, block, work, &mut kept, &mut report)?;
     if report.counts() != (0, 0) || work.states.len() != count {
         work.states.clear();
     }
@@ -215,16 +198,15 @@ impl RowPage {
     ) -> Result<(), RowFault>
         requires few { length table.now.columns.now ≤ 64 }
         requires aligned { All HasAlignment table.now.columns.now }
-        requires attached { IfTold (F.held files.old) (λ names. IsAttached names heap.now) }
+        requires attached { IfTold F.seen files.old (λ names. IsAttached names heap.now) }
         requires inside { block < count_of heap.now }
         ensures block { OnOk result (self.new.block ≡ block) }
         ensures done { OnOk result (self.new.done ≡ 0) }
-        ensures bytes { OnOk result (IfTold (F.held files.old) (λ names. self.new.bytes ≡ block_of names (base_of heap.now) (size_of heap.now) block)) }
-        ensures states { OnOk result (IfTold (F.held files.old) (λ names. AreStates (table_seen names table.now) block self.new.bytes self.new.work.states.items)) }
+        ensures bytes { OnOk result (IfTold F.seen files.old (λ names. self.new.bytes ≡ block_of names (base_of heap.now) (size_of heap.now) block)) }
+        ensures states { OnOk result (IfTold F.seen files.old (λ names. AreStates (table_seen names table.now) block self.new.bytes self.new.work.states.items)) }
         ensures chains { OnOk result (AreChains block self.new.work.states.items self.new.work.chains) }
         ensures few { OnOk result (length self.new.work.states.items ≤ 2042) }
-        ensures same { F.held files.new ≡ F.held files.old }
-        ensures cause { Causes (F.faults files.old) (F.faults files.new) result RowFault.ReadFault }
+        ensures asked { Asked F.seen files.old files.new result RowFault.ReadFault }
     {
         self.block = block;
         self.done = 0;
@@ -246,17 +228,16 @@ impl RowPage {
     ) -> Result<(), RowFault>
         requires few { length table.now.columns.now ≤ 64 }
         requires aligned { All HasAlignment table.now.columns.now }
-        requires attached { IfTold (F.held files.old) (λ names. IsAttached names heap.now) }
+        requires attached { IfTold F.seen files.old (λ names. IsAttached names heap.now) }
         requires inside { block < count_of heap.now }
         ensures block { OnOk result (self.new.block ≡ block) }
         ensures done { OnOk result (self.new.done ≡ 0) }
-        ensures bytes { OnOk result (IfTold (F.held files.old) (λ names. self.new.bytes ≡ block_of names (base_of heap.now) (size_of heap.now) block)) }
-        ensures states { OnOk result (IfTold (F.held files.old) (λ names. AreStates (table_seen names table.now) block self.new.bytes self.new.work.states.items)) }
+        ensures bytes { OnOk result (IfTold F.seen files.old (λ names. self.new.bytes ≡ block_of names (base_of heap.now) (size_of heap.now) block)) }
+        ensures states { OnOk result (IfTold F.seen files.old (λ names. AreStates (table_seen names table.now) block self.new.bytes self.new.work.states.items)) }
         ensures chains { OnOk result (AreChains block self.new.work.states.items self.new.work.chains) }
         ensures few { length self.new.work.states.items ≤ 2042 }
         ensures empty { OnErr result (self.new.work.states.items ≡ []) }
-        ensures same { F.held files.new ≡ F.held files.old }
-        ensures cause { Causes (F.faults files.old) (F.faults files.new) result RowFault.ReadFault }
+        ensures asked { Asked F.seen files.old files.new result RowFault.ReadFault }
     {
         let outcome = self.read(alloc, files, table, heap, block);
         if outcome.is_err() {
@@ -274,20 +255,19 @@ impl RowPage {
         columns: &[ColType],
         item: u16,
     ) -> Result<Option<LiveRow>, RowFault>
-        requires readable { IfTold (F.held files.old) (λ names. IsReadable names (option_copied values.now.toast) values.now.chunks.now) }
+        requires readable { IfTold F.seen files.old (λ names. IsReadable names (option_copied values.now.toast) values.now.chunks.now) }
         requires columns { columns.now ≡ map (λ c. c.ctype) values.now.columns.now }
         requires aligned { All HasAlignment columns.now }
         requires first { 1 ≤ item }
         requires last { item ≤ length self.old.work.states.items }
-        ensures told { IfOk result (λ found. IfTold (F.held files.old) (λ names. (case : CaseRecord)
+        ensures told { Tells F.seen files.old result (λ found names. (case : CaseRecord)
             → IsKnown case names (option_copied values.now.toast) values.now.chunks.now self.old item
             → AreValuesOf case names values.now
-            → rows_given found ≡ item_rows case names self.old.block self.old.bytes item)) }
+            → rows_given found ≡ item_rows case names self.old.block self.old.bytes item) }
         ensures rows { IfOk result (λ found. IfSome found (IsRow (length values.now.columns.now))) }
         ensures page { IsSamePage self.old self.new }
         ensures done { self.new.done ≡ self.old.done }
-        ensures same { F.held files.new ≡ F.held files.old }
-        ensures cause { Causes (F.faults files.old) (F.faults files.new) result RowFault.ReadFault }
+        ensures asked { Asked F.seen files.old files.new result RowFault.ReadFault }
     {
         if !is_live(self.work.states[item as usize - 1]) {
             return Ok(None);
@@ -314,21 +294,20 @@ impl RowPage {
         columns: &[ColType],
         item: u16,
     ) -> Result<Option<LiveRow>, RowFault>
-        requires readable { IfTold (F.held files.old) (λ names. IsReadable names (option_copied values.now.toast) values.now.chunks.now) }
+        requires readable { IfTold F.seen files.old (λ names. IsReadable names (option_copied values.now.toast) values.now.chunks.now) }
         requires columns { columns.now ≡ map (λ c. c.ctype) values.now.columns.now }
         requires aligned { All HasAlignment columns.now }
         requires first { 1 ≤ item }
         requires last { item ≤ length self.old.work.states.items }
-        ensures told { IfOk result (λ found. IfTold (F.held files.old) (λ names. (case : CaseRecord)
+        ensures told { Tells F.seen files.old result (λ found names. (case : CaseRecord)
             → IsKnown case names (option_copied values.now.toast) values.now.chunks.now self.old item
             → AreValuesOf case names values.now
-            → rows_given found ≡ item_rows case names self.old.block self.old.bytes item)) }
+            → rows_given found ≡ item_rows case names self.old.block self.old.bytes item) }
         ensures rows { IfOk result (λ found. IfSome found (IsRow (length values.now.columns.now))) }
         ensures page { IsSamePage self.old self.new }
         ensures done { OnOk result (self.new.done ≡ item) }
         ensures left { OnErr result (self.new.done ≡ self.old.done) }
-        ensures same { F.held files.new ≡ F.held files.old }
-        ensures cause { Causes (F.faults files.old) (F.faults files.new) result RowFault.ReadFault }
+        ensures asked { Asked F.seen files.old files.new result RowFault.ReadFault }
     {
         let found = self.row_at(alloc, files, values, columns, item)?;
         self.done = item;
@@ -344,23 +323,22 @@ impl RowPage {
         values: &RowValues<'_>,
         columns: &[ColType],
     ) -> Result<Option<LiveRow>, RowFault>
-        requires readable { IfTold (F.held files.old) (λ names. IsReadable names (option_copied values.now.toast) values.now.chunks.now) }
+        requires readable { IfTold F.seen files.old (λ names. IsReadable names (option_copied values.now.toast) values.now.chunks.now) }
         requires columns { columns.now ≡ map (λ c. c.ctype) values.now.columns.now }
         requires aligned { All HasAlignment columns.now }
-        ensures first { IfOk result (λ found. IfTold (F.held files.old) (λ names. (case : CaseRecord)
+        ensures first { Tells F.seen files.old result (λ found names. (case : CaseRecord)
             → IsInHand case names (option_copied values.now.toast) values.now.chunks.now self.old
             → AreValuesOf case names values.now
             → length self.old.work.states.items ≤ 2042
-            → IsFirst found (rows_in_hand case names self.old) (rows_in_hand case names self.new))) }
-        ensures left { OnErr result (IfTold (F.held files.old) (λ names. (case : CaseRecord)
+            → IsFirst found (rows_in_hand case names self.old) (rows_in_hand case names self.new)) }
+        ensures left { OnErr result (IfTold F.seen files.old (λ names. (case : CaseRecord)
             → IsInHand case names (option_copied values.now.toast) values.now.chunks.now self.old
             → AreValuesOf case names values.now
             → length self.old.work.states.items ≤ 2042
             → rows_in_hand case names self.new ≡ rows_in_hand case names self.old)) }
         ensures rows { IfOk result (λ found. IfSome found (IsRow (length values.now.columns.now))) }
         ensures page { IsSamePage self.old self.new }
-        ensures same { F.held files.new ≡ F.held files.old }
-        ensures cause { Causes (F.faults files.old) (F.faults files.new) result RowFault.ReadFault }
+        ensures asked { Asked F.seen files.old files.new result RowFault.ReadFault }
     {
         let count = self.work.states.len().min(MAX_ITEMS) as u16;
         for k in self.done..count {

@@ -1,7 +1,7 @@
 // The values of a live tuple as cells of its row.
 ghost use Rattle.std.specs.Prelude.{◌≡◌, ◌<◌, ◌≤◌, All, Some, length, map, IfOk, IfSome};
 ghost use Rattle.std.specs.Option.{option_copied};
-ghost use Rattle.outside.specs.Outside.{Causes, IfTold};
+ghost use Rattle.outside.specs.Outside.{Asked, IfTold, Tells};
 ghost use Rattle.varlena_attrs.specs.Shown.{IsWithin, shown_at, shown_in};
 ghost use Rattle.heap_check.specs.RowFaults.{row_fault_of};
 ghost use Rattle.heap_check.specs.Rows.{cell_of, cells_of, external_cell};
@@ -43,11 +43,10 @@ fn external_cell<F: Files>(
     values: &RowValues<'_>,
     p: ToastPointer,
 ) -> Result<Option<Cell>, RowFault>
-    requires readable { IfTold (F.held files.old) (λ names. IsReadable names (option_copied values.now.toast) values.now.chunks.now) }
-    ensures told { IfOk result (λ found. IfTold (F.held files.old) (λ names. IsWholeIn (option_copied values.now.toast) values.now.chunks.now p
-        → found ≡ Some (external_cell (bytes_seen names (option_copied values.now.toast) values.now.chunks.now p) p))) }
-    ensures same { F.held files.new ≡ F.held files.old }
-    ensures cause { Causes (F.faults files.old) (F.faults files.new) result RowFault.ReadFault }
+    requires readable { IfTold F.seen files.old (λ names. IsReadable names (option_copied values.now.toast) values.now.chunks.now) }
+    ensures told { Tells F.seen files.old result (λ found names. IsWholeIn (option_copied values.now.toast) values.now.chunks.now p
+        → found ≡ Some (external_cell (bytes_seen names (option_copied values.now.toast) values.now.chunks.now p) p)) }
+    ensures asked { Asked F.seen files.old files.new result RowFault.ReadFault }
 {
     let Some(toast) = values.toast else {
         return Ok(None);
@@ -69,13 +68,12 @@ fn cell_of<F: Files>(
     body: &[u8],
     place: AttrPlace,
 ) -> Result<Option<Cell>, RowFault>
-    requires readable { IfTold (F.held files.old) (λ names. IsReadable names (option_copied values.now.toast) values.now.chunks.now) }
+    requires readable { IfTold F.seen files.old (λ names. IsReadable names (option_copied values.now.toast) values.now.chunks.now) }
     requires within { IsWithin (length body.now) place }
     requires fits { FitsType column.now.ctype (shown_at body.now place) }
-    ensures told { IfOk result (λ found. IfTold (F.held files.old) (λ names. IsThere (option_copied values.now.toast) values.now.chunks.now (shown_at body.now place)
-        → found ≡ Some (cell_of (bytes_seen names (option_copied values.now.toast) values.now.chunks.now) column.now (shown_at body.now place)))) }
-    ensures same { F.held files.new ≡ F.held files.old }
-    ensures cause { Causes (F.faults files.old) (F.faults files.new) result RowFault.ReadFault }
+    ensures told { Tells F.seen files.old result (λ found names. IsThere (option_copied values.now.toast) values.now.chunks.now (shown_at body.now place)
+        → found ≡ Some (cell_of (bytes_seen names (option_copied values.now.toast) values.now.chunks.now) column.now (shown_at body.now place))) }
+    ensures asked { Asked F.seen files.old files.new result RowFault.ReadFault }
 {
     match place {
         AttrPlace::Null => Ok(Some(Cell::Held(Value::Null))),
@@ -100,14 +98,13 @@ pub(crate) fn cells_of<F: Files>(
     body: &[u8],
     places: &[AttrPlace],
 ) -> Result<Option<Cells>, RowFault>
-    requires readable { IfTold (F.held files.old) (λ names. IsReadable names (option_copied values.now.toast) values.now.chunks.now) }
+    requires readable { IfTold F.seen files.old (λ names. IsReadable names (option_copied values.now.toast) values.now.chunks.now) }
     requires within { All (IsWithin (length body.now)) places.now }
     requires fit { FitTypes (map (λ c. c.ctype) values.now.columns.now) (shown_in body.now places.now) }
-    ensures told { IfOk result (λ found. IfTold (F.held files.old) (λ names. All (IsThere (option_copied values.now.toast) values.now.chunks.now) (shown_in body.now places.now)
-        → found ≡ Some (cells_of (bytes_seen names (option_copied values.now.toast) values.now.chunks.now) values.now.columns.now (shown_in body.now places.now)))) }
+    ensures told { Tells F.seen files.old result (λ found names. All (IsThere (option_copied values.now.toast) values.now.chunks.now) (shown_in body.now places.now)
+        → found ≡ Some (cells_of (bytes_seen names (option_copied values.now.toast) values.now.chunks.now) values.now.columns.now (shown_in body.now places.now))) }
     ensures each { IfOk result (λ found. IfSome found (λ cells. length cells ≡ length values.now.columns.now)) }
-    ensures same { F.held files.new ≡ F.held files.old }
-    ensures cause { Causes (F.faults files.old) (F.faults files.new) result RowFault.ReadFault }
+    ensures asked { Asked F.seen files.old files.new result RowFault.ReadFault }
 {
     let mut cells = Cells::new(alloc);
     for k in 0..values.columns.len() {

@@ -3,7 +3,7 @@ ghost use Rattle.std.specs.Prelude.{◌≡◌, ◌++◌, ◌+◌, ◌<◌, lengt
 ghost use Rattle.std.specs.Option.{option_map};
 ghost use Rattle.liveness.specs.LogFiles.{log_files_of};
 ghost use Rattle.heap_check.specs.CaseLogs.{log_files_kept};
-ghost use Rattle.outside.specs.Outside.{Causes, IfTold, Names};
+ghost use Rattle.outside.specs.Outside.{Asked, IfTold, Names, Tells};
 ghost use Rattle.rel_files.specs.Relation.{count_of};
 ghost use Rattle.heap_check.specs.Files.{BelongTo, IsSoundHeapOf, files_of};
 ghost use Rattle.heap_check.specs.Heap.{IsQuiet};
@@ -97,16 +97,15 @@ impl<'a> LiveRows<'a> {
         alloc: Global,
         files: &mut F,
     ) -> Result<Option<LiveRow>, RowFault>
-        requires told { IfTold (F.held files.old) (λ names. AreRowsOf names self.old) }
-        ensures first { IfOk result (λ found. IfTold (F.held files.old) (λ names. rows_left names self.old ≡ rows_given found ++ rows_left names self.new)) }
-        ensures done { IfOk result (λ found. IfTold (F.held files.old) (λ names. IsPageDoneBy names found self.new)) }
-        ensures left { OnErr result (IfTold (F.held files.old) (λ names. rows_left names self.new ≡ rows_left names self.old)) }
+        requires told { IfTold F.seen files.old (λ names. AreRowsOf names self.old) }
+        ensures first { Tells F.seen files.old result (λ found names. rows_left names self.old ≡ rows_given found ++ rows_left names self.new) }
+        ensures done { Tells F.seen files.old result (λ found names. IsPageDoneBy names found self.new) }
+        ensures left { OnErr result (IfTold F.seen files.old (λ names. rows_left names self.new ≡ rows_left names self.old)) }
         ensures row { IfOk result (λ found. IfSome found (IsRow (length (case_of self.old).columns))) }
-        ensures told { IfTold (F.held files.old) (λ names. AreRowsOf names self.new) }
+        ensures told { IfTold F.seen files.old (λ names. AreRowsOf names self.new) }
         ensures heap { IsSameHeap self.old self.new }
         ensures next { self.new.next ≡ self.old.next }
-        ensures same { F.held files.new ≡ F.held files.old }
-        ensures cause { Causes (F.faults files.old) (F.faults files.new) result RowFault.ReadFault }
+        ensures asked { Asked F.seen files.old files.new result RowFault.ReadFault }
     {
         let case = self.case;
         let heap = self.heap;
@@ -123,15 +122,14 @@ impl<'a> LiveRows<'a> {
     // Takes the next block of the heap in hand. After an error no page is in hand, and it is still the
     // next.
     fn take_next<F: Files>(&mut self, alloc: Global, files: &mut F) -> Result<(), RowFault>
-        requires told { IfTold (F.held files.old) (λ names. AreRowsOf names self.old) }
-        requires done { IfTold (F.held files.old) (λ names. IsPageDone names self.old) }
+        requires told { IfTold F.seen files.old (λ names. AreRowsOf names self.old) }
+        requires done { IfTold F.seen files.old (λ names. IsPageDone names self.old) }
         requires inside { self.old.next < count_of (heap_of self.old).files.heap }
-        ensures left { IfTold (F.held files.old) (λ names. rows_left names self.new ≡ rows_left names self.old) }
-        ensures told { IfTold (F.held files.old) (λ names. AreRowsOf names self.new) }
+        ensures left { IfTold F.seen files.old (λ names. rows_left names self.new ≡ rows_left names self.old) }
+        ensures told { IfTold F.seen files.old (λ names. AreRowsOf names self.new) }
         ensures heap { IsSameHeap self.old self.new }
         ensures next { OnOk result (self.new.next ≡ self.old.next + 1) }
-        ensures same { F.held files.new ≡ F.held files.old }
-        ensures cause { Causes (F.faults files.old) (F.faults files.new) result RowFault.ReadFault }
+        ensures asked { Asked F.seen files.old files.new result RowFault.ReadFault }
     {
         let case = self.case;
         let heap = self.heap;
@@ -153,18 +151,17 @@ impl<'a> LiveRows<'a> {
         alloc: Global,
         files: &mut F,
     ) -> Result<Option<LiveRow>, RowFault>
-        requires told { IfTold (F.held files.old) (λ names. AreRowsOf names self.old) }
-        requires done { IfTold (F.held files.old) (λ names. IsPageDone names self.old) }
+        requires told { IfTold F.seen files.old (λ names. AreRowsOf names self.old) }
+        requires done { IfTold F.seen files.old (λ names. IsPageDone names self.old) }
         requires inside { self.old.next < count_of (heap_of self.old).files.heap }
-        ensures first { IfOk result (λ found. IfTold (F.held files.old) (λ names. rows_left names self.old ≡ rows_given found ++ rows_left names self.new)) }
-        ensures done { IfOk result (λ found. IfTold (F.held files.old) (λ names. IsPageDoneBy names found self.new)) }
-        ensures left { OnErr result (IfTold (F.held files.old) (λ names. rows_left names self.new ≡ rows_left names self.old)) }
+        ensures first { Tells F.seen files.old result (λ found names. rows_left names self.old ≡ rows_given found ++ rows_left names self.new) }
+        ensures done { Tells F.seen files.old result (λ found names. IsPageDoneBy names found self.new) }
+        ensures left { OnErr result (IfTold F.seen files.old (λ names. rows_left names self.new ≡ rows_left names self.old)) }
         ensures row { IfOk result (λ found. IfSome found (IsRow (length (case_of self.old).columns))) }
-        ensures told { IfTold (F.held files.old) (λ names. AreRowsOf names self.new) }
+        ensures told { IfTold F.seen files.old (λ names. AreRowsOf names self.new) }
         ensures heap { IsSameHeap self.old self.new }
         ensures next { OnOk result (self.new.next ≡ self.old.next + 1) }
-        ensures same { F.held files.new ≡ F.held files.old }
-        ensures cause { Causes (F.faults files.old) (F.faults files.new) result RowFault.ReadFault }
+        ensures asked { Asked F.seen files.old files.new result RowFault.ReadFault }
     {
         self.take_next(alloc, files)?;
         self.next_in_hand(alloc, files)
@@ -179,14 +176,13 @@ impl<'a> LiveRows<'a> {
         alloc: Global,
         files: &mut F,
     ) -> Result<Option<LiveRow>, RowFault>
-        requires told { IfTold (F.held files.old) (λ names. AreRowsOf names self.old) }
-        ensures first { IfOk result (λ found. IfTold (F.held files.old) (λ names. IsFirst found (rows_left names self.old) (rows_left names self.new))) }
-        ensures left { OnErr result (IfTold (F.held files.old) (λ names. rows_left names self.new ≡ rows_left names self.old)) }
+        requires told { IfTold F.seen files.old (λ names. AreRowsOf names self.old) }
+        ensures first { Tells F.seen files.old result (λ found names. IsFirst found (rows_left names self.old) (rows_left names self.new)) }
+        ensures left { OnErr result (IfTold F.seen files.old (λ names. rows_left names self.new ≡ rows_left names self.old)) }
         ensures row { IfOk result (λ found. IfSome found (IsRow (length (case_of self.old).columns))) }
-        ensures told { IfTold (F.held files.old) (λ names. AreRowsOf names self.new) }
+        ensures told { IfTold F.seen files.old (λ names. AreRowsOf names self.new) }
         ensures heap { IsSameHeap self.old self.new }
-        ensures same { F.held files.new ≡ F.held files.old }
-        ensures cause { Causes (F.faults files.old) (F.faults files.new) result RowFault.ReadFault }
+        ensures asked { Asked F.seen files.old files.new result RowFault.ReadFault }
     {
         let found = self.next_in_hand(alloc, files)?;
         if found.is_some() {

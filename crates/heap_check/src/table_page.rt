@@ -2,10 +2,10 @@
 ghost use Rattle.std.specs.Prelude.{◌≡◌, ◌++◌, ◌≤◌, None, All, OnOk, length};
 ghost use Rattle.std.specs.Option.{option_copied};
 ghost use Rattle.outside.specs.Adds.{Adds};
-ghost use Rattle.outside.specs.Outside.{Causes, IfTold};
+ghost use Rattle.outside.specs.Outside.{Asked, IfTold};
 ghost use Rattle.page_layout.specs.Page.{HasItems, count_of};
 ghost use Rattle.page_layout.specs.View.{page_bytes};
-ghost use Rattle.varlena_attrs.specs.Shown.{HasAlignment};
+ghost use Rattle.key_orders.specs.Types.{HasAlignment};
 ghost use Rattle.heap_check.specs.Below.{each_upto};
 ghost use Rattle.heap_check.specs.Heap.{findings_by_rule, is_flagged_visible, items_doubts, page_chunks, page_doubts, page_externals, page_findings};
 ghost use Rattle.heap_check.specs.Kept.{item_chunks, item_externals};
@@ -17,7 +17,7 @@ use crate::joint::judge_joint;
 use crate::kept::Kept;
 use crate::table::TableRules;
 use crate::work::Work;
-use outside::Files;
+use multi_members::Multixacts;
 use page_layout::{PageKind, PageView, has_bit};
 use reports::{Finding, Place, Report};
 use vis_map::MapBits;
@@ -34,7 +34,7 @@ fn is_flagged_visible(page: PageView<'_>) -> bool
 
 // Judges a page of a table whose header keeps its rules: its items, each by itself, and then, where
 // nothing was found, all together.
-fn judge_sound_page<F: Files>(
+fn judge_sound_page<F: Multixacts>(
     files: &mut F,
     table: &TableRules<'_>,
     page: PageView<'_>,
@@ -47,13 +47,12 @@ fn judge_sound_page<F: Files>(
     requires few { length table.now.columns.now ≤ 64 }
     requires aligned { All HasAlignment table.now.columns.now }
     requires page { HasItems (page_bytes page) }
-    requires bits { IfTold (F.held files.old) (λ names. bits ≡ bits_seen names (option_copied table.now.map) block) }
-    ensures findings { IfTold (F.held files.old) (λ names. Adds result report.old.findings report.new.findings (findings_by_rule (table_seen names table.now) block (page_bytes page.entry) None)) }
-    ensures doubts { IfTold (F.held files.old) (λ names. Adds result report.old.unjudged report.new.unjudged (items_doubts (table_seen names table.now) block (page_bytes page.entry))) }
-    ensures externals { OnOk result (IfTold (F.held files.old) (λ names. kept.new.externals.items ≡ kept.old.externals.items ++ each_upto (item_externals (table_seen names table.now) block (page_bytes page.entry)) (count_of (page_bytes page.entry)))) }
-    ensures chunks { OnOk result (IfTold (F.held files.old) (λ names. kept.new.chunks ≡ kept.old.chunks ++ each_upto (item_chunks (table_seen names table.now) block (page_bytes page.entry)) (count_of (page_bytes page.entry)))) }
-    ensures same { F.held files.new ≡ F.held files.old }
-    ensures cause { Causes (F.faults files.old) (F.faults files.new) result RowFault.ReadFault }
+    requires bits { IfTold F.seen files.old (λ names. bits ≡ bits_seen names (option_copied table.now.map) block) }
+    ensures findings { IfTold F.seen files.old (λ names. Adds result report.old.findings report.new.findings (findings_by_rule (table_seen names table.now) block (page_bytes page.entry) None)) }
+    ensures doubts { IfTold F.seen files.old (λ names. Adds result report.old.unjudged report.new.unjudged (items_doubts (table_seen names table.now) block (page_bytes page.entry))) }
+    ensures externals { OnOk result (IfTold F.seen files.old (λ names. kept.new.externals.items ≡ kept.old.externals.items ++ each_upto (item_externals (table_seen names table.now) block (page_bytes page.entry)) (count_of (page_bytes page.entry)))) }
+    ensures chunks { OnOk result (IfTold F.seen files.old (λ names. kept.new.chunks ≡ kept.old.chunks ++ each_upto (item_chunks (table_seen names table.now) block (page_bytes page.entry)) (count_of (page_bytes page.entry)))) }
+    ensures asked { Asked F.seen files.old files.new result RowFault.ReadFault }
 {
     let before = report.counts();
     work.cells.clear();
@@ -76,7 +75,7 @@ fn judge_sound_page<F: Files>(
 /// Judges a page of a table: its header, and where that breaks no rule its items. `bits` is what the
 /// visibility map says of the block.
 #[tactic(auto, unfolding(crate::specs::Heap::page_findings, crate::specs::Heap::page_doubts, crate::specs::Heap::page_externals, crate::specs::Heap::page_chunks, crate::specs::Tables::table_with))]
-pub fn judge_table_page<F: Files>(
+pub fn judge_table_page<F: Multixacts>(
     files: &mut F,
     table: &TableRules<'_>,
     page: &[u8; 8192],
@@ -88,13 +87,12 @@ pub fn judge_table_page<F: Files>(
 ) -> Result<(), RowFault>
     requires few { length table.now.columns.now ≤ 64 }
     requires aligned { All HasAlignment table.now.columns.now }
-    requires bits { IfTold (F.held files.old) (λ names. bits ≡ bits_seen names (option_copied table.now.map) block) }
-    ensures findings { IfTold (F.held files.old) (λ names. Adds result report.old.findings report.new.findings (page_findings (table_seen names table.now) block page.now)) }
-    ensures doubts { IfTold (F.held files.old) (λ names. Adds result report.old.unjudged report.new.unjudged (page_doubts (table_seen names table.now) block page.now)) }
-    ensures externals { OnOk result (IfTold (F.held files.old) (λ names. kept.new.externals.items ≡ kept.old.externals.items ++ page_externals (table_seen names table.now) block page.now)) }
-    ensures chunks { OnOk result (IfTold (F.held files.old) (λ names. kept.new.chunks ≡ kept.old.chunks ++ page_chunks (table_seen names table.now) block page.now)) }
-    ensures same { F.held files.new ≡ F.held files.old }
-    ensures cause { Causes (F.faults files.old) (F.faults files.new) result RowFault.ReadFault }
+    requires bits { IfTold F.seen files.old (λ names. bits ≡ bits_seen names (option_copied table.now.map) block) }
+    ensures findings { IfTold F.seen files.old (λ names. Adds result report.old.findings report.new.findings (page_findings (table_seen names table.now) block page.now)) }
+    ensures doubts { IfTold F.seen files.old (λ names. Adds result report.old.unjudged report.new.unjudged (page_doubts (table_seen names table.now) block page.now)) }
+    ensures externals { OnOk result (IfTold F.seen files.old (λ names. kept.new.externals.items ≡ kept.old.externals.items ++ page_externals (table_seen names table.now) block page.now)) }
+    ensures chunks { OnOk result (IfTold F.seen files.old (λ names. kept.new.chunks ≡ kept.old.chunks ++ page_chunks (table_seen names table.now) block page.now)) }
+    ensures asked { Asked F.seen files.old files.new result RowFault.ReadFault }
 {
     let view = PageView::new(page);
     match view.page_rule(PageKind::Heap) {

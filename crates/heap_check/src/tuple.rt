@@ -1,9 +1,9 @@
 // Judges a tuple: its header, whether it is live, and the values of a live one.
 ghost use Rattle.std.specs.Prelude.{◌≡◌, ◌++◌, ◌≤◌, ◌<◌, All, length, false, IfOk};
-ghost use Rattle.outside.specs.Outside.{Causes, IfTold};
+ghost use Rattle.outside.specs.Outside.{Asked, Tells};
 ghost use Rattle.tuple_head.specs.Head.{tuple_head_of};
-ghost use Rattle.varlena_attrs.specs.Shown.{HasAlignment};
-ghost use Rattle.varlena_attrs.specs.Tuples.{attributes_in};
+ghost use Rattle.key_orders.specs.Types.{HasAlignment};
+ghost use Rattle.heap_tuples.specs.Tuples.{attributes_in};
 ghost use Rattle.heap_check.specs.Kept.{attributes_by, chunks_by, externals_by};
 ghost use Rattle.heap_check.specs.Tables.{table_seen};
 ghost use Rattle.heap_check.specs.Verdicts.{life_verdict, tuple_verdict, values_verdict};
@@ -14,8 +14,9 @@ use crate::table::TableRules;
 use crate::values::judge_values;
 use crate::verdict::{ItemVerdict, reason_of};
 use key_orders::Tid;
-use liveness::{ItemState, Judged, Life, life};
-use outside::{Files, NoMemory};
+use liveness::{ItemState, Judged, Life, life_in};
+use multi_members::Multixacts;
+use outside::NoMemory;
 use page_layout::Rule;
 use reports::Reason;
 use tuple_head::{HeapHead, heap_head, kept_rules_place_attributes};
@@ -67,7 +68,7 @@ fn life_verdict(
 /// rules of headers (H4 to H8), the tuple's life (H9 to H13), and the values of a live one (H17 to
 /// H20), which are kept where they break none.
 #[tactic(auto, using(crate::proofs::KeptRules::no_externals, crate::proofs::KeptRules::no_chunks), unfolding(crate::specs::Verdicts::tuple_verdict, crate::specs::Tables::table_with))]
-pub fn judge_tuple<F: Files>(
+pub fn judge_tuple<F: Multixacts>(
     files: &mut F,
     table: &TableRules<'_>,
     bytes: &[u8],
@@ -81,11 +82,10 @@ pub fn judge_tuple<F: Files>(
     requires page { len ≤ 8192 }
     requires few { length table.now.columns.now ≤ 64 }
     requires aligned { All HasAlignment table.now.columns.now }
-    ensures told { IfOk result (λ verdict. IfTold (F.held files.old) (λ names. verdict ≡ tuple_verdict (table_seen names table.now) len bytes.now)) }
+    ensures told { Tells F.seen files.old result (λ verdict names. verdict ≡ tuple_verdict (table_seen names table.now) len bytes.now) }
     ensures externals { IfOk result (λ verdict. kept.new.externals.items ≡ kept.old.externals.items ++ externals_by table.now.rel tid.block tid.item (attributes_by (attributes_in table.now.columns.now bytes.now) verdict)) }
     ensures chunks { IfOk result (λ verdict. kept.new.chunks ≡ kept.old.chunks ++ chunks_by table.now.rel tid.block tid.item (attributes_by (attributes_in table.now.columns.now bytes.now) verdict)) }
-    ensures same { F.held files.new ≡ F.held files.old }
-    ensures cause { Causes (F.faults files.old) (F.faults files.new) result RowFault.ReadFault }
+    ensures asked { Asked F.seen files.old files.new result RowFault.ReadFault }
 {
     let head = heap_head(bytes);
     if head.old_form() {
@@ -95,6 +95,6 @@ pub fn judge_tuple<F: Files>(
         return Ok(ItemVerdict::Breaks(rule));
     }
     kept_rules_place_attributes();
-    let judged = life(files, &table.logs, &head)?;
+    let judged = life_in(files, &table.logs, &head)?;
     Ok(life_verdict(table, bytes, head, judged, tid, attrs, kept)?)
 }

@@ -1,13 +1,15 @@
 // The values of a live tuple.
 ghost use Rattle.std.specs.Prelude.{◌≡◌, ◌++◌, ◌≤◌, ℕ, List, All, length, IfOk};
 ghost use Rattle.tuple_head.specs.Head.{tuple_head_of};
-ghost use Rattle.varlena_attrs.specs.Shown.{HasAlignment, IsWithin, shown_at, shown_in};
-ghost use Rattle.varlena_attrs.specs.Tuples.{attributes_in};
+ghost use Rattle.key_orders.specs.Types.{HasAlignment};
+ghost use Rattle.varlena_attrs.specs.Shown.{IsWithin, shown_at, shown_in};
+ghost use Rattle.heap_tuples.specs.Tuples.{attributes_in};
 ghost use Rattle.heap_check.specs.Kept.{chunks_by, externals_by, keeps_nothing, kept_by_values};
 ghost use Rattle.heap_check.specs.Values.{first_value_rule, has_externals, is_other_relation, is_stray_pointer, pointer_rule_of, value_rule, values_rule};
 
 use crate::kept::Kept;
 use crate::table::TableRules;
+use heap_tuples::{are_inline, read_tuple};
 use key_orders::Tid;
 use outside::NoMemory;
 use page_layout::{Rule, has_bit};
@@ -96,7 +98,7 @@ fn keeps_nothing(table: &TableRules<'_>, tuple: &[u8], head: HeapHead) -> bool
 {
     match table.rel {
         Rel::Toast => false,
-        Rel::Heap | Rel::Map | Rel::Index(_) => table.columns.are_inline(tuple, head),
+        Rel::Heap | Rel::Map | Rel::Index(_) => are_inline(table.columns, tuple, head),
     }
 }
 
@@ -125,7 +127,7 @@ pub fn judge_values(
     if keeps_nothing(table, tuple, head) {
         return Ok(None);
     }
-    match attrs.read_tuple(table.columns.as_slice(), tuple, head) {
+    match read_tuple(attrs, table.columns.as_slice(), tuple, head) {
         Ok(body) => {
             let rule = first_value_rule(table.toast, head, body, attrs.as_slice());
             if rule.is_none() {

@@ -9,6 +9,7 @@ mod orders;
 mod refs;
 mod scans;
 mod separators;
+mod types;
 mod values;
 
 pub use columns::{ColType, KeySpec, Value, ValueRef};
@@ -19,6 +20,7 @@ pub use orders::{BoolOrder, BytesOrder, IntOrder, KeyOrder, NullPlace, Reversed}
 pub use refs::{KeyRefs, MAX_KEY_COLUMNS};
 pub use scans::{Scan, ScanFault, goes_right, matches, past_high};
 pub use separators::{SepRef, Separator};
+pub use types::{ValueKind, value_of};
 pub use values::fits_type;
 
 /// The place of a tuple in its table (`ctid`): its block, counted from 0, and its item, counted

@@ -1,12 +1,10 @@
 -- What files hold of the logs.
-use Rattle.std.specs.Prelude.{ℕ, Bool, true, false, List, Option, Some, None}
+use Rattle.std.specs.Prelude.{ℕ, List}
 use Rattle.outside.specs.Outside.{Names}
 use Rattle.rel_files.specs.Ranges.{is_multi_in_range, is_xid_in_range}
 use Rattle.rel_files.specs.Slru.{dir_of}
 use Rattle.rel_files.specs.declared.cluster.Cluster.{Cluster}
 use Rattle.xact_status.specs.Status.{status_of}
-use Rattle.xact_status.specs.declared.XidState.{XidState}
-use Rattle.xact_status.specs.declared.XidState.TheVariants.{Committed, NotCommitted, Missing}
 use Rattle.multi_members.specs.Updater.{updater_of}
 use Rattle.liveness.specs.Logs.{Logs}
 use Rattle.liveness.specs.declared.states.Status3.{Status3}
@@ -18,18 +16,12 @@ pub record LogFiles : Type 0 where
   pub members : List ℕ
   pub cluster : Cluster
 
--- whether a transaction of this state is committed, None where the state isn't known
-abbrev pub committed_by : XidState → Option Bool
-committed_by Committed = Some true
-committed_by NotCommitted = Some false
-committed_by Missing = None
-
 -- what the logs in these folders say, where these names are held
 abbrev pub logs_of : Names → LogFiles → Logs
 logs_of names files = record {
   xid_in_range = is_xid_in_range files.cluster;
   multi_in_range = is_multi_in_range files.cluster;
-  committed = λ xid. committed_by (status_of names files.xact xid);
+  status = status_of names files.xact;
   updater = updater_of names files.offsets files.members files.cluster;
 }
 

@@ -1,12 +1,14 @@
-// The table of lives, over the logs in files.
-ghost use Rattle.std.specs.Prelude.{◌≡◌, IfOk};
-ghost use Rattle.outside.specs.Outside.{HasCause, IfTold};
+//! The table of lives, over the logs in files.
+ghost use Rattle.std.specs.Prelude.{◌≡◌};
+ghost use Rattle.outside.specs.Outside.{Asked, Tells};
+ghost use Rattle.rel_files.specs.Faults.{read_fault};
 ghost use Rattle.liveness.specs.LogFiles.{log_files_of, logs_of};
 ghost use Rattle.liveness.specs.Logs.{is_normal};
-ghost use Rattle.liveness.specs.Life.{SaysTrue, UpdateSaysTrue, deleter_judged, inserter_life, judged_by_multi, judged_of, plain, remover_judged};
+ghost use Rattle.liveness.specs.Life.{SaysTrue, UpdateSaysTrue, deleter_judged, inserter_life, judged_by_multi};
+ghost use Rattle.liveness.specs.Life.{judged_of, plain, remover_judged};
 
 use crate::states::{Doubt, Judged, Life, Status3};
-use multi_members::{MultiState, updater};
+use multi_members::{Direct, MultiState, Multixacts};
 use outside::Files;
 use page_layout::Rule;
 use rel_files::{ReadFault, multi_in_range, xid_in_range};
@@ -36,9 +38,9 @@ fn inserter_life<F: Files>(
     logs: &Status3<'_>,
     head: HeapHead,
 ) -> Result<Option<Life>, ReadFault>
-    ensures told { IfOk result (λ life. IfTold (F.held files.old) (λ names. life ≡ inserter_life (logs_of names (log_files_of logs.now)) head)) }
-    ensures same { F.held files.new ≡ F.held files.old }
-    ensures cause { HasCause (F.faults files.old) (F.faults files.new) result }
+    ensures told { Tells F.seen files.old result (λ life names.
+        life ≡ inserter_life (logs_of names (log_files_of logs.now)) head) }
+    ensures asked { Asked F.seen files.old files.new result read_fault }
 {
     let x = head.xmin_seen();
     if head.old_form() {
@@ -71,9 +73,9 @@ fn remover_judged<F: Files>(
     hinted: bool,
     x: u32,
 ) -> Result<Judged, ReadFault>
-    ensures told { IfOk result (λ judged. IfTold (F.held files.old) (λ names. judged ≡ remover_judged (logs_of names (log_files_of logs.now)) hinted x)) }
-    ensures same { F.held files.new ≡ F.held files.old }
-    ensures cause { HasCause (F.faults files.old) (F.faults files.new) result }
+    ensures told { Tells F.seen files.old result (λ judged names.
+        judged ≡ remover_judged (logs_of names (log_files_of logs.now)) hinted x) }
+    ensures asked { Asked F.seen files.old files.new result read_fault }
 {
     let dead = Judged {
         life: Life::Dead,
@@ -107,9 +109,9 @@ fn judged_by_multi<F: Files>(
     logs: &Status3<'_>,
     multi: MultiState,
 ) -> Result<Judged, ReadFault>
-    ensures told { IfOk result (λ judged. IfTold (F.held files.old) (λ names. judged ≡ judged_by_multi (logs_of names (log_files_of logs.now)) multi)) }
-    ensures same { F.held files.new ≡ F.held files.old }
-    ensures cause { HasCause (F.faults files.old) (F.faults files.new) result }
+    ensures told { Tells F.seen files.old result (λ judged names.
+        judged ≡ judged_by_multi (logs_of names (log_files_of logs.now)) multi) }
+    ensures asked { Asked F.seen files.old files.new result read_fault }
 {
     match multi {
         MultiState::Missing => Ok(plain(Life::Broken(Rule::H13))),
@@ -122,14 +124,14 @@ fn judged_by_multi<F: Files>(
 
 // The deleter's part.
 #[tactic(auto, unfolding(crate::specs::Life::deleter_judged))]
-fn deleter_judged<F: Files>(
+fn deleter_judged<F: Multixacts>(
     files: &mut F,
     logs: &Status3<'_>,
     head: HeapHead,
 ) -> Result<Judged, ReadFault>
-    ensures told { IfOk result (λ judged. IfTold (F.held files.old) (λ names. judged ≡ deleter_judged (logs_of names (log_files_of logs.now)) head)) }
-    ensures same { F.held files.new ≡ F.held files.old }
-    ensures cause { HasCause (F.faults files.old) (F.faults files.new) result }
+    ensures told { Tells F.seen files.old result (λ judged names.
+        judged ≡ deleter_judged (logs_of names (log_files_of logs.now)) head) }
+    ensures asked { Asked F.seen files.old files.new result read_fault }
 {
     if head.is_xmax_invalid() || head.locked_only() {
         return Ok(plain(Life::Live));
@@ -140,8 +142,30 @@ fn deleter_judged<F: Files>(
     if !multi_in_range(&logs.cluster, head.xmax) {
         return Ok(plain(Life::Broken(Rule::H10)));
     }
-    let multi = updater(files, logs.offsets, logs.members, &logs.cluster, head.xmax)?;
+    let multi = files.updater(logs.offsets, logs.members, &logs.cluster, head.xmax)?;
     judged_by_multi(files, logs, multi)
+}
+
+/// The same as `life`, of files in which multixacts are looked up: where many tuples are judged, what was
+/// found of the last multixacts can so be remembered.
+#[tactic(auto, unfolding(crate::specs::Life::judged_of))]
+pub fn life_in<F: Multixacts>(
+    files: &mut F,
+    logs: &Status3<'_>,
+    head: &HeapHead,
+) -> Result<Judged, ReadFault>
+    ensures told { Tells F.seen files.old result (λ judged names.
+        judged ≡ judged_of (logs_of names (log_files_of logs.now)) head.now) }
+    ensures says_true { Tells F.seen files.old result (λ judged names.
+        SaysTrue names (log_files_of logs.now) head.now judged.life) }
+    ensures update_says_true { Tells F.seen files.old result (λ judged names.
+        UpdateSaysTrue names (log_files_of logs.now) head.now judged.update) }
+    ensures asked { Asked F.seen files.old files.new result read_fault }
+{
+    match inserter_life(files, logs, *head)? {
+        Some(life) => Ok(plain(life)),
+        None => deleter_judged(files, logs, *head),
+    }
 }
 
 /// Whether the tuple with this header is live, and what deleted or updated it, by these logs.
@@ -165,20 +189,18 @@ fn deleter_judged<F: Files>(
 /// the hints of `access/htup_details.h` are believed, never written.
 ///
 /// `ReadFault` comes only where a file can't be read. It takes no memory.
-#[tactic(auto, unfolding(crate::specs::Life::judged_of))]
 pub fn life<F: Files>(
     files: &mut F,
     logs: &Status3<'_>,
     head: &HeapHead,
 ) -> Result<Judged, ReadFault>
-    ensures told { IfOk result (λ judged. IfTold (F.held files.old) (λ names. judged ≡ judged_of (logs_of names (log_files_of logs.now)) head.now)) }
-    ensures says_true { IfOk result (λ judged. IfTold (F.held files.old) (λ names. SaysTrue (logs_of names (log_files_of logs.now)) head.now judged.life)) }
-    ensures update_says_true { IfOk result (λ judged. IfTold (F.held files.old) (λ names. UpdateSaysTrue (logs_of names (log_files_of logs.now)) head.now judged.update)) }
-    ensures same { F.held files.new ≡ F.held files.old }
-    ensures cause { HasCause (F.faults files.old) (F.faults files.new) result }
+    ensures told { Tells F.seen files.old result (λ judged names.
+        judged ≡ judged_of (logs_of names (log_files_of logs.now)) head.now) }
+    ensures says_true { Tells F.seen files.old result (λ judged names.
+        SaysTrue names (log_files_of logs.now) head.now judged.life) }
+    ensures update_says_true { Tells F.seen files.old result (λ judged names.
+        UpdateSaysTrue names (log_files_of logs.now) head.now judged.update) }
+    ensures asked { Asked F.seen files.old files.new result read_fault }
 {
-    match inserter_life(files, logs, *head)? {
-        Some(life) => Ok(plain(life)),
-        None => deleter_judged(files, logs, *head),
-    }
+    life_in(&mut Direct::new(files), logs, head)
 }

@@ -6,7 +6,8 @@
 #![tactic(auto)]
 
 ghost use Rattle.tuple_head.specs.declared.HeapHead.{HeapHead};
-ghost use Rattle.liveness.specs.Logs.{Logs};
+ghost use Rattle.outside.specs.Outside.{Names};
+ghost use Rattle.liveness.specs.LogFiles.{LogFiles, logs_of};
 ghost use Rattle.liveness.specs.Life.{SaysTrue, UpdateSaysTrue, judged_of, life_of};
 
 mod judge;
@@ -14,13 +15,16 @@ mod states;
 #[cfg(test)]
 mod tests;
 
-pub use judge::life;
+pub use judge::{life, life_in};
 pub use states::{Doubt, ItemState, Judged, Life, Status3};
 
-/// The law of `life`, for all logs and headers: where its table calls a tuple live, the tuple is inserted
-/// and not deleted; where it calls it dead, it isn't; and the update that it names is the transaction
-/// that deleted or updated the tuple. It does nothing.
+/// The law of `life`, for all that logs may hold and all headers: where its table calls a tuple live, the
+/// tuple is inserted and not deleted; where it calls it dead, it isn't; where it says a rule or a doubt, that
+/// is so; and the update that it names is the transaction that deleted or updated the tuple. It does
+/// nothing.
 pub fn life_is_true()
-    ensures life { (logs : Logs) (head : HeapHead) → SaysTrue logs head (life_of logs head) }
-    ensures update { (logs : Logs) (head : HeapHead) → UpdateSaysTrue logs head (judged_of logs head).update }
+    ensures life { (names : Names) (files : LogFiles) (head : HeapHead)
+        → SaysTrue names files head (life_of (logs_of names files) head) }
+    ensures update { (names : Names) (files : LogFiles) (head : HeapHead)
+        → UpdateSaysTrue names files head (judged_of (logs_of names files) head).update }
 {}

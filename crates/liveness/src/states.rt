@@ -1,4 +1,4 @@
-// What is known of an item and of its transactions.
+//! What is known of an item and of its transactions.
 use page_layout::Rule;
 use rel_files::{Cluster, Slru};
 use tuple_head::HeapHead;

@@ -1,7 +1,8 @@
-// Tuples over logs in files in memory.
+//! Tuples over logs in files in memory.
 use crate::Doubt::{U1, U2, U3};
 use crate::Life::{Broken, Dead, Live, Unjudged};
-use crate::{Judged, Life, Status3, life};
+use crate::{Judged, Life, Status3, life, life_in};
+use multi_members::{Answers, Remembering};
 use outside::{MemFiles, Part};
 use page_layout::Rule::{H9, H10, H11, H12, H13};
 use rel_files::{Cluster, Slru};
@@ -292,14 +293,36 @@ fn each_fault_is_handed_on(rt: HostRuntime) -> Result<(), Fail> {
     let alloc = rt.alloc();
     let folders = Folders::new(alloc)?;
     let logs = folders.logs(CLUSTER);
-    // One byte says that 700 committed, eight say where the members are, each of these takes five,
-    // and one says of 712.
-    for call in 1..=26u64 {
+    // One byte says that 700 committed, two numbers say where the members are, these stand in one group,
+    // and one byte says of 712.
+    for call in 1..=6u64 {
         let mut files = updated_under_locks(alloc, 0x55)?;
         files.fail_length(call)?;
         let got = life(&mut files, &logs, &head(700, 5, 0x1000));
-        assert_eq!(rt; got.is_err(), call < 26, "call {call}");
+        assert_eq!(rt; got.is_err(), call < 6, "call {call}");
     }
+    Ok(())
+}
+
+#[test]
+fn a_multixact_is_looked_up_once(rt: HostRuntime) -> Result<(), Fail> {
+    let alloc = rt.alloc();
+    let folders = Folders::new(alloc)?;
+    let logs = folders.logs(CLUSTER);
+    let mut files = updated_under_locks(alloc, 0x55)?;
+    // The first takes five reads, and each other the byte of its inserter and that of 712.
+    files.fail_read(12)?;
+    let mut answers = Answers::new(alloc, logs.offsets, logs.members, &logs.cluster)?;
+    let mut found = Remembering::new(&mut files, &mut answers);
+    for xmin in 700..704u32 {
+        let got = life_in(&mut found, &logs, &head(xmin, 5, 0x1000))?;
+        let want = Judged {
+            life: Dead,
+            update: 712,
+        };
+        assert_eq!(rt; got, want, "{xmin}");
+    }
+    assert_eq!(rt; files.reads(), 11);
     Ok(())
 }
 
@@ -341,8 +364,8 @@ fn fits(xmin: u32, xmax: u32, infomask: u16, life: Life) -> bool {
         Live => !old && is_there(xmin, xmax, infomask),
         Dead => !old && !is_there(xmin, xmax, infomask),
         Unjudged(U1) => old,
-        Broken(H10) => !old && multi && (xmax == 0 || xmax == 712),
-        _ => false,
+        Unjudged(U2 | U3) => false,
+        Broken(rule) => rule == H10 && !old && multi && (xmax == 0 || xmax == 712),
     }
 }
 

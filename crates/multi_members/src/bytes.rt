@@ -1,6 +1,7 @@
-// Numbers in the files of pg_multixact.
-ghost use Rattle.std.specs.Prelude.{◌≡◌, ◌+◌, ◌<◌, IfOk};
-ghost use Rattle.outside.specs.Outside.{HasCause, IfTold};
+//! Numbers in the files of pg_multixact.
+ghost use Rattle.std.specs.Prelude.{◌≡◌, ◌+◌, ◌<◌};
+ghost use Rattle.outside.specs.Outside.{AskedAtMost, Tells};
+ghost use Rattle.rel_files.specs.Faults.{read_fault};
 ghost use Rattle.rel_files.specs.Slru.{dir_of};
 ghost use Rattle.multi_members.specs.Members.{u32_held};
 
@@ -16,21 +17,13 @@ pub fn read_u32<F: Files>(
     place: u16,
 ) -> Result<Option<u32>, ReadFault>
     requires { place + 3 < 8192 }
-    ensures told { IfOk result (λ number. IfTold (F.held files.old) (λ names. number ≡ u32_held names (dir_of folder.now) page place)) }
-    ensures same { F.held files.new ≡ F.held files.old }
-    ensures cause { HasCause (F.faults files.old) (F.faults files.new) result }
+    ensures told { Tells F.seen files.old result (λ number names.
+        number ≡ u32_held names (dir_of folder.now) page place) }
+    ensures asked { AskedAtMost 1 F.seen files.old files.new result read_fault }
 {
-    let Some(a) = folder.byte(files, page, place)? else {
+    let mut bytes = [0u8; 4];
+    if folder.bytes(files, page, place, &mut bytes)? < 4 {
         return Ok(None);
-    };
-    let Some(b) = folder.byte(files, page, place + 1)? else {
-        return Ok(None);
-    };
-    let Some(c) = folder.byte(files, page, place + 2)? else {
-        return Ok(None);
-    };
-    let Some(d) = folder.byte(files, page, place + 3)? else {
-        return Ok(None);
-    };
-    Ok(Some(u32::from_le_bytes([a, b, c, d])))
+    }
+    Ok(Some(u32::from_le_bytes(bytes)))
 }

@@ -1,6 +1,7 @@
-// Where the members of a multixact begin and end.
-ghost use Rattle.std.specs.Prelude.{◌≡◌, IfOk};
-ghost use Rattle.outside.specs.Outside.{HasCause, IfTold};
+//! Where the members of a multixact begin and end.
+ghost use Rattle.std.specs.Prelude.{◌≡◌};
+ghost use Rattle.outside.specs.Outside.{AskedAtMost, Tells};
+ghost use Rattle.rel_files.specs.Faults.{read_fault};
 ghost use Rattle.rel_files.specs.Slru.{dir_of};
 ghost use Rattle.multi_members.specs.Members.{begin_of, end_of, successor};
 
@@ -31,9 +32,9 @@ fn successor(multi: u32) -> u32
 // Where the members of a multixact begin.
 #[tactic(auto, unfolding(crate::specs::Members::offset_of))]
 pub fn begin_of<F: Files>(files: &mut F, offsets: &Slru, multi: u32) -> Result<Edge, ReadFault>
-    ensures told { IfOk result (λ edge. IfTold (F.held files.old) (λ names. edge ≡ begin_of names (dir_of offsets.now) multi)) }
-    ensures same { F.held files.new ≡ F.held files.old }
-    ensures cause { HasCause (F.faults files.old) (F.faults files.new) result }
+    ensures told { Tells F.seen files.old result (λ edge names.
+        edge ≡ begin_of names (dir_of offsets.now) multi) }
+    ensures asked { AskedAtMost 1 F.seen files.old files.new result read_fault }
 {
     let page = multi / OFFSETS_PER_PAGE;
     let place = (multi % OFFSETS_PER_PAGE * 4) as u16;
@@ -51,9 +52,9 @@ pub fn end_of<F: Files>(
     cluster: &Cluster,
     multi: u32,
 ) -> Result<Edge, ReadFault>
-    ensures told { IfOk result (λ edge. IfTold (F.held files.old) (λ names. edge ≡ end_of names (dir_of offsets.now) cluster.now multi)) }
-    ensures same { F.held files.new ≡ F.held files.old }
-    ensures cause { HasCause (F.faults files.old) (F.faults files.new) result }
+    ensures told { Tells F.seen files.old result (λ edge names.
+        edge ≡ end_of names (dir_of offsets.now) cluster.now multi) }
+    ensures asked { AskedAtMost 1 F.seen files.old files.new result read_fault }
 {
     let next = successor(multi);
     if next == cluster.next_multi {

@@ -4,23 +4,33 @@
 //! `access/multixact.h` and `access/transam/multixact.c`.
 #![tactic(auto)]
 
-ghost use Rattle.std.specs.Prelude.{◌≡◌, IfOk, IsTrue};
-ghost use Rattle.outside.specs.Outside.{HasCause, IfTold};
+ghost use Rattle.std.specs.Prelude.{◌≡◌, IsTrue};
+ghost use Rattle.outside.specs.Outside.{AskedAtMost, Tells};
 ghost use Rattle.rel_files.specs.Ranges.{is_multi_in_range};
+ghost use Rattle.rel_files.specs.Faults.{read_fault};
 ghost use Rattle.rel_files.specs.Slru.{dir_of};
 ghost use Rattle.multi_members.specs.Updater.{SaysTrue, updater_of};
 
+mod answers;
 mod bytes;
+mod direct;
 mod edges;
+mod groups;
 mod members;
+mod multixacts;
+mod remembering;
 mod state;
 #[cfg(test)]
 mod tests;
 
+pub use answers::Answers;
+pub use direct::Direct;
 use edges::{Edge, begin_of, end_of};
 use members::first_updater;
+pub use multixacts::Multixacts;
 use outside::Files;
 use rel_files::{Cluster, ReadFault, Slru};
+pub use remembering::Remembering;
 pub use state::MultiState;
 
 /// How many members of one multixact are looked at.
@@ -44,8 +54,8 @@ const MEMBERS_LIMIT: u32 = 65536;
 ///   of the transaction that updates, with which the search ends;
 /// - `NoUpdater`.
 ///
-/// `ReadFault` comes only where a file can't be read. It takes no memory, and asks for at most eight
-/// bytes of `offsets` and five for each member.
+/// `ReadFault` comes only where a file can't be read. It takes no memory. It reads twice of `offsets`, and
+/// of `members` once for 256 members, and anew at the begin of each page.
 #[tactic(auto, unfolding(crate::specs::Updater::updater_of), using(crate::proofs::Law::updater_of_says_true))]
 pub fn updater<F: Files>(
     files: &mut F,
@@ -55,10 +65,11 @@ pub fn updater<F: Files>(
     multi: u32,
 ) -> Result<MultiState, ReadFault>
     requires { IsTrue (is_multi_in_range cluster.now multi) }
-    ensures told { IfOk result (λ state. IfTold (F.held files.old) (λ names. state ≡ updater_of names (dir_of offsets.now) (dir_of members.now) cluster.now multi)) }
-    ensures says_true { IfOk result (λ state. IfTold (F.held files.old) (λ names. SaysTrue names (dir_of offsets.now) (dir_of members.now) cluster.now multi state)) }
-    ensures same { F.held files.new ≡ F.held files.old }
-    ensures cause { HasCause (F.faults files.old) (F.faults files.new) result }
+    ensures told { Tells F.seen files.old result (λ state names.
+        state ≡ updater_of names (dir_of offsets.now) (dir_of members.now) cluster.now multi) }
+    ensures says_true { Tells F.seen files.old result (λ state names.
+        SaysTrue names (dir_of offsets.now) (dir_of members.now) cluster.now multi state) }
+    ensures asked { AskedAtMost 327688 F.seen files.old files.new result read_fault }
 {
     let begin = match begin_of(files, offsets, multi)? {
         Edge::At(number) => number,

@@ -1,15 +1,12 @@
 -- What the objects at the real edge tell: their failures alone.
-use Rattle.std.specs.Prelude.{ℕ, Bool}
+use Rattle.std.specs.Prelude.{ℕ, None, []}
 use Rattle.outside.specs.declared.disk.DiskFiles.{DiskFiles}
+use Rattle.outside.specs.Outside.{Seen}
 use Rattle.outside.specs.declared.out.OutSink.{OutSink}
 
--- how often a call on real files failed
-abbrev pub disk_faults : DiskFiles → ℕ
-disk_faults d = d.faults
-
--- the last failure on real files was a refused allocation
-abbrev pub disk_refused : DiskFiles → Bool
-disk_refused d = d.refused
+-- what real files show of themselves
+abbrev pub disk_seen : DiskFiles → Seen
+disk_seen d = record { held = None; faults = d.faults; refused = d.refused; reads = d.reads; lenders = [] }
 
 -- how often a write to standard output failed
 abbrev pub out_faults : OutSink → ℕ

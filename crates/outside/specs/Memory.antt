@@ -1,60 +1,55 @@
--- What files in memory hold, and which of their calls fail.
-use Rattle.std.specs.Prelude.{ℕ, ◌++◌, [], ◌∷◌, Bool, false, ◌==◌, ◌&&◌, if◌then◌else◌, List, Option, Some, None, Result, string_bytes, find}
-use Rattle.std.specs.Option.{option_map}
-use Rattle.std.specs.Str.{bytes_eq}
+-- What files in memory show, and which of their calls fail.
+use Rattle.std.specs.Prelude.{ℕ, ◌++◌, [], ◌∷◌, false, List, Some, Result}
 use Rattle.outside.specs.declared.files.Part.{Part}
-use Rattle.outside.specs.declared.files.Part.TheVariants.{Segment, Slru}
-use Rattle.outside.specs.declared.memory.Entry.{Entry}
 use Rattle.outside.specs.declared.memory.MemFiles.{MemFiles}
-use Rattle.outside.specs.Counting.{after_call, faults_after}
-use Rattle.outside.specs.Outside.{Names}
-
--- two parts are one
-abbrev pub part_eq : Part → Part → Bool
-part_eq (Segment m) (Segment n) = m == n
-part_eq (Slru m) (Slru n) = m == n
-part_eq _ _ = false
-
--- two names are one
-abbrev pub name_eq : List ℕ → Part → List ℕ → Part → Bool
-name_eq base part base' part' = bytes_eq base base' && part_eq part part'
-
--- these names, but for one, which holds these bytes
-abbrev pub with_file : Names → List ℕ → Part → List ℕ → Names
-with_file names base part bytes = λ base' part'.
-    if name_eq base part base' part' then Some bytes else names base' part'
-
--- an entry has this name
-abbrev pub is_named : List ℕ → Part → Entry → Bool
-is_named base part e = name_eq (string_bytes e.base) e.part base part
-
--- the bytes of the first entry of this name
-abbrev pub look_up : List Entry → List ℕ → Part → Option (List ℕ)
-look_up es base part = option_map (λ e. e.bytes.items) (find (is_named base part) es)
+use Rattle.outside.specs.declared.sure.SureFiles.{SureFiles}
+use Rattle.outside.specs.Counting.{after_call, faults_after, one_more}
+use Rattle.outside.specs.Held.{held_names, no_names, with_file, with_front, without_file}
+use Rattle.outside.specs.Outside.{Names, Seen}
 
 -- what there is to say of files in memory: what they hold, which later calls fail (1 is the next
--- call of that method), and how often a call has failed
+-- call of that method), how often a call has failed, and how often they were read
 pub record FilesState : Type 0 where
   pub held : Names
   pub failing_lengths : List ℕ
   pub failing_reads : List ℕ
   pub faults : ℕ
+  pub reads : ℕ
 
 abbrev pub files_state : MemFiles → FilesState
 files_state m = record {
-  held = look_up m.entries.items;
+  held = held_names m.held;
   failing_lengths = m.failing_lengths;
   failing_reads = m.failing_reads;
   faults = m.faults;
+  reads = m.reads;
 }
 
--- files that hold nothing, with no failure planned and none counted
+-- what they show of themselves: no failure of theirs is a refused allocation
+abbrev pub mem_seen : MemFiles → Seen
+mem_seen m = record {
+  held = Some (files_state m).held;
+  faults = (files_state m).faults;
+  refused = false;
+  reads = (files_state m).reads;
+  lenders = [];
+}
+
+-- files that hold nothing, with no failure planned, and with nothing counted
 abbrev pub no_files : FilesState
-no_files = record { held = λ _ _. None; failing_lengths = []; failing_reads = []; faults = 0 }
+no_files = record { held = no_names; failing_lengths = []; failing_reads = []; faults = 0; reads = 0 }
 
 -- the same files and one more, in place of an earlier one of its name
 abbrev pub after_add : FilesState → List ℕ → Part → List ℕ → FilesState
 after_add s base part bytes = record s { held = with_file s.held base part bytes }
+
+-- the same files, but of one only the first n bytes
+abbrev pub after_cut : FilesState → List ℕ → Part → ℕ → FilesState
+after_cut s base part n = record s { held = with_front s.held base part n }
+
+-- the same files without one
+abbrev pub after_forget : FilesState → List ℕ → Part → FilesState
+after_forget s base part = record s { held = without_file s.held base part }
 
 -- the n-th later call of length is to fail too
 abbrev pub after_fail_length : FilesState → ℕ → FilesState
@@ -72,4 +67,26 @@ after_length s result =
 -- a call of read_at was made, and gave this
 abbrev pub after_read : {T E : Type 0} → FilesState → Result T E → FilesState
 after_read s result =
-    record s { failing_reads = after_call s.failing_reads; faults = faults_after s.faults result }
+    record s {
+      failing_reads = after_call s.failing_reads;
+      faults = faults_after s.faults result;
+      reads = one_more s.reads;
+    }
+
+-- what there is to say of files in memory that never fail: what they hold, and how often they were read
+pub record SureState : Type 0 where
+  pub held : Names
+  pub reads : ℕ
+
+abbrev pub sure_state : SureFiles → SureState
+sure_state s = record { held = held_names s.held; reads = s.reads }
+
+-- what they show of themselves
+abbrev pub sure_seen : SureFiles → Seen
+sure_seen s = record {
+  held = Some (sure_state s).held;
+  faults = 0;
+  refused = false;
+  reads = (sure_state s).reads;
+  lenders = [];
+}

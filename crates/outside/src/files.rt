@@ -1,7 +1,8 @@
 //! Files and a sink, by what they mean.
 ghost use Rattle.std.specs.Prelude.{◌≡◌, ◌+◌, ◌<◌, ◌≤◌, ℕ, Bool, List, Option, length, take, drop, IfOk, IfSome, OnOk, OnErr, IsSomeAnd};
 ghost use Rattle.std.specs.Option.{option_map};
-ghost use Rattle.outside.specs.Outside.{HasCause, Held, IfHeld, IfTold, IsHeldAnd, Rose, appended};
+ghost use Rattle.outside.specs.Counting.{one_more};
+ghost use Rattle.outside.specs.Outside.{AskedAtMost, HasCause, IfHeld, IsHeldAnd, Rose, Seen, Tells, appended, failed};
 
 use std::alloc::{AllocError, AllocFailed};
 use thiserror::Error;
@@ -48,38 +49,37 @@ impl<T: Drop> From<AllocFailed<T>> for NoMemory {
     }
 }
 
-/// Files to read. No call changes what they hold, and each failed call is counted.
+/// Files to read.
 pub trait Files {
-    /// The bytes under each name, where the object tells them.
-    ghost held: { Self → Held };
-
-    /// How often a call failed. It never falls, and stands still at the last value of a `u64`.
-    ghost faults: { Self → ℕ };
-
-    /// The last failure was a refused allocation of the object's own.
-    ghost refused: { Self → Bool };
+    /// What the object shows of itself. `held` are the bytes under each name, where it tells them: no
+    /// call changes them. `faults` counts the calls that failed, and `reads` those of `read_at`,
+    /// answered or failed; both stand still at the last value of a `u64`. `refused` says of the last
+    /// failure whether it was a refused allocation of the object's own, and stays where a call
+    /// succeeds.
+    ghost seen: { Self → Seen };
 
     /// The length of a file in bytes, and None where there is no such file. `Failed` comes only
     /// where the count of faults rose.
     fn length(&mut self, name: FileName<'_>) -> Result<Option<u64>, Failed>
-        ensures answer { IfOk result (λ len. IfTold (held self.old)
-            (λ names. len ≡ option_map length (names name.entry.base.now name.entry.part))) }
-        ensures same { held self.new ≡ held self.old }
-        ensures cause { HasCause (faults self.old) (faults self.new) result };
+        ensures answer { Tells seen self.old result
+            (λ len names. len ≡ option_map length (names name.entry.base.now name.entry.part)) }
+        ensures asked { AskedAtMost 0 seen self.old self.new result failed }
+        ensures passed { OnOk result ((seen self.new).refused ≡ (seen self.old).refused) };
 
     /// Fills `out` with the bytes of a file from byte `at` on, counted from 0. `Failed` comes only
     /// where the count of faults rose; `out` may then hold anything.
     fn read_at(&mut self, name: FileName<'_>, at: u64, out: &mut [u8]) -> Result<(), Failed>
-        requires { IsHeldAnd (held self.old) name.base.now name.part
+        requires { IsHeldAnd seen self.old name.base.now name.part
             (λ bytes. at + length out.old ≤ length bytes) }
-        ensures bytes { OnOk result (IfHeld (held self.old) name.entry.base.now name.entry.part
+        ensures bytes { OnOk result (IfHeld seen self.old name.entry.base.now name.entry.part
             (λ bytes. out.new ≡ take (length out.old) (drop at bytes))) }
-        ensures same { held self.new ≡ held self.old }
-        ensures cause { HasCause (faults self.old) (faults self.new) result };
+        ensures asked { AskedAtMost 1 seen self.old self.new result failed }
+        ensures counted { (seen self.new).reads ≡ one_more (seen self.old).reads }
+        ensures passed { OnOk result ((seen self.new).refused ≡ (seen self.old).refused) };
 
     /// Whether the last failure was a refused allocation of the object's own. It takes no memory.
     fn refused_memory(&self) -> bool
-        ensures { result ≡ refused self.now };
+        ensures { result ≡ (seen self.now).refused };
 }
 
 /// A place to write to. It takes bytes in order, and each failed call is counted.

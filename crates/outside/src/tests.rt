@@ -1,6 +1,6 @@
 //! What no clause says: texts, calls with ample memory, and the real file system.
 use crate::files::{Failed, FileName, Files, Part, Sink};
-use crate::{DiskFiles, MemFiles, MemSink, OutSink, path_of};
+use crate::{DiskFiles, MemFiles, MemSink, OutSink, SureFiles, path_of};
 use std::alloc::{AllocError, Global};
 use std::fs;
 use std::test::Fail;
@@ -93,6 +93,57 @@ fn planned_failures_count_later_calls(rt: HostRuntime) -> Result<(), Fail> {
     );
     assert_eq!(rt; read(&mut files, segment("t", 0), 2, &mut piece), Ok(true));
     assert_eq!(rt; piece, *b"c");
+    Ok(())
+}
+
+#[test]
+fn reads_are_counted_and_lengths_are_not(rt: HostRuntime) -> Result<(), Fail> {
+    let mut files = MemFiles::new(rt.alloc());
+    files.add("t", Part::Segment(0), b"abc")?;
+    files.length(segment("t", 0))?;
+    assert_eq!(rt; files.reads(), 0);
+    files.fail_read(2)?;
+    let mut piece = [0; 1];
+    assert_eq!(rt; read(&mut files, segment("t", 0), 0, &mut piece), Ok(true));
+    assert_eq!(rt; files.reads(), 1);
+    assert_eq!(rt;
+        read(&mut files, segment("t", 0), 0, &mut piece),
+        Err(Failed)
+    );
+    assert_eq!(rt; files.reads(), 2);
+    Ok(())
+}
+
+#[test]
+fn files_in_memory_are_cut_and_forgotten(rt: HostRuntime) -> Result<(), Fail> {
+    let mut files = MemFiles::new(rt.alloc());
+    files.add("t", Part::Segment(0), b"abc")?;
+    files.add("t", Part::Segment(1), b"defg")?;
+    assert!(rt; !files.cut("t", Part::Segment(0), 4));
+    assert!(rt; !files.cut("u", Part::Segment(0), 0));
+    assert!(rt; files.cut("t", Part::Segment(1), 4));
+    assert!(rt; files.cut("t", Part::Segment(0), 2));
+    assert_eq!(rt; files.length(segment("t", 0))?, Some(2));
+    assert_eq!(rt; files.length(segment("t", 1))?, Some(4));
+    assert!(rt; !files.forget("t", Part::Slru(0)));
+    assert!(rt; files.forget("t", Part::Segment(0)));
+    assert!(rt; !files.forget("t", Part::Segment(0)));
+    assert_eq!(rt; files.length(segment("t", 0))?, None);
+    assert_eq!(rt; files.length(segment("t", 1))?, Some(4));
+    Ok(())
+}
+
+#[test]
+fn sure_files_hold_what_was_added_last(rt: HostRuntime) -> Result<(), Fail> {
+    let mut files = SureFiles::new(rt.alloc());
+    files.add("t", Part::Segment(0), b"first")?;
+    files.add("t", Part::Segment(0), b"another one")?;
+    assert_eq!(rt; files.length(segment("t", 0))?, Some(11));
+    assert_eq!(rt; files.length(segment("t", 1))?, None);
+    let mut piece = [0; 3];
+    assert_eq!(rt; read(&mut files, segment("t", 0), 8, &mut piece), Ok(true));
+    assert_eq!(rt; piece, *b"one");
+    assert!(rt; !files.refused_memory());
     Ok(())
 }
 
@@ -233,28 +284,66 @@ fn pages_of_a_real_log_are_kept(rt: HostRuntime) -> Result<(), Fail> {
     Ok(())
 }
 
-// More files than may be open at once, twice over: each that was closed is opened again.
-#[test]
-fn more_real_files_than_stay_open(rt: HostRuntime) -> Result<(), Fail> {
-    fs::create_dir(&rt, "many")?;
-    for number in 0..70u8 {
-        let path = path_of(rt.alloc(), log("many", u32::from(number)))?;
-        fs::write(&rt, path.as_str(), [number].as_slice())?;
+// Makes a log of so many files, each of one byte: its number's rest by 251.
+fn make_log(rt: HostRuntime, base: &str, files: u32) -> Result<(), Fail> {
+    fs::create_dir(&rt, base)?;
+    for number in 0..files {
+        let path = path_of(rt.alloc(), log(base, number))?;
+        fs::write(&rt, path.as_str(), [(number % 251) as u8].as_slice())?;
     }
-    let mut files = DiskFiles::new(rt, rt.alloc());
-    for turn in 0..140u8 {
-        let number = turn % 70;
-        let mut byte = [255];
-        let name = log("many", u32::from(number));
-        assert_eq!(rt; files.read_at(name, 0, &mut byte), Ok(()));
-        assert_eq!(rt; byte, [number]);
-    }
-    for number in 0..70u8 {
-        let path = path_of(rt.alloc(), log("many", u32::from(number)))?;
+    Ok(())
+}
+
+// Lets go of it.
+fn remove_log(rt: HostRuntime, base: &str, files: u32) -> Result<(), Fail> {
+    for number in 0..files {
+        let path = path_of(rt.alloc(), log(base, number))?;
         fs::remove_file(&rt, path.as_str())?;
     }
-    fs::remove_dir(&rt, "many")?;
+    fs::remove_dir(&rt, base)?;
     Ok(())
+}
+
+// More files of a log than stay open, and more than keep their pages, twice over.
+#[test]
+fn more_real_files_than_stay_open(rt: HostRuntime) -> Result<(), Fail> {
+    make_log(rt, "many", 520)?;
+    let mut files = DiskFiles::new(rt, rt.alloc());
+    // Segment 0 of a relation has the folder's own name, which is no file.
+    assert_eq!(rt; files.length(segment("many", 0)), Err(Failed));
+    for _ in 0..2 {
+        for number in 0..520u32 {
+            let mut byte = [255];
+            assert_eq!(rt; files.read_at(log("many", number), 0, &mut byte), Ok(()));
+            assert_eq!(rt; byte, [(number % 251) as u8]);
+        }
+    }
+    remove_log(rt, "many", 520)
+}
+
+// Names without a file, and segments of relations, leave a log's files open and its pages kept: the
+// files are emptied between, and still read.
+#[test]
+fn absent_names_push_no_log_out(rt: HostRuntime) -> Result<(), Fail> {
+    make_log(rt, "few", 100)?;
+    let mut files = DiskFiles::new(rt, rt.alloc());
+    for number in 1..100 {
+        let mut byte = [255];
+        assert_eq!(rt; files.read_at(log("few", number), 0, &mut byte), Ok(()));
+    }
+    for number in 1..1000 {
+        assert_eq!(rt; files.length(segment("few", number)), Ok(None));
+    }
+    for number in 1..100 {
+        let path = path_of(rt.alloc(), log("few", number))?;
+        fs::write(&rt, path.as_str(), b"")?;
+    }
+    for number in 1..100 {
+        let mut byte = [255];
+        assert_eq!(rt; files.read_at(log("few", number), 0, &mut byte), Ok(()));
+        assert_eq!(rt; byte, [number as u8]);
+    }
+    remove_log(rt, "few", 100)
 }
 
 #[test]

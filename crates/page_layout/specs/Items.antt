@@ -22,11 +22,13 @@ abbrev pub has_bad_storage : ℕ → ℕ → ℕ → LinePtr → Bool
 has_bad_storage upper end least p =
     not (p.off % 8 == 0) || nat_lt p.off upper || nat_lt end (p.off + p.len) || nat_lt p.len least
 
--- H1: a normal pointer of a heap page with this upper place, to no place where a tuple with its header of 23 bytes and a byte more can be
+-- H1: a normal pointer of a heap page with this upper place, to no place where a tuple with its header of 23 bytes and
+-- a byte more can be
 unfoldable pub is_misplaced_heap_item : ℕ → LinePtr → Bool
 is_misplaced_heap_item upper p = is_normal p.flag && has_bad_storage upper 8192 24 p
 
--- B5: a pointer of a tree page with this upper place that points to nothing, or to no place where an index tuple with its header of 8 bytes can be
+-- B5: a pointer of a tree page with this upper place that points to nothing, or to no place where an index tuple with
+-- its header of 8 bytes can be
 unfoldable pub is_misplaced_tree_item : ℕ → LinePtr → Bool
 is_misplaced_tree_item upper p = not (is_normal_or_dead p.flag) || has_bad_storage upper 8176 8 p
 

@@ -2,3 +2,4 @@ pub mod Rules
 pub mod Page
 pub mod Items
 pub mod View
+pub mod Writes

@@ -1,5 +1,6 @@
 -- A page is the list of its 8192 bytes: its header, its rules, and its line pointers.
-use Rattle.std.specs.Prelude.{◌≡◌, ℕ, ◌+◌, ◌-◌, ◌*◌, ◌/◌, ◌%◌, ◌<◌, Bool, true, false, not, ◌==◌, ◌&&◌, ◌||◌, ◌⊎◌, nat_le, bit_and, if◌then◌else◌, List, drop, take, Option, Some, None}
+use Rattle.std.specs.Prelude.{◌≡◌, ℕ, ◌+◌, ◌-◌, ◌*◌, ◌/◌, ◌%◌, ◌<◌, Bool, true, false, not, ◌==◌, ◌&&◌, ◌||◌, ◌⊎◌}
+use Rattle.std.specs.Prelude.{nat_le, bit_and, if◌then◌else◌, List, drop, take, Option, Some, None}
 use Rattle.std.specs.List.{list_any}
 use Rattle.byteorder.specs.Endian.{little_number}
 use Rattle.page_layout.specs.declared.rules.Rule.{Rule}
@@ -17,6 +18,14 @@ u16_at bytes at = little_number 2 (drop at bytes)
 
 unfoldable pub u32_at : List ℕ → ℕ → ℕ
 u32_at bytes at = little_number 4 (drop at bytes)
+
+-- the block number in the four bytes at a place: its high half before its low half
+unfoldable pub block_at : List ℕ → ℕ → ℕ
+block_at bytes at = u16_at bytes at * 65536 + u16_at bytes (at + 2)
+
+-- rounded up to a multiple of 8
+abbrev pub max_align : ℕ → ℕ
+max_align len = (len + 7) / 8 * 8
 
 -- a bit of a word is set; of several bits, one of them
 unfoldable pub has_bit : ℕ → ℕ → Bool

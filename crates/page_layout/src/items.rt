@@ -1,6 +1,7 @@
-// Line pointers that point to no place where a tuple can be.
+//! Line pointers that point to no place where a tuple can be.
 ghost use Rattle.std.specs.Prelude.{◌≡◌, false, true};
-ghost use Rattle.page_layout.specs.Items.{HasStorage, has_bad_storage, is_misplaced_heap_item, is_misplaced_tree_item, is_normal, is_normal_or_dead};
+ghost use Rattle.page_layout.specs.Items.{HasStorage, has_bad_storage, is_misplaced_heap_item};
+ghost use Rattle.page_layout.specs.Items.{is_misplaced_tree_item, is_normal, is_normal_or_dead};
 
 use crate::page::{LineFlag, LinePtr};
 

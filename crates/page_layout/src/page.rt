@@ -1,6 +1,9 @@
-// A page of 8192 bytes, seen by its header and its line pointers.
-ghost use Rattle.std.specs.Prelude.{◌≡◌, ◌+◌, ◌*◌, ◌≤◌, ◌↔◌, length, IfSome, IsNone, IsTrue};
-ghost use Rattle.page_layout.specs.Page.{HasItems, IsItem, IsPtr, KeepsPageRules, breaks_page_rule, count_of, has_bad_places, has_good_places, has_items, has_other_version, header_of, is_new, is_new_but_written, is_written, item_of, page_rule_of, piece_of, ptr_of, special_for, u16_at, u32_at};
+//! A page of 8192 bytes, seen by its header and its line pointers.
+ghost use Rattle.std.specs.Prelude.{◌≡◌, ◌+◌, ◌-◌, ◌*◌, ◌≤◌, ◌↔◌, length, IfSome, IsNone, IsTrue};
+ghost use Rattle.page_layout.specs.Page.{HasItems, IsItem, IsPtr, KeepsPageRules, breaks_page_rule, count_of};
+ghost use Rattle.page_layout.specs.Page.{has_bad_places, has_good_places, has_items, has_other_version, header_of};
+ghost use Rattle.page_layout.specs.Page.{is_new, is_new_but_written, is_written, item_of, page_rule_of, piece_of};
+ghost use Rattle.page_layout.specs.Page.{ptr_of, special_for, u16_at, u32_at};
 ghost use Rattle.page_layout.specs.View.{page_bytes};
 
 use crate::numbers::{u16_at, u32_at};
@@ -203,9 +206,22 @@ impl<'p> PageView<'p> {
         (self.u16_at(12) - 24) / 4
     }
 
+    // Where line pointer i stands.
+    #[inline]
+    #[tactic(auto, unfolding(crate::specs::Page::count_of, crate::specs::Page::page_rule_of))]
+    fn item_place(self, i: u16) -> u16
+        requires page { HasItems (page_bytes self) }
+        requires first { 1 ≤ i }
+        requires last { i ≤ count_of (page_bytes self) }
+        ensures place { result ≡ 24 + 4 * (i - 1) }
+        ensures within { result + 4 ≤ 8192 }
+    {
+        24 + (i - 1) * 4
+    }
+
     /// Line pointer i, counted from 1.
     #[inline]
-    #[tactic(auto, unfolding(crate::specs::Page::count_of, crate::specs::Page::page_rule_of, crate::specs::Page::item_of))]
+    #[tactic(auto, unfolding(crate::specs::Page::item_of))]
     pub fn item(self, i: u16) -> LinePtr
         requires page { HasItems (page_bytes self) }
         requires first { 1 ≤ i }
@@ -213,7 +229,7 @@ impl<'p> PageView<'p> {
         ensures equation { IsItem (page_bytes self.entry) i result }
         ensures value { result ≡ item_of (page_bytes self.entry) i }
     {
-        let number = self.u32_at(24 + 4 * (i as usize - 1));
+        let number = self.u32_at(self.item_place(i) as usize);
         line_ptr(number)
     }
 

@@ -1,4 +1,4 @@
-// The rules that a file may break, by the codes that a report prints.
+//! The rules that a file may break, by the codes that a report prints.
 ghost use Rattle.std.specs.Prelude.{◌≡◌};
 ghost use Rattle.page_layout.specs.Rules.{code_of};
 

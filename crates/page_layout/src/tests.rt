@@ -1,5 +1,8 @@
-// Pages as a server writes them, and pages that break one rule each.
-use crate::{LineFlag, LinePtr, PageKind, PageView, Rule, u32_at};
+//! Pages as a server writes them, and pages that break one rule each.
+use crate::{
+    LineFlag, LinePtr, PageKind, PageView, Rule, block_at, max_align, put_block, put_header,
+    put_u16, put_u32, u32_at,
+};
 
 // A heap page of three tuples of 28 bytes.
 fn three_tuples() -> [u8; 8192] {
@@ -104,6 +107,30 @@ fn misplaced_items(rt: HostRuntime) {
             tree,
             "{pointer:?} on a tree page"
         );
+    }
+}
+
+// What is written is what a server writes: a header, line pointers, a block number.
+#[test]
+fn written_bytes(rt: HostRuntime) {
+    let want = three_tuples();
+    let mut page = [0u8; 8192];
+    put_header(&mut page, PageView::new(&want).header());
+    put_u32(&mut page, 24, 0x0038_9fe0);
+    put_u32(&mut page, 28, 0x0038_9fc0);
+    put_u16(&mut page, 32, 0x9fa0);
+    put_u16(&mut page, 34, 0x0038);
+    assert!(rt; page == want);
+    let mut block = [0xffu8; 6];
+    put_block(&mut block, 1, 65538);
+    assert_eq!(rt; block, *b"\xff\x01\0\x02\0\xff");
+    assert_eq!(rt; block_at(&block, 1), 65538);
+}
+
+#[test]
+fn lengths_rounded_up(rt: HostRuntime) {
+    for (len, want) in [(0, 0), (1, 8), (8, 8), (23, 24), (25, 32)] {
+        assert_eq!(rt; max_align(len), want, "at {len}");
     }
 }
 

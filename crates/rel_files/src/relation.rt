@@ -1,7 +1,8 @@
-// A relation in segments.
+//! A relation in segments.
 ghost use Rattle.std.specs.Prelude.{◌≡◌, ◌<◌, ◌≤◌, ◌⊎◌, IfErr, IfOk, IfSome, OnOk};
-ghost use Rattle.outside.specs.Outside.{Causes, HasCause, IfTold};
+ghost use Rattle.outside.specs.Outside.{AskedAtMost, IfTold, Tells};
 ghost use Rattle.rel_files.specs.Blocks.{block_of};
+ghost use Rattle.rel_files.specs.Faults.{read_fault};
 
 use crate::fault::{AttachFault, ReadFault};
 use crate::segments::find_last;
@@ -21,7 +22,7 @@ pub struct Relation {
 }
 
 impl Relation {
-    ghost use Rattle.rel_files.specs.Relation.{FindsFront, IsAttached, IsRefused, IsRelationOf, base_of, count_of, long_of, size_of};
+    ghost use Rattle.rel_files.specs.Relation.{FindsFront, IsAttached, IsPast, IsRefused, IsRelationOf, base_of, count_of, long_of, size_of};
 
     /// Attaches a relation, whose name without a segment's number is `base`. `segment_blocks` is the
     /// number of blocks of a full segment, 1 to 131072 (131072 in a server as it is built by
@@ -47,12 +48,12 @@ impl Relation {
         ensures base { IfOk result (λ r. base_of r ≡ base.now) }
         ensures size { IfOk result (λ r. size_of r ≡ segment_blocks) }
         ensures within { IfOk result (λ r. count_of r ≤ limit) }
-        ensures told { IfOk result (λ r. IfTold (F.held files.old) (λ names.
-            IsRelationOf names base.now segment_blocks limit r)) }
-        ensures refused { IfErr result (λ e. IfTold (F.held files.old) (λ names.
+        ensures told { Tells F.seen files.old result (λ r names.
+            IsRelationOf names base.now segment_blocks limit r) }
+        ensures refused { IfErr result (λ e. IfTold F.seen files.old (λ names.
             IsRefused names base.now segment_blocks limit e)) }
-        ensures same { F.held files.new ≡ F.held files.old }
-        ensures cause { Causes (F.faults files.old) (F.faults files.new) result AttachFault.ReadFault }
+        ensures past { IfErr result (IsPast limit) }
+        ensures asked { AskedAtMost 0 F.seen files.old files.new result AttachFault.ReadFault }
     {
         let Some(last) = find_last(files, base, segment_blocks, limit / segment_blocks)? else {
             return Err(AttachFault::NoFile);
@@ -88,12 +89,11 @@ impl Relation {
         ensures base { IfOk result (λ front. IfSome front (λ r. base_of r ≡ base.now)) }
         ensures size { IfOk result (λ front. IfSome front (λ r. size_of r ≡ segment_blocks)) }
         ensures within { IfOk result (λ front. IfSome front (λ r. count_of r ≤ limit)) }
-        ensures told { IfOk result (λ front. IfTold (F.held files.old) (λ names.
-            FindsFront names base.now segment_blocks limit front)) }
+        ensures told { Tells F.seen files.old result (λ front names.
+            FindsFront names base.now segment_blocks limit front) }
         // Neither NoFile nor TooLarge.
         ensures refused { IfErr result (λ e. e ≡ AttachFault.ReadFault ⊎ e ≡ AttachFault.NoMemory) }
-        ensures same { F.held files.new ≡ F.held files.old }
-        ensures cause { Causes (F.faults files.old) (F.faults files.new) result AttachFault.ReadFault }
+        ensures asked { AskedAtMost 0 F.seen files.old files.new result AttachFault.ReadFault }
     {
         let reach = limit.saturating_sub(1) / segment_blocks;
         let Some(last) = find_last(files, base, segment_blocks, reach)? else {
@@ -130,12 +130,11 @@ impl Relation {
         b: u32,
         out: &mut [u8; 8192],
     ) -> Result<(), ReadFault>
-        requires attached { IfTold (F.held files.old) (λ names. IsAttached names self.now) }
+        requires attached { IfTold F.seen files.old (λ names. IsAttached names self.now) }
         requires below { b < count_of self.now }
-        ensures bytes { OnOk result (IfTold (F.held files.old) (λ names.
+        ensures bytes { OnOk result (IfTold F.seen files.old (λ names.
             out.new ≡ block_of names (base_of self.now) (size_of self.now) b)) }
-        ensures same { F.held files.new ≡ F.held files.old }
-        ensures cause { HasCause (F.faults files.old) (F.faults files.new) result }
+        ensures asked { AskedAtMost 1 F.seen files.old files.new result read_fault }
     {
         let segment = b / self.segment_blocks;
         let place = b % self.segment_blocks;

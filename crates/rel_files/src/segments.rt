@@ -1,7 +1,7 @@
-// The segments of a relation, one after another up to its last.
+//! The segments of a relation, one after another up to its last.
 ghost use Rattle.std.specs.Prelude.{◌≡◌, ◌↔◌, ℕ, suc, ◌+◌, ◌-◌, ◌*◌, ◌/◌, ◌<◌, ◌≤◌, ◌^◌, List, min, length, IfOk, IfSome, Some, None, if◌then◌else◌, nat_lt};
 ghost use Rattle.outside.specs.declared.files.Part.TheVariants.{Segment};
-ghost use Rattle.outside.specs.Outside.{HasCause, IfTold, Names};
+ghost use Rattle.outside.specs.Outside.{AskedAtMost, Names, Tells, failed};
 ghost use Rattle.rel_files.specs.Blocks.{block_of, blocks_below, blocks_of, front_blocks_of, front_long_segment_of, last_segment, long_segment_of, segment_length};
 ghost use Rattle.rel_files.specs.Ends.{IsEnd, IsLong};
 ghost use Rattle.rel_files.specs.Segments.{FindsLast, FindsBlocks};
@@ -17,10 +17,9 @@ pub struct Last {
 
 // The whole blocks of a segment, `None` exactly where it isn't held.
 fn ask<F: Files>(files: &mut F, base: &str, segment: u32) -> Result<Option<u64>, Failed>
-    ensures told { IfOk result (λ found. IfTold (F.held files.old) (λ names.
-        FindsBlocks (names base.now (Segment segment)) found)) }
-    ensures same { F.held files.new ≡ F.held files.old }
-    ensures cause { HasCause (F.faults files.old) (F.faults files.new) result }
+    ensures told { Tells F.seen files.old result (λ found names.
+        FindsBlocks (names base.now (Segment segment)) found) }
+    ensures asked { AskedAtMost 0 F.seen files.old files.new result failed }
 {
     let name = FileName {
         base,
@@ -40,11 +39,10 @@ pub fn find_last<F: Files>(
     segment_blocks: u32,
     reach: u32,
 ) -> Result<Option<Last>, Failed>
-    ensures told { IfOk result (λ last. IfTold (F.held files.old) (λ names.
-        FindsLast names base.now segment_blocks reach last)) }
+    ensures told { Tells F.seen files.old result (λ last names.
+        FindsLast names base.now segment_blocks reach last) }
     ensures within { IfOk result (λ last. IfSome last (λ last. last.segment ≤ reach)) }
-    ensures same { F.held files.new ≡ F.held files.old }
-    ensures cause { HasCause (F.faults files.old) (F.faults files.new) result }
+    ensures asked { AskedAtMost 0 F.seen files.old files.new result failed }
 {
     let Some(first) = ask(files, base, 0)? else {
         return Ok(None);

@@ -1,7 +1,8 @@
-// The files of pg_xact and pg_multixact, byte by byte.
-ghost use Rattle.std.specs.Prelude.{◌≡◌, ◌<◌, IfOk};
-ghost use Rattle.outside.specs.Outside.{HasCause, IfTold};
-ghost use Rattle.rel_files.specs.Bytes.{slru_byte};
+//! The files of pg_xact and pg_multixact, by their bytes.
+ghost use Rattle.std.specs.Prelude.{◌≡◌, ◌+◌, ◌<◌, ◌≤◌, IfOk, length, take};
+ghost use Rattle.outside.specs.Outside.{AskedAtMost, Tells};
+ghost use Rattle.rel_files.specs.Bytes.{HoldsBytes, slru_byte};
+ghost use Rattle.rel_files.specs.Faults.{read_fault};
 
 use crate::fault::ReadFault;
 use outside::{FileName, Files, NoMemory, Part};
@@ -17,7 +18,7 @@ pub struct Slru {
 impl Slru {
     ghost use Rattle.rel_files.specs.Slru.{dir_of};
 
-    /// The files in a folder. `NoMemory` comes only where there is none for the folder's name.
+    /// The files in a folder. It takes memory for the folder's name, and asks no file.
     pub fn new(alloc: Global, dir: &str) -> Result<Slru, NoMemory>
         ensures { IfOk result (λ slru. dir_of slru ≡ dir.now) }
     {
@@ -35,10 +36,39 @@ impl Slru {
         offset: u16,
     ) -> Result<Option<u8>, ReadFault>
         requires { offset < 8192 }
-        ensures byte { IfOk result (λ byte. IfTold (F.held files.old) (λ names.
-            byte ≡ slru_byte names (dir_of self.now) page offset)) }
-        ensures same { F.held files.new ≡ F.held files.old }
-        ensures cause { HasCause (F.faults files.old) (F.faults files.new) result }
+        ensures byte { Tells F.seen files.old result (λ byte names.
+            byte ≡ slru_byte names (dir_of self.now) page offset) }
+        ensures asked { AskedAtMost 1 F.seen files.old files.new result read_fault }
+    {
+        let mut byte = [0u8; 1];
+        if self.bytes(files, page, offset, &mut byte)? == 0 {
+            return Ok(None);
+        }
+        Ok(Some(byte[0]))
+    }
+
+    /// The name of the folder.
+    pub fn dir(&self) -> &str
+        ensures { result.now ≡ dir_of self.now }
+    {
+        self.dir.as_str()
+    }
+
+    /// Reads the bytes from a place of a page on into `out`, at most up to the page's end, for which
+    /// it asks one segment, and gives how many of them are held: those are the first ones, and after
+    /// them `out` is unspecified. `ReadFault` comes only where the files couldn't be read.
+    pub fn bytes<F: Files>(
+        &self,
+        files: &mut F,
+        page: u32,
+        offset: u16,
+        out: &mut [u8],
+    ) -> Result<usize, ReadFault>
+        requires { offset + length out.old ≤ 8192 }
+        ensures count { IfOk result (λ held. held ≤ length out.new) }
+        ensures bytes { Tells F.seen files.old result (λ held names.
+            HoldsBytes names (dir_of self.now) page offset (length out.new) (take held out.new)) }
+        ensures asked { AskedAtMost 1 F.seen files.old files.new result read_fault }
     {
         let name = FileName {
             base: self.dir.as_str(),
@@ -47,11 +77,11 @@ impl Slru {
         let at = (page % 32) as u64 * 8192 + offset as u64;
         match files.length(name)? {
             Some(length) if at < length => {
-                let mut byte = [0u8];
-                files.read_at(name, at, &mut byte)?;
-                Ok(Some(byte[0]))
+                let held = (length - at).min(out.len() as u64) as usize;
+                files.read_at(name, at, &mut out[..held])?;
+                Ok(held)
             }
-            _ => Ok(None),
+            _ => Ok(0),
         }
     }
 }

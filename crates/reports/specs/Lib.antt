@@ -1,3 +1,5 @@
 pub mod Lists
+pub mod LongLists
+pub mod Fields
 pub mod Texts
 pub mod Show

@@ -1,9 +1,7 @@
 -- The text of one page, of a heap and of a tree.
-use Rattle.std.specs.Prelude.{ℕ, zero, suc, ◌+◌, Bool, true, false, ◌==◌, if◌then◌else◌, List, [], ◌++◌, Option, Some, None, codes, decimal, refl}
-use Rattle.std.specs.Int.{to_be_bytes}
-use mir.Syntax.{w16, w32}
+use Rattle.std.specs.Prelude.{ℕ, zero, suc, ◌+◌, Bool, true, false, ◌==◌, if◌then◌else◌, List, [], ◌++◌, Option, Some}
+use Rattle.std.specs.Prelude.{None, codes, refl}
 use Rattle.std.proofs.Common.{◌≡◌, add-one, append-nil, append_assoc}
-use Rattle.hex.specs.Hex.{encode_lower}
 use Rattle.page_layout.specs.Page.{count_of, header_of, is_new, item_of, page_rule_of, piece_of, upper_of}
 use Rattle.page_layout.specs.Items.{is_misplaced_heap_item, is_misplaced_tree_item}
 use Rattle.page_layout.specs.Rules.{code_of}
@@ -23,27 +21,10 @@ use Rattle.bt_meta.specs.declared.records.HeadKind.TheVariants.{Pivot, Plain, Po
 use Rattle.bt_meta.specs.declared.records.Meta.{Meta}
 use Rattle.bt_meta.specs.declared.records.Opaque.{Opaque}
 use Rattle.bt_meta.specs.declared.records.TreeHead.{TreeHead}
-use Rattle.reports.specs.Texts.{tid_text}
+use Rattle.reports.specs.Fields.{decimal_field, hex_field, long_hex_field, tid_text}
 
--- the four lower-case hexadecimal digits of a word, and the eight of a number of 32 bits
-unfoldable pub hex_word : ℕ → List ℕ
-hex_word n = encode_lower (to_be_bytes w16 n)
-
-unfoldable pub hex_number : ℕ → List ℕ
-hex_number n = encode_lower (to_be_bytes w32 n)
-
--- a name, and a number after it: in decimal, as a word of four hexadecimal digits, or as eight
-unfoldable pub decimal_field : List ℕ → ℕ → List ℕ
-decimal_field name n = name ++ decimal n
-
-unfoldable pub hex_field : List ℕ → ℕ → List ℕ
-hex_field name n = name ++ hex_word n
-
-unfoldable pub long_hex_field : List ℕ → ℕ → List ℕ
-long_hex_field name n = name ++ hex_number n
-
--- what is printed of a page, by the first page rule that it breaks, whether it is new, and the lines that show what it holds, which
--- are printed only of a page that keeps the page rules and was laid out
+-- what is printed of a page, by the first page rule that it breaks, whether it is new, and the lines that show what it
+-- holds, which are printed only of a page that keeps the page rules and was laid out
 unfoldable pub page_text : Option Rule → Bool → List ℕ → List ℕ
 page_text (Some rule) new lines = codes "page rule " ++ code_of rule ++ codes "\n"
 page_text None true lines = codes "page new\n"
@@ -64,8 +45,9 @@ storage_text p = decimal_field (codes " off ") p.off ++ decimal_field (codes " l
 unfoldable pub heap_header_line : PageHeader → List ℕ
 heap_header_line header =
     decimal_field (codes "page lsn ") header.lsn_high ++ decimal_field (codes " ") header.lsn_low
-    ++ decimal_field (codes " checksum ") header.checksum ++ hex_field (codes " flags ") header.flags ++ places_text header
-    ++ hex_field (codes " version ") header.version ++ decimal_field (codes " prune ") header.prune_xid ++ codes "\n"
+    ++ decimal_field (codes " checksum ") header.checksum ++ hex_field (codes " flags ") header.flags
+    ++ places_text header ++ hex_field (codes " version ") header.version
+    ++ decimal_field (codes " prune ") header.prune_xid ++ codes "\n"
 
 unfoldable pub tuple_text : HeapHead → List ℕ
 tuple_text head =
@@ -117,7 +99,7 @@ kind_word Posting = codes "posting"
 
 unfoldable pub tree_head_text : TreeHead → List ℕ
 tree_head_text head =
-    decimal_field (codes " tid ") head.block ++ decimal_field (codes " ") head.item ++ hex_field (codes " info ") head.info
+    codes " tid " ++ tid_text (record { block = head.block; item = head.item }) ++ hex_field (codes " info ") head.info
     ++ codes " " ++ kind_word head.kind
 
 -- a killed item has a dead line pointer
@@ -172,7 +154,8 @@ pub heap_items_text-none : (page : List ℕ) → heap_items_text page 0 ≡ []
 unfolding heap_items_text
 heap_items_text-none page = refl
 
-pub heap_items_text-next : (page : List ℕ) (n : ℕ) → heap_items_text page (n + 1) ≡ heap_items_text page n ++ heap_item_line page (n + 1) (item_of page (n + 1))
+pub heap_items_text-next : (page : List ℕ) (n : ℕ)
+    → heap_items_text page (n + 1) ≡ heap_items_text page n ++ heap_item_line page (n + 1) (item_of page (n + 1))
 unfolding heap_items_text
 heap_items_text-next page n = rw add-one refl
 
@@ -180,8 +163,10 @@ pub tree_items_text-none : (page : List ℕ) → tree_items_text page 0 ≡ []
 unfolding tree_items_text
 tree_items_text-none page = refl
 
-pub tree_items_text-next : (page : List ℕ) (n : ℕ) → tree_items_text page (n + 1) ≡ tree_items_text page n ++ tree_item_line page (n + 1) (item_of page (n + 1))
+pub tree_items_text-next : (page : List ℕ) (n : ℕ)
+    → tree_items_text page (n + 1) ≡ tree_items_text page n ++ tree_item_line page (n + 1) (item_of page (n + 1))
 unfolding tree_items_text
 tree_items_text-next page n = rw add-one refl
 
-pub ruleset items_laws = (heap_items_text-none, heap_items_text-next, tree_items_text-none, tree_items_text-next, append-nil, append_assoc)
+pub ruleset items_laws =
+    (heap_items_text-none, heap_items_text-next, tree_items_text-none, tree_items_text-next, append-nil, append_assoc)

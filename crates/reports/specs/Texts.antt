@@ -1,8 +1,9 @@
 -- The text of a report.
-use Rattle.std.specs.Prelude.{ℕ, List, [], ◌∷◌, ◌++◌, length, take, codes, decimal}
+use Rattle.std.specs.Prelude.{ℕ, List, [], ◌∷◌, ◌++◌, length, codes, decimal}
 use Rattle.std.specs.List.{flat_map}
-use Rattle.key_orders.specs.declared.Tid.{Tid}
 use Rattle.page_layout.specs.Rules.{code_of}
+use Rattle.reports.specs.LongLists.{first_part}
+use Rattle.reports.specs.Fields.{decimal_field, tid_text}
 use Rattle.reports.specs.declared.places.Rel.{Rel}
 use Rattle.reports.specs.declared.places.Rel.TheVariants.{Heap, Map, Toast, Index}
 use Rattle.reports.specs.declared.places.Place.{Place}
@@ -18,23 +19,19 @@ unfoldable pub rel_text : Rel → List ℕ
 rel_text Heap = codes "heap"
 rel_text Map = codes "map"
 rel_text Toast = codes "toast"
-rel_text (Index n) = codes "index " ++ decimal n
-
--- a block and an item
-unfoldable pub tid_text : Tid → List ℕ
-tid_text tid = decimal tid.block ++ codes " " ++ decimal tid.item
+rel_text (Index n) = decimal_field (codes "index ") n
 
 abbrev pub block_text : Rel → ℕ → List ℕ
-block_text rel block = rel_text rel ++ codes " block " ++ decimal block
+block_text rel block = rel_text rel ++ decimal_field (codes " block ") block
 
 abbrev pub item_text : Rel → ℕ → ℕ → List ℕ
-item_text rel block item = block_text rel block ++ codes " item " ++ decimal item
+item_text rel block item = block_text rel block ++ decimal_field (codes " item ") item
 
 unfoldable pub place_text : Place → List ℕ
-place_text (Segment rel segment) = rel_text rel ++ codes " segment " ++ decimal segment
+place_text (Segment rel segment) = rel_text rel ++ decimal_field (codes " segment ") segment
 place_text (Block rel block) = block_text rel block
 place_text (Item rel block item) = item_text rel block item
-place_text (Column block item column) = item_text Heap block item ++ codes " column " ++ decimal column
+place_text (Column block item column) = item_text Heap block item ++ decimal_field (codes " column ") column
 place_text (Tuple index tid) = rel_text (Index index) ++ codes " tuple " ++ tid_text tid
 place_text (Entry index block item tid) = item_text (Index index) block item ++ codes " tid " ++ tid_text tid
 
@@ -71,5 +68,5 @@ counts_text findings unjudged verdict =
 -- the first thousand lines of each kind, and the counts of all
 unfoldable pub report_text : List Finding → List UnjudgedPlace → List ℕ
 report_text fs us =
-    flat_map finding_line (take 1000 fs) ++ flat_map unjudged_line (take 1000 us)
+    flat_map finding_line (first_part fs) ++ flat_map unjudged_line (first_part us)
     ++ counts_text (length fs) (length us) (verdict_of fs us)

@@ -1,4 +1,4 @@
-// Why a file of the case can't be judged at all.
+//! Why a file of the case can't be judged at all.
 ghost use Rattle.std.specs.Prelude.{◌≡◌};
 ghost use Rattle.reports.specs.declared.fault.CheckFault.TheVariants as fault;
 

@@ -1,13 +1,12 @@
-// The text of one heap page.
+//! The text of one heap page.
 ghost use Rattle.std.specs.Prelude.{◌≡◌, ◌++◌, ◌≤◌, IfOk, OnOk};
 ghost use Rattle.page_layout.specs.Page.{HasItems, count_of, is_new};
 ghost use Rattle.page_layout.specs.View.{page_bytes};
-ghost use Rattle.reports.specs.Show.{heap_header_line, heap_item_line, heap_items_text, heap_lines, heap_page_text, heap_pointer_text, heap_storage_text, tuple_text};
+ghost use Rattle.reports.specs.Show.{heap_header_line, heap_item_line, heap_items_text, heap_lines, heap_page_text};
+ghost use Rattle.reports.specs.Show.{heap_pointer_text, heap_storage_text, tuple_text};
 
-use crate::page_parts::{
-    push_decimal_field, push_hex_field, push_item_rule, push_page_rule, push_places, push_storage,
-};
-use crate::texts::push_tid;
+use crate::fields::{push_decimal_field, push_hex_field, push_tid};
+use crate::page_parts::{push_item_rule, push_page_rule, push_places, push_storage};
 use key_orders::Octets;
 use outside::NoMemory;
 use page_layout::{LineFlag, LinePtr, PageHeader, PageKind, PageView, Rule};
@@ -65,7 +64,8 @@ fn push_heap_header(text: &mut Octets, header: PageHeader) -> Result<(), NoMemor
 #[tactic(auto, using(crate::specs::Show::items_laws))]
 fn push_heap_items(text: &mut Octets, page: PageView<'_>) -> Result<(), NoMemory>
     requires { HasItems (page_bytes page) }
-    ensures { OnOk result (text.new ≡ text.old ++ heap_items_text (page_bytes page.entry) (count_of (page_bytes page.entry))) }
+    ensures { OnOk result (text.new ≡ text.old
+        ++ heap_items_text (page_bytes page.entry) (count_of (page_bytes page.entry))) }
 {
     for k in 0..page.item_count() {
         push_heap_item(text, page, k + 1, page.item(k + 1))?;

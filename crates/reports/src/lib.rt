@@ -3,7 +3,10 @@
 #![tactic(auto)]
 
 mod fault;
+mod fields;
+mod ghost_list;
 mod heap_page;
+mod long_list;
 mod page_parts;
 mod places;
 mod report;
@@ -15,6 +18,7 @@ mod texts;
 mod tree_page;
 
 pub use fault::{CheckFault, Which};
+pub use fields::push_tid;
 pub use heap_page::show_heap;
 pub use places::{Finding, Place, Reason, Rel, UnjudgedPlace, Verdict};
 pub use report::Report;

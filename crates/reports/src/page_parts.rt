@@ -1,58 +1,12 @@
-// What the texts of heap pages and of tree pages have in common.
+//! What the texts of heap pages and of tree pages have in common.
 ghost use Rattle.std.specs.Prelude.{◌≡◌, ◌++◌, OnOk, codes};
 ghost use Rattle.page_layout.specs.Rules.{code_of};
-ghost use Rattle.reports.specs.Show.{decimal_field, hex_field, hex_number, hex_word, long_hex_field, places_text, storage_text};
+ghost use Rattle.reports.specs.Show.{places_text, storage_text};
 
+use crate::fields::push_decimal_field;
 use key_orders::Octets;
 use outside::NoMemory;
 use page_layout::{LinePtr, PageHeader, Rule};
-
-// The four hexadecimal digits of a word.
-#[tactic(auto, unfolding(crate::specs::Show::hex_word))]
-fn hex_word(n: u16) -> [u8; 4]
-    ensures { result ≡ hex_word n }
-{
-    let mut digits = [0u8; 4];
-    hex::encode_to_slice(n.to_be_bytes(), &mut digits).unwrap();
-    digits
-}
-
-// The eight hexadecimal digits of a number.
-#[tactic(auto, unfolding(crate::specs::Show::hex_number))]
-fn hex_number(n: u32) -> [u8; 8]
-    ensures { result ≡ hex_number n }
-{
-    let mut digits = [0u8; 8];
-    hex::encode_to_slice(n.to_be_bytes(), &mut digits).unwrap();
-    digits
-}
-
-// A name and a number after it, in decimal.
-#[tactic(auto, unfolding(crate::specs::Show::decimal_field))]
-pub fn push_decimal_field(text: &mut Octets, name: &[u8], n: u32) -> Result<(), NoMemory>
-    ensures { OnOk result (text.new ≡ text.old ++ decimal_field name.now n) }
-{
-    text.push_slice(name)?;
-    text.push_decimal(n as u64)
-}
-
-// A name and a word after it, in hexadecimal.
-#[tactic(auto, unfolding(crate::specs::Show::hex_field))]
-pub fn push_hex_field(text: &mut Octets, name: &[u8], n: u16) -> Result<(), NoMemory>
-    ensures { OnOk result (text.new ≡ text.old ++ hex_field name.now n) }
-{
-    text.push_slice(name)?;
-    text.push_slice(&hex_word(n))
-}
-
-// A name and a number after it, in hexadecimal.
-#[tactic(auto, unfolding(crate::specs::Show::long_hex_field))]
-pub fn push_long_hex_field(text: &mut Octets, name: &[u8], n: u32) -> Result<(), NoMemory>
-    ensures { OnOk result (text.new ≡ text.old ++ long_hex_field name.now n) }
-{
-    text.push_slice(name)?;
-    text.push_slice(&hex_number(n))
-}
 
 // The line of a page that breaks a page rule.
 pub fn push_page_rule(text: &mut Octets, rule: Rule) -> Result<(), NoMemory>

@@ -1,4 +1,4 @@
-// What a report lists, and where.
+//! What a report lists, and where.
 use key_orders::Tid;
 use page_layout::Rule;
 

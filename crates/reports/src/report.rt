@@ -1,7 +1,8 @@
-// A report: the findings, and the places that can't be judged.
-ghost use Rattle.std.specs.Prelude.{◌≡◌, ◌++◌, [], ◌∷◌, length, take, IfOk, OnOk, OnErr};
+//! A report: the findings, and the places that can't be judged.
+ghost use Rattle.std.specs.Prelude.{◌≡◌, ◌+◌, ◌≤◌, ◌^◌, ◌⊎◌, ◌++◌, [], ◌∷◌, length, IfOk, OnOk, OnErr};
 ghost use Rattle.reports.specs.Texts.{report_text, verdict_of};
 
+use crate::long_list::LongList;
 use crate::places::{Finding, Place, Reason, UnjudgedPlace, Verdict};
 use crate::texts::{push_counts, push_findings, push_unjudged_places, verdict_by};
 use key_orders::Octets;
@@ -9,15 +10,13 @@ use outside::NoMemory;
 use std::alloc::Global;
 use std::marker::Model;
 
-// How many lines of each kind are printed.
-const PRINTED_LINES: usize = 1000;
-
 /// All findings and all places that can't be judged, each in the order in which they came. Contracts
-/// see the two lists. It keeps its allocator.
+/// see the two lists. Of each it stores what is printed and the count, so its memory is bounded. It
+/// keeps its allocator.
 #[derive(Drop)]
 pub struct Report {
-    findings: Vec<Finding>,
-    unjudged: Vec<UnjudgedPlace>,
+    findings: LongList<Finding>,
+    unjudged: LongList<UnjudgedPlace>,
 }
 
 impl Model for Report {
@@ -25,7 +24,7 @@ impl Model for Report {
 
     ghost Value = { Lists };
 
-    ghost view = { λ r. record { findings = r.findings.items; unjudged = r.unjudged.items } };
+    ghost view = { λ r. record { findings = r.findings; unjudged = r.unjudged } };
 }
 
 impl Report {
@@ -34,8 +33,8 @@ impl Report {
         ensures { result ≡ record { findings = []; unjudged = [] } }
     {
         Report {
-            findings: Vec::new(alloc),
-            unjudged: Vec::new(alloc),
+            findings: LongList::new(alloc),
+            unjudged: LongList::new(alloc),
         }
     }
 
@@ -50,10 +49,36 @@ impl Report {
 
     /// Adds a place that can't be judged at the end; after `NoMemory` nothing changed.
     pub fn unjudged(&mut self, reason: Reason, place: Place) -> Result<(), NoMemory>
-        ensures ok { OnOk result (self.new ≡ record self.old { unjudged = self.old.unjudged ++ record { reason = reason; place = place } ∷ [] }) }
+        ensures ok { OnOk result (self.new ≡ record self.old {
+          unjudged = self.old.unjudged ++ record { reason = reason; place = place } ∷ [];
+        }) }
         ensures err { OnErr result (self.new ≡ self.old) }
     {
         self.unjudged.push(UnjudgedPlace { reason, place })?;
+        Ok(())
+    }
+
+    /// Puts all that another report holds after what is there, without taking memory. It answers
+    /// `NoMemory` only where a count would pass 2^64 - 1, and then nothing changed.
+    pub fn append(&mut self, other: Report) -> Result<(), NoMemory>
+        ensures ok { OnOk result (self.new ≡ record {
+          findings = self.old.findings ++ other.findings;
+          unjudged = self.old.unjudged ++ other.unjudged;
+        }) }
+        ensures err { OnErr result (self.new ≡ self.old) }
+        ensures full { OnErr result (
+            (2 ^ 64 ≤ length self.old.findings + length other.findings)
+            ⊎ (2 ^ 64 ≤ length self.old.unjudged + length other.unjudged)) }
+    {
+        let Report { findings, unjudged } = other;
+        if self.findings.count() > u64::MAX - findings.count() {
+            return Err(NoMemory);
+        }
+        if self.unjudged.count() > u64::MAX - unjudged.count() {
+            return Err(NoMemory);
+        }
+        self.findings.append(findings);
+        self.unjudged.append(unjudged);
         Ok(())
     }
 
@@ -61,14 +86,15 @@ impl Report {
     pub fn counts(&self) -> (u64, u64)
         ensures { result ≡ record { 0 = length self.now.findings; 1 = length self.now.unjudged } }
     {
-        (self.findings.len() as u64, self.unjudged.len() as u64)
+        (self.findings.count(), self.unjudged.count())
     }
 
     /// The verdict: findings come before what can't be judged.
+    #[tactic(auto, using(crate::proofs::FirstParts::verdict_by_first_part))]
     pub fn verdict(&self) -> Verdict
         ensures { result ≡ verdict_of self.now.findings self.now.unjudged }
     {
-        verdict_by(&self.findings, &self.unjudged)
+        verdict_by(self.findings.first(), self.unjudged.first())
     }
 
     /// The text of the report: a line for each finding, then one for each place that can't be
@@ -78,17 +104,9 @@ impl Report {
         ensures { IfOk result (λ text. text ≡ report_text self.now.findings self.now.unjudged) }
     {
         let mut text = Octets::new(alloc);
-        push_findings(&mut text, first_of(&self.findings, PRINTED_LINES))?;
-        push_unjudged_places(&mut text, first_of(&self.unjudged, PRINTED_LINES))?;
+        push_findings(&mut text, self.findings.first())?;
+        push_unjudged_places(&mut text, self.unjudged.first())?;
         push_counts(&mut text, self.counts(), self.verdict())?;
         Ok(text)
     }
-}
-
-// The first n, or all where there are fewer.
-#[tactic(auto, using(std::proofs::lemmas::List::take_all))]
-fn first_of<T>(all: &[T], n: usize) -> &[T]
-    ensures { result.now ≡ take n all.now }
-{
-    if all.len() <= n { all } else { &all[..n] }
 }

@@ -1,4 +1,4 @@
-// The texts of single pages.
+//! The texts of single pages.
 use crate::tests::expect_text;
 use crate::{show_heap, show_tree};
 use page_layout::PageView;

@@ -1,4 +1,4 @@
-// The texts of reports, line by line.
+//! The texts of reports, line by line.
 use crate::{CheckFault, Finding, Place, Reason, Rel, Report, Verdict, Which};
 use key_orders::{Octets, Tid};
 use outside::{Failed, NoMemory};
@@ -100,6 +100,37 @@ fn a_thousand_lines_are_printed(rt: HostRuntime) -> Result<(), Fail> {
     let last =
         b"\nunjudged U1 heap block 999 item 1\nfindings 1001 unjudged 1002\nverdict findings\n";
     assert!(rt; bytes.ends_with(last));
+    Ok(())
+}
+
+// Adds a finding at each block, and a place that can't be judged at every tenth.
+fn add_blocks(report: &mut Report, blocks: u32) -> Result<(), NoMemory> {
+    for block in 0..blocks {
+        report.finding(Finding {
+            rule: Rule::P1,
+            place: Place::Block(Rel::Toast, block),
+        })?;
+        if block % 10 == 0 {
+            report.unjudged(Reason::U1, Place::Item(Rel::Heap, block, 1))?;
+        }
+    }
+    Ok(())
+}
+
+#[test]
+fn reports_are_joined(rt: HostRuntime) -> Result<(), Fail> {
+    let mut joined = Report::new(rt.alloc());
+    let mut whole = Report::new(rt.alloc());
+    for blocks in [0, 3, 0, 996, 2, 2000] {
+        let mut part = Report::new(rt.alloc());
+        add_blocks(&mut part, blocks)?;
+        joined.append(part)?;
+        add_blocks(&mut whole, blocks)?;
+        assert_eq!(rt; joined.counts(), whole.counts());
+        let want = whole.text(rt.alloc())?;
+        assert_eq!(rt; joined.text(rt.alloc())?.as_slice(), want.as_slice());
+    }
+    assert_eq!(rt; joined.counts(), (3001, 302));
     Ok(())
 }
 

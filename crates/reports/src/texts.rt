@@ -1,19 +1,13 @@
-// The lines of a report, put at the end of a text piece by piece.
-ghost use Rattle.std.specs.Prelude.{◌≡◌, ◌++◌, [], ◌∷◌, decimal, OnOk};
+//! The lines of a report, put at the end of a text piece by piece.
+ghost use Rattle.std.specs.Prelude.{◌≡◌, ◌++◌, OnOk};
 ghost use Rattle.std.specs.List.{flat_map};
-ghost use Rattle.reports.specs.Texts.{counts_text, finding_line, item_text, place_text, reason_code, rel_text, tid_text, unjudged_line, verdict_of, verdict_word};
+ghost use Rattle.reports.specs.Texts.{counts_text, finding_line, item_text, place_text, reason_code, rel_text};
+ghost use Rattle.reports.specs.Texts.{unjudged_line, verdict_of, verdict_word};
 
+use crate::fields::{push_decimal_field, push_tid};
 use crate::places::{Finding, Place, Reason, Rel, UnjudgedPlace, Verdict};
-use key_orders::{Octets, Tid};
+use key_orders::Octets;
 use outside::NoMemory;
-
-// A word and a number after it.
-fn push_numbered(text: &mut Octets, word: &[u8], n: u32) -> Result<(), NoMemory>
-    ensures { OnOk result (text.new ≡ text.old ++ (word.now ++ decimal n)) }
-{
-    text.push_slice(word)?;
-    text.push_decimal(n as u64)
-}
 
 // The name of a relation.
 #[tactic(auto, unfolding(crate::specs::Texts::rel_text))]
@@ -24,17 +18,8 @@ fn push_rel(text: &mut Octets, rel: Rel) -> Result<(), NoMemory>
         Rel::Heap => text.push_slice(b"heap"),
         Rel::Map => text.push_slice(b"map"),
         Rel::Toast => text.push_slice(b"toast"),
-        Rel::Index(n) => push_numbered(text, b"index ", n as u32),
+        Rel::Index(n) => push_decimal_field(text, b"index ", n as u32),
     }
-}
-
-// A block and an item, with a space between them.
-#[tactic(auto, unfolding(crate::specs::Texts::tid_text))]
-pub fn push_tid(text: &mut Octets, tid: Tid) -> Result<(), NoMemory>
-    ensures { OnOk result (text.new ≡ text.old ++ tid_text tid) }
-{
-    text.push_decimal(tid.block as u64)?;
-    push_numbered(text, b" ", tid.item as u32)
 }
 
 // The block and the item of a relation.
@@ -42,8 +27,8 @@ fn push_item(text: &mut Octets, rel: Rel, block: u32, item: u16) -> Result<(), N
     ensures { OnOk result (text.new ≡ text.old ++ item_text rel block item) }
 {
     push_rel(text, rel)?;
-    push_numbered(text, b" block ", block)?;
-    push_numbered(text, b" item ", item as u32)
+    push_decimal_field(text, b" block ", block)?;
+    push_decimal_field(text, b" item ", item as u32)
 }
 
 // A place, from its relation to the smallest part that is meant.
@@ -54,16 +39,16 @@ fn push_place(text: &mut Octets, place: Place) -> Result<(), NoMemory>
     match place {
         Place::Segment(rel, segment) => {
             push_rel(text, rel)?;
-            push_numbered(text, b" segment ", segment)
+            push_decimal_field(text, b" segment ", segment)
         }
         Place::Block(rel, block) => {
             push_rel(text, rel)?;
-            push_numbered(text, b" block ", block)
+            push_decimal_field(text, b" block ", block)
         }
         Place::Item(rel, block, item) => push_item(text, rel, block, item),
         Place::Column(block, item, column) => {
             push_item(text, Rel::Heap, block, item)?;
-            push_numbered(text, b" column ", column as u32)
+            push_decimal_field(text, b" column ", column as u32)
         }
         Place::Tuple(index, tid) => {
             push_rel(text, Rel::Index(index))?;

@@ -1,15 +1,15 @@
-// The text of one page of a B-tree index.
+//! The text of one page of a B-tree index.
 ghost use Rattle.std.specs.Prelude.{◌≡◌, ◌++◌, ◌≤◌, IfOk, OnOk};
 ghost use Rattle.page_layout.specs.Page.{HasItems, count_of};
 ghost use Rattle.page_layout.specs.View.{page_bytes};
-ghost use Rattle.reports.specs.Show.{flag_word, kind_word, meta_line, metapage_text, node_text, tree_head_text, tree_header_line, tree_item_line, tree_items_text, tree_lines, tree_page_text, tree_pointer_text};
+ghost use Rattle.reports.specs.Show.{flag_word, kind_word, meta_line, metapage_text, node_text, tree_head_text};
+ghost use Rattle.reports.specs.Show.{tree_header_line, tree_item_line, tree_items_text, tree_lines, tree_page_text};
+ghost use Rattle.reports.specs.Show.{tree_pointer_text};
 
-use crate::page_parts::{
-    push_decimal_field, push_hex_field, push_item_rule, push_long_hex_field, push_page_rule,
-    push_places, push_storage,
-};
+use crate::fields::{push_decimal_field, push_hex_field, push_long_hex_field, push_tid};
+use crate::page_parts::{push_item_rule, push_page_rule, push_places, push_storage};
 use bt_meta::{HeadKind, Meta, Opaque, TreeHead, is_idle, meta, opaque, tree_head};
-use key_orders::Octets;
+use key_orders::{Octets, Tid};
 use outside::NoMemory;
 use page_layout::{LineFlag, LinePtr, PageHeader, PageKind, PageView, Rule};
 use std::alloc::Global;
@@ -101,7 +101,8 @@ fn push_tree_header(text: &mut Octets, special: Opaque, header: PageHeader) -> R
 #[tactic(auto, using(crate::specs::Show::items_laws))]
 fn push_tree_items(text: &mut Octets, page: PageView<'_>) -> Result<(), NoMemory>
     requires { HasItems (page_bytes page) }
-    ensures { OnOk result (text.new ≡ text.old ++ tree_items_text (page_bytes page.entry) (count_of (page_bytes page.entry))) }
+    ensures { OnOk result (text.new ≡ text.old
+        ++ tree_items_text (page_bytes page.entry) (count_of (page_bytes page.entry))) }
 {
     for k in 0..page.item_count() {
         push_tree_item(text, page, k + 1, page.item(k + 1))?;
@@ -157,8 +158,12 @@ fn flag_word(flag: LineFlag) -> &'static [u8]
 fn push_tree_head(text: &mut Octets, head: TreeHead) -> Result<(), NoMemory>
     ensures { OnOk result (text.new ≡ text.old ++ tree_head_text head) }
 {
-    push_decimal_field(text, b" tid ", head.block)?;
-    push_decimal_field(text, b" ", head.item as u32)?;
+    let tid = Tid {
+        block: head.block,
+        item: head.item,
+    };
+    text.push_slice(b" tid ")?;
+    push_tid(text, tid)?;
     push_hex_field(text, b" info ", head.info)?;
     text.push_slice(b" ")?;
     text.push_slice(kind_word(head.kind))

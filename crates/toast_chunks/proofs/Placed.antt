@@ -5,9 +5,10 @@ use Rattle.std.specs.Option.{option_copied}
 use Rattle.std.proofs.lemmas.Bool.{eqb-true, ltb-false, not-false, true≢false}
 use Rattle.page_layout.specs.Page.{item_of}
 use Rattle.tuple_head.specs.declared.HeapHead.{HeapHead}
-use Rattle.toast_chunks.specs.Stored.{HasRow, content_at, content_of, tuple_at}
+use Rattle.heap_tuples.specs.Places.{IsTupleAt, tuple_at}
+use Rattle.toast_chunks.specs.Stored.{HasRow, content_at, content_of}
 use Rattle.toast_chunks.specs.Rows.{toast_columns}
-use Rattle.varlena_attrs.specs.Tuples.{attributes_in}
+use Rattle.heap_tuples.specs.Tuples.{attributes_in}
 use Rattle.tuple_head.specs.Head.{expected_hoff, has_misplaced_attributes, has_nulls, tuple_head_of}
 
 or_false : (a b : Bool) → a || b ≡ false → (a ≡ false) × (b ≡ false)
@@ -33,9 +34,9 @@ some_same : (xs ys : List ℕ) → ◌≡◌ {A = Option (List ℕ)} (Some xs) (
 some_same xs ys e = cc
 
 -- the bytes of the tuple that stands at an item
-pub content_here : {E : Type 0} (r : Result (Option (Bor (List ℕ))) E) (page : List ℕ) (item : ℕ) (tuple : List ℕ) → (HasRow page item → ◌≡◌ {A = Option (List ℕ)} (Some tuple) (Some (tuple_at page item))) → length tuple ≡ (item_of page item).len → IfOk r (λ content. has_misplaced_attributes (length tuple) (tuple_head_of tuple) ≡ false → option_copied content ≡ content_of (attributes_in toast_columns tuple)) → IfOk r (λ content. HasRow page item → option_copied content ≡ content_at page item)
+pub content_here : {E : Type 0} (r : Result (Option (Bor (List ℕ))) E) (page : List ℕ) (item : ℕ) (tuple : List ℕ) → (IsTupleAt page item → ◌≡◌ {A = Option (List ℕ)} (Some tuple) (Some (tuple_at page item))) → length tuple ≡ (item_of page item).len → IfOk r (λ content. has_misplaced_attributes (length tuple) (tuple_head_of tuple) ≡ false → option_copied content ≡ content_of (attributes_in toast_columns tuple)) → IfOk r (λ content. HasRow page item → option_copied content ≡ content_at page item)
 content_here (Ok content) page item tuple is len h = λ row.
-    let same = some_same tuple (tuple_at page item) (is row) in
+    let same = some_same tuple (tuple_at page item) (is row.tuple) in
     let P : List ℕ → Type 0 = λ t. has_misplaced_attributes (item_of page item).len (tuple_head_of t) ≡ false in
     let Q : ℕ → Type 0 = λ n. has_misplaced_attributes n (tuple_head_of tuple) ≡ false in
     h (subst Q (sym len) (subst P (sym same) row.attributes)) ∙ ap (λ t. content_of (attributes_in toast_columns t)) same

@@ -1,22 +1,17 @@
 -- What stands at an item of a page of a TOAST table.
 use Rattle.std.specs.Prelude.{◌≡◌, ℕ, ◌<◌, ◌≤◌, true, false, List, [], ◌∷◌, Option, Some, None, Ok, Err, IsSome, All}
 use Rattle.outside.specs.Outside.{Names}
-use Rattle.page_layout.specs.declared.page.PageKind.TheVariants.{Heap}
-use Rattle.page_layout.specs.Items.{is_misplaced_heap_item, is_normal}
-use Rattle.page_layout.specs.Page.{count_of as item_count, item_of, page_rule_of, piece_of, upper_of}
+use Rattle.page_layout.specs.Page.{item_of}
 use Rattle.rel_files.specs.Blocks.{block_of}
 use Rattle.rel_files.specs.Relation.{base_of, count_of, size_of}
 use Rattle.rel_files.specs.declared.relation.Relation.{Relation}
 use Rattle.tuple_head.specs.Head.{has_misplaced_attributes, has_more_attributes_than_columns, is_old_form, tuple_head_of}
 use Rattle.varlena_attrs.specs.Forms.{Attribute}
 use Rattle.varlena_attrs.specs.Reading.{Outcome}
-use Rattle.varlena_attrs.specs.Tuples.{attributes_in}
+use Rattle.heap_tuples.specs.Places.{IsTupleAt, tuple_at}
+use Rattle.heap_tuples.specs.Tuples.{attributes_in}
 use Rattle.toast_chunks.specs.declared.map.Chunk.{Chunk}
 use Rattle.toast_chunks.specs.Rows.{content_in, row_of, toast_columns}
-
--- the bytes of an item
-abbrev pub tuple_at : List ℕ → ℕ → List ℕ
-tuple_at page item = piece_of page (item_of page item).off (item_of page item).len
 
 -- the bytes of its chunk
 abbrev pub content_of : Outcome → Option (List ℕ)
@@ -30,13 +25,9 @@ content_of (Err e) = None
 abbrev pub content_at : List ℕ → ℕ → Option (List ℕ)
 content_at page item = content_of (attributes_in toast_columns (tuple_at page item))
 
--- the page keeps its rules, and the item is a tuple with attributes where they should be
+-- the item is a tuple with attributes where they should be
 pub record HasRow (page : List ℕ) (item : ℕ) : Type 0 where
-  pub rules : page_rule_of Heap page ≡ None
-  pub first : 1 ≤ item
-  pub last : item ≤ item_count page
-  pub normal : is_normal (item_of page item).flag ≡ true
-  pub placed : is_misplaced_heap_item (upper_of page) (item_of page item) ≡ false
+  pub tuple : IsTupleAt page item
   pub form : is_old_form (tuple_head_of (tuple_at page item)) ≡ false
   pub columns : has_more_attributes_than_columns 3 (tuple_head_of (tuple_at page item)) ≡ false
   pub attributes : has_misplaced_attributes (item_of page item).len (tuple_head_of (tuple_at page item)) ≡ false

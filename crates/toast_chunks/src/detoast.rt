@@ -1,6 +1,6 @@
 // The value of a pointer.
 ghost use Rattle.std.specs.Prelude.{◌≡◌, ◌≤◌, true, IfOk};
-ghost use Rattle.outside.specs.Outside.{Causes, IfTold};
+ghost use Rattle.outside.specs.Outside.{Asked, IfTold, Tells};
 ghost use Rattle.rel_files.specs.Relation.{IsAttached};
 ghost use Rattle.toast_chunks.specs.Chunks.{is_whole};
 ghost use Rattle.toast_chunks.specs.Stored.{AllStand};
@@ -35,12 +35,11 @@ fn joined<F: Files>(
     map: &ToastMap,
     p: ToastPointer,
 ) -> Result<Octets, ToastFault>
-    requires attached { IfTold (F.held files.old) (λ names. IsAttached names toast.now) }
-    requires stand { IfTold (F.held files.old) (λ names. AllStand names toast.now map.now) }
+    requires attached { IfTold F.seen files.old (λ names. IsAttached names toast.now) }
+    requires stand { IfTold F.seen files.old (λ names. AllStand names toast.now map.now) }
     requires whole { is_whole map.now p ≡ true }
-    ensures bytes { IfOk result (λ bytes. IfTold (F.held files.old) (λ names. bytes ≡ value_of_pointer names toast.now map.now p)) }
-    ensures same { F.held files.new ≡ F.held files.old }
-    ensures cause { Causes (F.faults files.old) (F.faults files.new) result ToastFault.ReadFault }
+    ensures bytes { Tells F.seen files.old result (λ bytes names. bytes ≡ value_of_pointer names toast.now map.now p) }
+    ensures asked { Asked F.seen files.old files.new result ToastFault.ReadFault }
 {
     let mut page = [0u8; 8192];
     let mut in_hand = None;
@@ -77,12 +76,11 @@ pub fn value<F: Files>(
     map: &ToastMap,
     p: ToastPointer,
 ) -> Result<ToastState, ToastFault>
-    requires attached { IfTold (F.held files.old) (λ names. IsAttached names toast.now) }
-    requires stand { IfTold (F.held files.old) (λ names. AllStand names toast.now map.now) }
+    requires attached { IfTold F.seen files.old (λ names. IsAttached names toast.now) }
+    requires stand { IfTold F.seen files.old (λ names. AllStand names toast.now map.now) }
     ensures state { IfOk result (IsState map.now p) }
-    ensures bytes { IfOk result (λ state. IfTold (F.held files.old) (λ names. HasBytes state (value_of_pointer names toast.now map.now p))) }
-    ensures same { F.held files.new ≡ F.held files.old }
-    ensures cause { Causes (F.faults files.old) (F.faults files.new) result ToastFault.ReadFault }
+    ensures bytes { Tells F.seen files.old result (λ state names. HasBytes state (value_of_pointer names toast.now map.now p)) }
+    ensures asked { Asked F.seen files.old files.new result ToastFault.ReadFault }
 {
     if !map.whole(p) {
         return Ok(ToastState::Broken);

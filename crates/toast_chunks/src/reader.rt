@@ -1,6 +1,6 @@
 // Reads chunks from the pages of a relation.
 ghost use Rattle.std.specs.Prelude.{◌≡◌, ◌<◌, OnOk, Some};
-ghost use Rattle.outside.specs.Outside.{Causes, IfTold};
+ghost use Rattle.outside.specs.Outside.{Asked, IfTold};
 ghost use Rattle.rel_files.specs.Relation.{IsAttached, count_of};
 ghost use Rattle.toast_chunks.specs.InHand.{IsInHand, PushesChunk};
 
@@ -19,13 +19,12 @@ fn take_page<F: Files>(
     page: &mut [u8; 8192],
     in_hand: &mut Option<u32>,
 ) -> Result<(), ToastFault>
-    requires attached { IfTold (F.held files.old) (λ names. IsAttached names toast.now) }
+    requires attached { IfTold F.seen files.old (λ names. IsAttached names toast.now) }
     requires below { b < count_of toast.now }
-    requires hand { IfTold (F.held files.old) (λ names. IsInHand names toast.now in_hand.old page.old) }
-    ensures hand { IfTold (F.held files.old) (λ names. IsInHand names toast.now in_hand.new page.new) }
+    requires hand { IfTold F.seen files.old (λ names. IsInHand names toast.now in_hand.old page.old) }
+    ensures hand { IfTold F.seen files.old (λ names. IsInHand names toast.now in_hand.new page.new) }
     ensures ok { OnOk result (in_hand.new ≡ Some b) }
-    ensures same { F.held files.new ≡ F.held files.old }
-    ensures cause { Causes (F.faults files.old) (F.faults files.new) result ToastFault.ReadFault }
+    ensures asked { Asked F.seen files.old files.new result ToastFault.ReadFault }
 {
     if *in_hand == Some(b) {
         return Ok(());
@@ -46,12 +45,11 @@ pub(crate) fn push_chunk<F: Files>(
     buffer: &mut AttrBuffer,
     bytes: &mut Octets,
 ) -> Result<(), ToastFault>
-    requires attached { IfTold (F.held files.old) (λ names. IsAttached names toast.now) }
-    requires hand { IfTold (F.held files.old) (λ names. IsInHand names toast.now in_hand.old page.old) }
-    ensures hand { IfTold (F.held files.old) (λ names. IsInHand names toast.now in_hand.new page.new) }
-    ensures bytes { OnOk result (IfTold (F.held files.old) (λ names. PushesChunk names toast.now tid bytes.old bytes.new)) }
-    ensures same { F.held files.new ≡ F.held files.old }
-    ensures cause { Causes (F.faults files.old) (F.faults files.new) result ToastFault.ReadFault }
+    requires attached { IfTold F.seen files.old (λ names. IsAttached names toast.now) }
+    requires hand { IfTold F.seen files.old (λ names. IsInHand names toast.now in_hand.old page.old) }
+    ensures hand { IfTold F.seen files.old (λ names. IsInHand names toast.now in_hand.new page.new) }
+    ensures bytes { OnOk result (IfTold F.seen files.old (λ names. PushesChunk names toast.now tid bytes.old bytes.new)) }
+    ensures asked { Asked F.seen files.old files.new result ToastFault.ReadFault }
 {
     if toast.blocks() <= tid.block {
         return Ok(());

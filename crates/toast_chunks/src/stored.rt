@@ -1,39 +1,18 @@
-// The chunk that stands at an item of a page.
+//! The chunk that stands at an item of a page.
 ghost use Rattle.std.specs.Prelude.{◌≡◌, ◌≤◌, false, All, IfOk, IfSome, Ok, Some, length};
 ghost use Rattle.std.specs.Option.{option_copied};
 ghost use Rattle.page_layout.specs.Page.{item_of};
 ghost use Rattle.tuple_head.specs.Head.{has_misplaced_attributes, tuple_head_of};
-ghost use Rattle.toast_chunks.specs.Stored.{HasRow, content_at, content_of, tuple_at};
+ghost use Rattle.toast_chunks.specs.Stored.{HasRow, content_at, content_of};
 ghost use Rattle.toast_chunks.specs.Rows.{toast_columns};
 ghost use Rattle.varlena_attrs.specs.Shown.{IsWithin, shown_in};
-ghost use Rattle.varlena_attrs.specs.Tuples.{attributes_in};
+ghost use Rattle.heap_tuples.specs.Tuples.{attributes_in};
 
 use crate::rows::{TOAST_COLUMNS, content_in};
+use heap_tuples::{read_tuple, tuple_at};
 use outside::NoMemory;
-use page_layout::{PageKind, PageView};
 use tuple_head::heap_head;
 use varlena_attrs::{AttrBuffer, AttrFault, AttrPlace};
-
-// The bytes of an item of a page, where they can be those of a row.
-#[tactic(auto, unfolding(page_layout::specs::Page::header_of))]
-fn tuple_at(page: &[u8; 8192], item: u16) -> Option<&[u8]>
-    ensures tuple { HasRow page.now item → option_copied result ≡ Some (tuple_at page.now item) }
-    ensures long { IfSome result (λ tuple. 24 ≤ length tuple.now) }
-    ensures len { IfSome result (λ tuple. length tuple.now ≡ (item_of page.now item).len) }
-{
-    let view = PageView::new(page);
-    if view.page_rule(PageKind::Heap).is_some() || item == 0 || view.item_count() < item {
-        return None;
-    }
-    let pointer = view.item(item);
-    if !pointer.flag.is_normal() {
-        return None;
-    }
-    if pointer.is_misplaced_heap_item(view.header().upper) {
-        return None;
-    }
-    Some(view.piece(pointer.off, pointer.len))
-}
 
 // The bytes of the chunk that a row's tuple has.
 fn content_of<'p>(tuple: &'p [u8], buffer: &mut AttrBuffer) -> Result<Option<&'p [u8]>, NoMemory>
@@ -46,7 +25,7 @@ fn content_of<'p>(tuple: &'p [u8], buffer: &mut AttrBuffer) -> Result<Option<&'p
     if hoff < 23 || tuple.len() < hoff {
         return Ok(None);
     }
-    match buffer.read_tuple(&TOAST_COLUMNS, tuple, head) {
+    match read_tuple(buffer, &TOAST_COLUMNS, tuple, head) {
         Ok(body) => Ok(chunk_content(body, buffer.as_slice())),
         Err(AttrFault::NoMemory) => Err(NoMemory),
         Err(_) => Ok(None),

@@ -1,4 +1,4 @@
-ghost use Rattle.std.specs.Prelude.{◌≤◌, None, false, length};
+ghost use Rattle.std.specs.Prelude.{◌≤◌, [], None, false, length};
 
 use crate::detoast::{ToastState, value};
 use crate::fault::ToastFault;
@@ -159,11 +159,7 @@ fn one_file(bytes: Vec<u8>) -> OneFile {
 }
 
 impl Files for OneFile {
-    ghost held = { λ _. None };
-
-    ghost faults = { λ f. f.faults };
-
-    ghost refused = { λ _. false };
+    ghost seen = { λ f. record { held = None; faults = f.faults; refused = false; reads = f.reads; lenders = [] } };
 
     fn length(&mut self, _: FileName<'_>) -> Result<Option<u64>, Failed> {
         Ok(Some(self.bytes.len() as u64))

@@ -9,7 +9,7 @@ use Rattle.std.proofs.lemmas.List.Elements.{filter-append}
 use Rattle.tree_search.specs.Order.{Order, IsOrder, Scan}
 use Rattle.tree_search.specs.Tree.{Index}
 use Rattle.tree_search.specs.Levels.{Role, Dead, Linked, Right_half, Neither, is_live, Row, row, lower_after, level_rows}
-use Rattle.tree_search.specs.Quiet.{IsInUse, IsQuiet, EntryAbove}
+use Rattle.tree_search.specs.Searchable.{IsInUse, IsSearchable, EntryAbove}
 use Rattle.tree_search.specs.Search.{last_or, right_of, is_wanted}
 use Rattle.tree_search.specs.Back.{Back, IsBack, BackState, Seeks, Reads, Over, Lost, descend_back, found_back, read_page, seek_page, can_visit, after_back, back_start, FindsBack}
 use Rattle.tree_search.proofs.Lists.{In, In-left, In-right, In-cases, Each, Each-in, Each-map}
@@ -32,7 +32,7 @@ pub record EndsBack {S E : Type 0} (killed : E → Bool) (x : Index S E) (scan :
   pub few : visits ≤ n
   pub ended : after_back killed x scan back visits s ≡ Over zs
 
-module _ {S E : Type 0} (o : Order S E) (laws : IsOrder o) (x : Index S E) (quiet : IsQuiet o x) (root : x.root ≢ 0) (killed : E → Bool) (scan : Scan S E) (back : Back S E) (fits : IsBack o scan back) where
+module _ {S E : Type 0} (o : Order S E) (laws : IsOrder o) (x : Index S E) (quiet : IsSearchable o x) (root : x.root ≢ 0) (killed : E → Bool) (scan : Scan S E) (back : Back S E) (fits : IsBack o scan back) where
   ends_later : (s : BackState E) (n m : ℕ) (zs : List E) → n ≤ m → EndsBack killed x scan back s n zs → EndsBack killed x scan back s m zs
   ends_later s n m zs le h = let few : h.visits ≤ n = h.few in record { visits = h.visits; few = omega arith; ended = h.ended }
 
@@ -310,7 +310,7 @@ more_back killed x scan back (suc k) (suc n) (Over ys) zs le h = h
 more_back killed x scan back (suc k) (suc n) Lost zs le h = h
 
 -- the backward searcher finds the reverse of what the scan is to find
-pub finds_back : {S E : Type 0} (o : Order S E) (x : Index S E) → IsOrder o → IsQuiet o x → FindsBack o x
+pub finds_back : {S E : Type 0} (o : Order S E) (x : Index S E) → IsOrder o → IsSearchable o x → FindsBack o x
 unfolding back_start
 finds_back {S} {E} o x laws quiet = λ killed scan back fits. elim (cases_eq x.root 0) [
   | inl none ↦

@@ -8,7 +8,7 @@ use Rattle.tree_search.specs.Keys.{Bound, goes_right, compare_keys}
 use Rattle.tree_search.specs.Order.{Order, Scan}
 use Rattle.tree_search.specs.Tree.{Page, Index, chain_of, after_links}
 use Rattle.tree_search.specs.Levels.{entry_page, row_page, row_role, row_lower, is_live, Dead, Linked, Right_half, Neither, Row, row, level_rows, downlinks}
-use Rattle.tree_search.specs.Quiet.{IfFirst, IfLast, EntryAbove, KeyAbove, IsInUse, IsSoundPage, IsSoundLevel, IsQuiet}
+use Rattle.tree_search.specs.Searchable.{IfFirst, IfLast, EntryAbove, KeyAbove, IsInUse, IsSoundPage, IsSoundLevel, IsSearchable}
 use Rattle.tree_search.specs.Search.{Ended, found_on, visit_page, visit, after_visits, search_start}
 use Rattle.tree_search.specs.Back.{Over, found_back, read_page, seek_page, after_back, back_start}
 
@@ -181,7 +181,7 @@ reached (suc (suc (suc (suc (suc zero))))) h = (omega arith, 1, omega arith, (2,
 reached (suc (suc (suc (suc (suc (suc b)))))) h = let lt = h.inside in absurd (omega arith)
 
 -- the rules can be kept
-pub tree_quiet : IsQuiet numbers tree
+pub tree_quiet : IsSearchable numbers tree
 tree_quiet = record {
   root_or_empty = (λ z. z, λ z. z);
   pages = pages;

@@ -7,7 +7,7 @@ use Rattle.std.proofs.lemmas.Cmp.{then_total, on_total}
 use Rattle.std.proofs.lemmas.Bool.{and_left, and_right, leb-true, le-leb, not_from_true}
 use Rattle.tree_search.specs.Order.{IsOrder, IsScan}
 use Rattle.tree_search.specs.Back.{IsBack}
-use Rattle.tree_search.specs.Keys.{Entry, Separator, Columns, compare_values, compare_tids, compare_keys, key_of, key_order, IsSeparatorOf, Bound, compare_first, compare_both, is_above, is_without, right_table, right_of_kept, goes_right, before_bound, past_bound, scan_between, back_between}
+use Rattle.tree_search.specs.Keys.{Entry, Separator, Columns, compare_values, compare_tids, compare_keys, as_separator, key_order, IsSeparatorOf, Bound, compare_first, compare_both, is_above, is_without, right_table, right_of_kept, goes_right, before_bound, past_bound, scan_between, back_between}
 use Rattle.tree_search.proofs.Columns.{flip_greater, less_le, le_less, values_total, left_of, above_of, short_of, past_stays, before_stays, none_right_at, not_less, parted, shorter}
 
 pub lt_less : (a : Ordering) → is_lt a ≡ true → a ≡ Less
@@ -75,11 +75,11 @@ module _ {V T : Type 0} (cs : Columns V) (laws : (i : ℕ) → IsTotalOrder (cs 
       let R = compare_keys cs ts in
       let t = keys_total in
       record {
-        across = λ d e s p q. ap is_lt (le_less R t (key_of d) s (key_of e) (R (key_of d) s) refl (le_not _ p) (flip_greater R t (key_of e) s (not_le _ q)));
-        higher = λ e s u p q. ap is_le (le_less R t (key_of e) s u (R (key_of e) s) refl (le_not _ p) (lt_less _ q));
-        lower = λ d e s p q. ap is_le (less_le R t (key_of d) (key_of e) s (lt_less _ p) (R (key_of e) s) refl (le_not _ q));
-        strict = λ e. itself (R (key_of e) (key_of e)) (t.antisymm (key_of e) (key_of e));
-        chained = λ c d e p q. ap is_lt (t.trans (key_of c) (key_of d) (key_of e) (lt_less _ p) (lt_less _ q));
+        across = λ d e s p q. ap is_lt (le_less R t (as_separator d) s (as_separator e) (R (as_separator d) s) refl (le_not _ p) (flip_greater R t (as_separator e) s (not_le _ q)));
+        higher = λ e s u p q. ap is_le (le_less R t (as_separator e) s u (R (as_separator e) s) refl (le_not _ p) (lt_less _ q));
+        lower = λ d e s p q. ap is_le (less_le R t (as_separator d) (as_separator e) s (lt_less _ p) (R (as_separator e) s) refl (le_not _ q));
+        strict = λ e. itself (R (as_separator e) (as_separator e)) (t.antisymm (as_separator e) (as_separator e));
+        chained = λ c d e p q. ap is_lt (t.trans (as_separator c) (as_separator d) (as_separator e) (lt_less _ p) (lt_less _ q));
       }
 
   -- a key that is not above another has values that are not
@@ -87,7 +87,7 @@ module _ {V T : Type 0} (cs : Columns V) (laws : (i : ℕ) → IsTotalOrder (cs 
   values_not s t h = λ e. absurd (let f : compare_keys cs ts s t ≡ Greater = ap (λ w. ordering_then w (compare_tids ts s.tid t.tid)) e in cc (ap is_le f, h))
 
   -- and they are below where the other has no TID
-  values_below : (e : Entry V T) (kept : List V) (tid : Option T) → is_without tid ≡ true → is_le (compare_keys cs ts (key_of e) (record { kept = kept; tid = tid })) ≡ true → compare_values cs 0 e.values kept ≡ Less
+  values_below : (e : Entry V T) (kept : List V) (tid : Option T) → is_without tid ≡ true → is_le (compare_keys cs ts (as_separator e) (record { kept = kept; tid = tid })) ≡ true → compare_values cs 0 e.values kept ≡ Less
   values_below e kept (Some t) none h = absurd cc
   values_below e kept None none h = go (compare_values cs 0 e.values kept) h
     where
@@ -96,9 +96,9 @@ module _ {V T : Type 0} (cs : Columns V) (laws : (i : ℕ) → IsTotalOrder (cs 
       go Equal h = absurd cc
       go Greater h = absurd cc
 
-  none_left_at : (xs : List V) (inclusive : Bool) (kept : List V) (tid : Option T) (e : Entry V T) → right_of_kept cs xs inclusive kept tid ≡ true → is_le (compare_keys cs ts (key_of e) (record { kept = kept; tid = tid })) ≡ true → before_bound cs xs inclusive e.values ≡ true
+  none_left_at : (xs : List V) (inclusive : Bool) (kept : List V) (tid : Option T) (e : Entry V T) → right_of_kept cs xs inclusive kept tid ≡ true → is_le (compare_keys cs ts (as_separator e) (record { kept = kept; tid = tid })) ≡ true → before_bound cs xs inclusive e.values ≡ true
   none_left_at [] inclusive kept tid e g w = absurd cc
-  none_left_at (x ∷ xs) inclusive [] tid e g w = empty e.values (values_not (key_of e) (record { kept = []; tid = tid }) w)
+  none_left_at (x ∷ xs) inclusive [] tid e g w = empty e.values (values_not (as_separator e) (record { kept = []; tid = tid }) w)
     where
       empty : (vs : List V) → compare_values cs 0 vs [] ≢ Greater → is_above (compare_first cs 0 (x ∷ xs) vs) (not inclusive) ≡ true
       empty [] h = refl
@@ -106,7 +106,7 @@ module _ {V T : Type 0} (cs : Columns V) (laws : (i : ℕ) → IsTotalOrder (cs 
   none_left_at (x ∷ xs) inclusive (k ∷ ks) tid e g w = go (compare_both cs 0 (x ∷ xs) (k ∷ ks)) refl g
     where
       ne : compare_values cs 0 e.values (k ∷ ks) ≢ Greater
-      ne = values_not (key_of e) (record { kept = k ∷ ks; tid = tid }) w
+      ne = values_not (as_separator e) (record { kept = k ∷ ks; tid = tid }) w
 
       at_tie : (c : Ordering) → c ≢ Less → (t : Bool) → t ≡ true → is_above c t ≡ true
       at_tie Less ne t h = absurd (ne refl)
@@ -129,7 +129,7 @@ module _ {V T : Type 0} (cs : Columns V) (laws : (i : ℕ) → IsTotalOrder (cs 
   scan_laws low high = record {
     none_left = λ e s g w. and_left (not (before_bound cs low.values low.inclusive e.values)) (not (past_bound cs high.values high.inclusive e.values)) (not_from_true (before_bound cs low.values low.inclusive e.values) (none_left_at low.values low.inclusive s.kept s.tid e g w));
     none_past = λ e p. and_right (not (before_bound cs low.values low.inclusive e.values)) (not (past_bound cs high.values high.inclusive e.values)) (not_from_true (past_bound cs high.values high.inclusive e.values) p);
-    stays_past = λ d e p q. past_stays cs laws high.values high.inclusive d.values e.values (values_not (key_of d) (key_of e) (below_le (compare_keys cs ts (key_of d) (key_of e)) q)) p;
+    stays_past = λ d e p q. past_stays cs laws high.values high.inclusive d.values e.values (values_not (as_separator d) (as_separator e) (below_le (compare_keys cs ts (as_separator d) (as_separator e)) q)) p;
   }
 
   -- an entry above a separator has values that are not below its
@@ -138,9 +138,9 @@ module _ {V T : Type 0} (cs : Columns V) (laws : (i : ℕ) → IsTotalOrder (cs 
 
   pub back_laws : (low high : Bound V) → IsBack (key_order cs ts) (scan_between cs low high) (back_between cs low high)
   back_laws low high = record {
-    none_right = λ e s g w. and_right (not (before_bound cs low.values low.inclusive e.values)) (not (past_bound cs high.values high.inclusive e.values)) (not_from_true (past_bound cs high.values high.inclusive e.values) (none_right_at cs laws high.values high.inclusive s.kept e.values (values_above (key_of e) s w) g));
+    none_right = λ e s g w. and_right (not (before_bound cs low.values low.inclusive e.values)) (not (past_bound cs high.values high.inclusive e.values)) (not_from_true (past_bound cs high.values high.inclusive e.values) (none_right_at cs laws high.values high.inclusive s.kept e.values (values_above (as_separator e) s w) g));
     none_before = λ e p. and_left (not (before_bound cs low.values low.inclusive e.values)) (not (past_bound cs high.values high.inclusive e.values)) (not_from_true (before_bound cs low.values low.inclusive e.values) p);
-    stays_before = λ d e p q. before_stays cs laws low.values low.inclusive d.values e.values (values_not (key_of d) (key_of e) (below_le (compare_keys cs ts (key_of d) (key_of e)) q)) p;
+    stays_before = λ d e p q. before_stays cs laws low.values low.inclusive d.values e.values (values_not (as_separator d) (as_separator e) (below_le (compare_keys cs ts (as_separator d) (as_separator e)) q)) p;
   }
 
   -- what is below a separator without a TID has lower values

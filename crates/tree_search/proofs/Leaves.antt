@@ -8,7 +8,7 @@ use Rattle.std.proofs.lemmas.List.Concat.{flat_map-append}
 use Rattle.tree_search.specs.Order.{Order, IsOrder, Scan, IsScan}
 use Rattle.tree_search.specs.Tree.{Index}
 use Rattle.tree_search.specs.Levels.{Role, Dead, Linked, Right_half, Neither, Row, row, row_page}
-use Rattle.tree_search.specs.Quiet.{IsInUse, IsSoundPage, IfFirst, EntryAbove, KeyAbove}
+use Rattle.tree_search.specs.Searchable.{IsInUse, IsSoundPage, IfFirst, EntryAbove, KeyAbove}
 use Rattle.tree_search.specs.Search.{State, At, Ended, is_wanted, right_of, descend, found_on, visit_page, visit, after_visits}
 use Rattle.tree_search.proofs.Lists.{In, Each, Each-in, Each-map, Each-append}
 use Rattle.tree_search.proofs.Chains.{OnLevel}

@@ -8,8 +8,8 @@ use Rattle.std.proofs.lemmas.List.Sorted.{IsPermutation-refl}
 use Rattle.tree_search.specs.Order.{Order, IsOrder, Scan, IsScan}
 use Rattle.tree_search.specs.Tree.{Page, Index, chain_of}
 use Rattle.tree_search.specs.Levels.{Linked, Role, Row, row, row_page, entry_page, downlinks, level_rows}
-use Rattle.tree_search.specs.Quiet.{IsInUse, IsQuiet}
-use Rattle.tree_search.specs.Search.{State, At, Ended, Stuck, last_or, descend, blocks_below, leaf_entries, entries_of, is_wanted, IsWanted, after_visits, search_start, Answers}
+use Rattle.tree_search.specs.Searchable.{IsInUse, IsSearchable}
+use Rattle.tree_search.specs.Search.{State, At, Ended, Stuck, last_or, descend, tree_blocks, leaf_entries, entries_of, is_wanted, IsWanted, after_visits, search_start, Answers}
 use Rattle.tree_search.proofs.Lists.{In, Each, Each-in, Each-map}
 use Rattle.tree_search.proofs.Chains.{OnLevel}
 use Rattle.tree_search.proofs.Rows.{Sound, level_is}
@@ -33,11 +33,11 @@ more_visits killed x scan (suc k) (suc n) (Ended ys) zs le h = h
 more_visits killed x scan (suc k) (suc n) Stuck zs le h = h
 
 -- what stands before a page that the scan goes right to
-before_unwanted : {S E : Type 0} (o : Order S E) (laws : IsOrder o) (x : Index S E) (quiet : IsQuiet o x) (killed : E → Bool) (scan : Scan S E) (fits : IsScan o scan) (lo : Option S) (es : List E) → Each (EntryWithin o lo) es → Reached scan.goes_right lo → filter (is_wanted killed scan) es ≡ []
+before_unwanted : {S E : Type 0} (o : Order S E) (laws : IsOrder o) (x : Index S E) (quiet : IsSearchable o x) (killed : E → Bool) (scan : Scan S E) (fits : IsScan o scan) (lo : Option S) (es : List E) → Each (EntryWithin o lo) es → Reached scan.goes_right lo → filter (is_wanted killed scan) es ≡ []
 before_unwanted o laws x quiet killed scan fits None es all reached = filter_none (is_wanted killed scan) es (Each-map (EntryWithin o None) (λ e. is_wanted killed scan e ≡ false) es (λ e h. absurd h) all)
 before_unwanted o laws x quiet killed scan fits (Some s) es all reached = left_unwanted o laws x quiet.pages killed scan fits s es reached all
 
-module _ {S E : Type 0} (o : Order S E) (laws : IsOrder o) (x : Index S E) (quiet : IsQuiet o x) (root : x.root ≢ 0) (killed : E → Bool) (scan : Scan S E) (fits : IsScan o scan) where
+module _ {S E : Type 0} (o : Order S E) (laws : IsOrder o) (x : Index S E) (quiet : IsSearchable o x) (root : x.root ≢ 0) (killed : E → Bool) (scan : Scan S E) (fits : IsScan o scan) where
   abbrev W : List (Row S) → List E
   W rs = wanted_of o laws x quiet.pages killed scan fits rs
 
@@ -80,7 +80,7 @@ empty_unless p no_leaf = elim (cases_Bool (p.leaf && (not p.idle && not p.half_d
   | inr t ↦ cond-false (p.leaf && (not p.idle && not p.half_dead)) p.entries [] t
 ]
 
-module _ {S E : Type 0} (o : Order S E) (laws : IsOrder o) (x : Index S E) (quiet : IsQuiet o x) (root : x.root ≢ 0) (killed : E → Bool) (scan : Scan S E) where
+module _ {S E : Type 0} (o : Order S E) (laws : IsOrder o) (x : Index S E) (quiet : IsSearchable o x) (root : x.root ≢ 0) (killed : E → Bool) (scan : Scan S E) where
   -- a leaf of the chain gives its entries
   leaf_gives : (b : ℕ) → OnLevel x 0 b → leaf_entries (x.page b) ≡ (x.page b).entries
   leaf_gives b here = elim (cases_Bool ((x.page b).leaf && (not (x.page b).idle && not (x.page b).half_dead))) [
@@ -100,7 +100,7 @@ module _ {S E : Type 0} (o : Order S E) (laws : IsOrder o) (x : Index S E) (quie
   same_entries (row p r lo ∷ rs) here = ap (λ w. w ++ flat_map (row_entries x) rs) (sym (leaf_gives p here.0)) ∙ ap (λ w. leaf_entries (x.page p) ++ w) (same_entries rs here.1)
 
   -- a block that isn't in the leaf chain gives nothing
-  outside : (b : ℕ) → In b (blocks_below x.blocks) → (In b (map row_page (level_rows x x.level)) → ⊥) → leaf_entries (x.page b) ≡ []
+  outside : (b : ℕ) → In b (tree_blocks x.blocks) → (In b (map row_page (level_rows x x.level)) → ⊥) → leaf_entries (x.page b) ≡ []
   outside b in_file out = empty_unless (x.page b) (λ t.
       let parts = and_parts (x.page b).leaf (not (x.page b).idle && not (x.page b).half_dead) t in
       let bounds = block_of x.blocks b in_file in
@@ -123,17 +123,17 @@ module _ {S E : Type 0} (o : Order S E) (laws : IsOrder o) (x : Index S E) (quie
       let rs = level_rows x x.level in
       let ps = map row_page rs in
       let to_pages : filter W (flat_map (row_entries x) rs) ≡ flat_map (λ b. filter W (f b)) ps = ap (filter W) (same_entries rs lev.chain.here) ∙ filter-flat_map W f ps in
-      let moved : IsPermutation (flat_map (λ b. filter W (f b)) ps) (flat_map (λ b. filter W (f b)) (blocks_below x.blocks)) =
-      gather (λ b. filter W (f b)) ps (blocks_below x.blocks) lev.chain.apart (blocks_apart x.blocks)
+      let moved : IsPermutation (flat_map (λ b. filter W (f b)) ps) (flat_map (λ b. filter W (f b)) (tree_blocks x.blocks)) =
+      gather (λ b. filter W (f b)) ps (tree_blocks x.blocks) lev.chain.apart (blocks_apart x.blocks)
       (λ b h. let u = Each-in (OnLevel x 0) b ps lev.chain.here h in block_in x.blocks b u.0.not_meta u.0.inside)
       (λ b h out. ap (filter W) (outside b h out)) in
       record {
-        all_of_them = subst (λ z. IsPermutation z (filter W (entries_of x))) (sym to_pages) (subst (IsPermutation (flat_map (λ b. filter W (f b)) ps)) (sym (filter-flat_map W f (blocks_below x.blocks))) moved);
+        all_of_them = subst (λ z. IsPermutation z (filter W (entries_of x))) (sym to_pages) (subst (IsPermutation (flat_map (λ b. filter W (f b)) ps)) (sym (filter-flat_map W f (tree_blocks x.blocks))) moved);
         rising = adjacent_from_rising o (filter W (flat_map (row_entries x) rs)) (Rising-filter o W (flat_map (row_entries x) rs) (all_rising o laws x quiet.pages rs false None lev.first lev.sound));
       }
 
 -- where there is a root
-full : {S E : Type 0} (o : Order S E) (laws : IsOrder o) (x : Index S E) (quiet : IsQuiet o x) (root : x.root ≢ 0) (killed : E → Bool) (scan : Scan S E) (fits : IsScan o scan) → (es : List E) × IsWanted o killed x scan es × Answers killed x scan x.blocks es
+full : {S E : Type 0} (o : Order S E) (laws : IsOrder o) (x : Index S E) (quiet : IsSearchable o x) (root : x.root ≢ 0) (killed : E → Bool) (scan : Scan S E) (fits : IsScan o scan) → (es : List E) × IsWanted o killed x scan es × Answers killed x scan x.blocks es
 unfolding search_start
 full o laws x quiet root killed scan fits =
     let e = fast_ends o laws x quiet root killed scan fits in
@@ -142,7 +142,7 @@ full o laws x quiet root killed scan fits =
     (goal o laws x quiet root killed scan fits, found o laws x quiet root killed scan, ap (after_visits killed x scan x.blocks) start ∙ more_visits killed x scan e.visits x.blocks (At x.fastroot []) (goal o laws x quiet root killed scan fits) e.few e.ended)
 
 -- an empty tree has no entries
-pub nothing_there : {S E : Type 0} (o : Order S E) (x : Index S E) → IsQuiet o x → x.root ≡ 0 → (bs : List ℕ) → ((b : ℕ) → In b bs → (b ≢ 0) × (b < x.blocks)) → flat_map (λ b. leaf_entries (x.page b)) bs ≡ []
+pub nothing_there : {S E : Type 0} (o : Order S E) (x : Index S E) → IsSearchable o x → x.root ≡ 0 → (bs : List ℕ) → ((b : ℕ) → In b bs → (b ≢ 0) × (b < x.blocks)) → flat_map (λ b. leaf_entries (x.page b)) bs ≡ []
 nothing_there o x quiet none [] all = refl
 nothing_there o x quiet none (b ∷ bs) all =
     ap (λ w. w ++ flat_map (λ b. leaf_entries (x.page b)) bs) (empty_unless (x.page b) (λ t.
@@ -152,18 +152,18 @@ nothing_there o x quiet none (b ∷ bs) all =
     (quiet.reached b used).0 none))
     ∙ nothing_there o x quiet none bs (λ c h. all c (inr h))
 
-pub wanted_nothing : {S E : Type 0} (o : Order S E) (x : Index S E) → IsQuiet o x → x.root ≡ 0 → (killed : E → Bool) (scan : Scan S E) → IsWanted o killed x scan []
+pub wanted_nothing : {S E : Type 0} (o : Order S E) (x : Index S E) → IsSearchable o x → x.root ≡ 0 → (killed : E → Bool) (scan : Scan S E) → IsWanted o killed x scan []
 wanted_nothing {S} {E} o x quiet none killed scan =
-    let empty : entries_of x ≡ [] = nothing_there o x quiet none (blocks_below x.blocks) (λ b h. block_of x.blocks b h) in
+    let empty : entries_of x ≡ [] = nothing_there o x quiet none (tree_blocks x.blocks) (λ b h. block_of x.blocks b h) in
     record { all_of_them = subst (λ z. IsPermutation [] (filter (is_wanted killed scan) z)) (sym empty) (IsPermutation-refl []); rising = λ k d l. absurd (omega arith) }
 
 -- the searcher finds what it is to find
-pub finds : {S E : Type 0} (o : Order S E) (x : Index S E) → IsOrder o → IsQuiet o x → (killed : E → Bool) (scan : Scan S E) → IsScan o scan → (es : List E) × IsWanted o killed x scan es × Answers killed x scan x.blocks es
+pub finds : {S E : Type 0} (o : Order S E) (x : Index S E) → IsOrder o → IsSearchable o x → (killed : E → Bool) (scan : Scan S E) → IsScan o scan → (es : List E) × IsWanted o killed x scan es × Answers killed x scan x.blocks es
 unfolding search_start
 finds {S} {E} o x laws quiet killed scan fits = elim (cases_eq x.root 0) [
   | inl none ↦
       let start : search_start x ≡ Ended [] = cond-true (x.fastroot == 0) (Ended []) (At x.fastroot []) (eq-eqb x.fastroot 0 (quiet.root_or_empty.0 none)) in
-      let empty : entries_of x ≡ [] = nothing_there o x quiet none (blocks_below x.blocks) (λ b h. block_of x.blocks b h) in (
+      let empty : entries_of x ≡ [] = nothing_there o x quiet none (tree_blocks x.blocks) (λ b h. block_of x.blocks b h) in (
         [],
         record { all_of_them = subst (λ z. IsPermutation [] (filter (is_wanted killed scan) z)) (sym empty) (IsPermutation-refl []); rising = λ k d l. absurd (omega arith) },
         ap (after_visits killed x scan x.blocks) start ∙ after_ended killed x scan x.blocks [],

@@ -1,5 +1,6 @@
 -- The searcher that goes backward.
-use Rattle.std.specs.Prelude.{◌≡◌, ◌+◌, ◌==◌, ℕ, zero, suc, Bool, true, false, not, ◌&&◌, ◌||◌, cond, nat_lt, List, [], ◌∷◌, ◌++◌, reverse}
+use Rattle.std.specs.Prelude.{◌≡◌, ◌+◌, ◌==◌, ℕ, zero, suc, Bool, true, false, not, ◌&&◌, ◌||◌, cond, nat_lt, List}
+use Rattle.std.specs.Prelude.{[], ◌∷◌, ◌++◌, reverse}
 use Rattle.std.specs.List.{filter, list_any, take_while}
 use Rattle.tree_search.specs.Order.{Order, Scan}
 use Rattle.tree_search.specs.Tree.{Page, Index}
@@ -30,11 +31,14 @@ descend_back back (c ∷ cs) = Seeks (last_or c (filter (λ d. back.reaches d.0)
 -- the entries of a page that the scan wants, from the last down to the first that is before the low bound.
 -- A half-dead page has none
 unfoldable pub found_back : {S E : Type 0} → (E → Bool) → Scan S E → Back S E → Page S E → List E
-found_back killed scan back p = cond p.half_dead [] (filter (is_wanted killed scan) (take_while (λ e. not (back.before_low e)) (reverse p.entries)))
+found_back killed scan back p =
+    cond p.half_dead [] (filter (is_wanted killed scan) (take_while (λ e. not (back.before_low e)) (reverse p.entries)))
 
 unfoldable pub read_page : {S E : Type 0} → (E → Bool) → Scan S E → Back S E → Page S E → List E → BackState E
 read_page killed scan back p ys =
-    cond (list_any back.before_low p.entries || p.prev == 0) (Over (ys ++ found_back killed scan back p)) (Reads p.prev (ys ++ found_back killed scan back p))
+    cond (list_any back.before_low p.entries || p.prev == 0)
+    (Over (ys ++ found_back killed scan back p))
+    (Reads p.prev (ys ++ found_back killed scan back p))
 
 unfoldable pub seek_page : {S E : Type 0} → (E → Bool) → Scan S E → Back S E → Page S E → BackState E
 seek_page killed scan back p =
@@ -48,8 +52,10 @@ can_visit x b = not (b == 0) && (nat_lt b x.blocks && not (x.page b).idle)
 -- after at most n visits
 abbrev pub after_back : {S E : Type 0} → (E → Bool) → Index S E → Scan S E → Back S E → ℕ → BackState E → BackState E
 after_back killed x scan back zero s = s
-after_back killed x scan back (suc n) (Seeks b) = after_back killed x scan back n (cond (can_visit x b) (seek_page killed scan back (x.page b)) Lost)
-after_back killed x scan back (suc n) (Reads b ys) = after_back killed x scan back n (cond (can_visit x b) (read_page killed scan back (x.page b) ys) Lost)
+after_back killed x scan back (suc n) (Seeks b) =
+    after_back killed x scan back n (cond (can_visit x b) (seek_page killed scan back (x.page b)) Lost)
+after_back killed x scan back (suc n) (Reads b ys) =
+    after_back killed x scan back n (cond (can_visit x b) (read_page killed scan back (x.page b) ys) Lost)
 after_back killed x scan back (suc n) (Over ys) = Over ys
 after_back killed x scan back (suc n) Lost = Lost
 
@@ -59,4 +65,6 @@ back_start x = cond (x.fastroot == 0) (Over []) (Seeks x.fastroot)
 -- the searcher ends within twice the blocks, with the reverse of what the scan is to find
 abbrev pub FindsBack : {S E : Type 0} → Order S E → Index S E → Type 0
 FindsBack {S} {E} o x =
-    (killed : E → Bool) (scan : Scan S E) (back : Back S E) → IsBack o scan back → (es : List E) × IsWanted o killed x scan es × (after_back killed x scan back (x.blocks + x.blocks) (back_start x) ≡ Over (reverse es))
+    (killed : E → Bool) (scan : Scan S E) (back : Back S E) → IsBack o scan back
+    → (es : List E) × IsWanted o killed x scan es
+    × (after_back killed x scan back (x.blocks + x.blocks) (back_start x) ≡ Over (reverse es))

@@ -1,6 +1,7 @@
 -- Entries, separators and scans by key columns, each column with an order of its own.
 -- V stands for the values of a column, T for the places of tuples in the table (TIDs).
-use Rattle.std.specs.Prelude.{◌≡◌, ◌≤◌, ℕ, suc, Bool, true, false, not, ◌&&◌, ◌||◌, nat_le, nat_lt, List, [], ◌∷◌, length, Option, Some, None}
+use Rattle.std.specs.Prelude.{◌≡◌, ◌≤◌, ℕ, suc, Bool, true, false, not, ◌&&◌, ◌||◌, nat_le, nat_lt, List, [], ◌∷◌}
+use Rattle.std.specs.Prelude.{length, Option, Some, None}
 use Rattle.std.specs.Ordering.{ordering_then, is_lt, is_le}
 use Rattle.std.specs.declared.cmp.Ordering.{Ordering}
 use Rattle.std.specs.declared.cmp.Ordering.TheVariants.{Less, Equal, Greater}
@@ -40,14 +41,14 @@ abbrev pub compare_keys : {V T : Type 0} → Columns V → (T → T → Ordering
 compare_keys cs ts s t = ordering_then (compare_values cs 0 s.kept t.kept) (compare_tids ts s.tid t.tid)
 
 -- an entry is compared as a separator that lacks nothing
-abbrev pub key_of : {V T : Type 0} → Entry V T → Separator V T
-key_of e = record { kept = e.values; tid = Some e.tid }
+abbrev pub as_separator : {V T : Type 0} → Entry V T → Separator V T
+as_separator e = record { kept = e.values; tid = Some e.tid }
 
 abbrev pub key_order : {V T : Type 0} → Columns V → (T → T → Ordering) → Order (Separator V T) (Entry V T)
 key_order cs ts =
     record {
-      precedes = λ d e. is_lt (compare_keys cs ts (key_of d) (key_of e));
-      within = λ e s. is_le (compare_keys cs ts (key_of e) s);
+      precedes = λ d e. is_lt (compare_keys cs ts (as_separator d) (as_separator e));
+      within = λ e s. is_le (compare_keys cs ts (as_separator e) s);
       under = λ s t. is_lt (compare_keys cs ts s t);
     }
 
@@ -89,8 +90,8 @@ is_below Less at_tie = true
 is_below Equal at_tie = at_tie
 is_below Greater at_tie = false
 
--- The table of going right. The columns: how the low bound stands to the separator, whether the bound is inclusive, whether
--- the separator keeps no more values than the bound has, whether it has no TID.
+-- The table of going right. The columns: how the low bound stands to the separator, whether the bound is inclusive,
+-- whether the separator keeps no more values than the bound has, whether it has no TID.
 abbrev pub right_table : Ordering → (inclusive no_longer without_tid : Bool) → Bool
 right_table Greater inclusive no_longer without_tid = true
 right_table Less inclusive no_longer without_tid = false
@@ -103,7 +104,8 @@ abbrev pub right_of_kept : {V T : Type 0} → Columns V → List V → Bool → 
 right_of_kept cs [] inclusive kept tid = false
 right_of_kept cs (x ∷ xs) inclusive [] tid = true
 right_of_kept cs (x ∷ xs) inclusive (k ∷ ks) tid =
-    right_table (compare_both cs 0 (x ∷ xs) (k ∷ ks)) inclusive (nat_le (length (k ∷ ks)) (length (x ∷ xs))) (is_without tid)
+    right_table (compare_both cs 0 (x ∷ xs) (k ∷ ks)) inclusive
+    (nat_le (length (k ∷ ks)) (length (x ∷ xs))) (is_without tid)
 
 abbrev pub goes_right : {V T : Type 0} → Columns V → Bound V → Separator V T → Bool
 goes_right cs low s = right_of_kept cs low.values low.inclusive s.kept s.tid
@@ -120,7 +122,8 @@ past_bound cs (x ∷ xs) inclusive vs = is_below (compare_first cs 0 (x ∷ xs) 
 
 -- the values keep to both bounds
 abbrev pub in_bounds : {V : Type 0} → Columns V → Bound V → Bound V → List V → Bool
-in_bounds cs low high vs = not (before_bound cs low.values low.inclusive vs) && not (past_bound cs high.values high.inclusive vs)
+in_bounds cs low high vs =
+    not (before_bound cs low.values low.inclusive vs) && not (past_bound cs high.values high.inclusive vs)
 
 -- the entries between two bounds
 abbrev pub scan_between : {V T : Type 0} → Columns V → Bound V → Bound V → Scan (Separator V T) (Entry V T)

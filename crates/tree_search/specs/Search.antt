@@ -1,15 +1,16 @@
 -- What a scan is to find, and the searcher that finds it.
-use Rattle.std.specs.Prelude.{◌≡◌, ◌==◌, ℕ, zero, suc, Bool, true, false, not, ◌&&◌, ◌||◌, cond, nat_lt, List, [], ◌∷◌, ◌++◌, Option, Some, None, length, take_while}
+use Rattle.std.specs.Prelude.{◌≡◌, ◌==◌, ℕ, zero, suc, Bool, true, false, not, ◌&&◌, ◌||◌, cond, nat_lt, List, []}
+use Rattle.std.specs.Prelude.{◌∷◌, ◌++◌, Option, Some, None, length, take_while}
 use Rattle.std.specs.List.{filter, flat_map, list_any, AllAdjacentBelow}
 use Rattle.std.specs.List.Sorted.{IsPermutation}
 use Rattle.tree_search.specs.Order.{Order, Scan, IsScan}
 use Rattle.tree_search.specs.Tree.{Page, Index}
 
 -- the blocks from 1 to n - 1, rising
-abbrev pub blocks_below : ℕ → List ℕ
-blocks_below zero = []
-blocks_below (suc zero) = []
-blocks_below (suc (suc n)) = blocks_below (suc n) ++ suc n ∷ []
+abbrev pub tree_blocks : ℕ → List ℕ
+tree_blocks zero = []
+tree_blocks (suc zero) = []
+tree_blocks (suc (suc n)) = tree_blocks (suc n) ++ suc n ∷ []
 
 -- the entries of a leaf that is in use and not half-dead
 abbrev pub leaf_entries : {S E : Type 0} → Page S E → List E
@@ -17,14 +18,15 @@ leaf_entries p = cond (p.leaf && (not p.idle && not p.half_dead)) p.entries []
 
 -- the entries of the file, block by block, linked or not
 abbrev pub entries_of : {S E : Type 0} → Index S E → List E
-entries_of x = flat_map (λ b. leaf_entries (x.page b)) (blocks_below x.blocks)
+entries_of x = flat_map (λ b. leaf_entries (x.page b)) (tree_blocks x.blocks)
 
 -- the scan is to yield this entry
 abbrev pub is_wanted : {S E : Type 0} → (E → Bool) → Scan S E → E → Bool
 is_wanted killed scan e = scan.matches e && not (killed e)
 
 -- these are the matching unkilled entries of the file, each once, in order
-pub record IsWanted {S E : Type 0} (o : Order S E) (killed : E → Bool) (x : Index S E) (scan : Scan S E) (es : List E) : Type 0 where
+pub record IsWanted {S E : Type 0} (o : Order S E) (killed : E → Bool) (x : Index S E) (scan : Scan S E)
+    (es : List E) : Type 0 where
   pub all_of_them : IsPermutation es (filter (is_wanted killed scan) (entries_of x))
   pub rising : AllAdjacentBelow (λ d e. o.precedes d e ≡ true) es (length es)
 
@@ -79,12 +81,15 @@ search_start x = cond (x.fastroot == 0) (Ended []) (At x.fastroot [])
 abbrev pub Answers : {S E : Type 0} → (E → Bool) → Index S E → Scan S E → ℕ → List E → Type 0
 Answers killed x scan n es = after_visits killed x scan n (search_start x) ≡ Ended es
 
--- whatever the scan, the searcher ends within as many visits as there are blocks, and has yielded exactly what it is to find
+-- whatever the scan, the searcher ends within as many visits as there are blocks, and has yielded exactly what it is to
+-- find
 abbrev pub FindsAll : {S E : Type 0} → Order S E → Index S E → Type 0
 FindsAll {S} {E} o x =
-    (killed : E → Bool) (scan : Scan S E) → IsScan o scan → (es : List E) × IsWanted o killed x scan es × Answers killed x scan x.blocks es
+    (killed : E → Bool) (scan : Scan S E) → IsScan o scan
+    → (es : List E) × IsWanted o killed x scan es × Answers killed x scan x.blocks es
 
 -- what the scan is to find is one list, and it is the searcher's
 abbrev pub FindsOnly : {S E : Type 0} → Order S E → Index S E → Type 0
 FindsOnly {S} {E} o x =
-    (killed : E → Bool) (scan : Scan S E) → IsScan o scan → (es : List E) → IsWanted o killed x scan es → Answers killed x scan x.blocks es
+    (killed : E → Bool) (scan : Scan S E) → IsScan o scan
+    → (es : List E) → IsWanted o killed x scan es → Answers killed x scan x.blocks es

@@ -1,5 +1,6 @@
 -- What is left for the searcher at a place of a leaf.
-use Rattle.std.specs.Prelude.{◌≡◌, ◌≢◌, ◌≤◌, ◌<◌, ◌+◌, ◌==◌, ℕ, zero, suc, Bool, true, false, not, ◌||◌, cond, List, [], ◌∷◌, take_while, take, drop, length, slice_get, Some}
+use Rattle.std.specs.Prelude.{◌≡◌, ◌≢◌, ◌≤◌, ◌<◌, ◌+◌, ◌==◌, ℕ, zero, suc, Bool, true, false, not, ◌||◌, cond, List}
+use Rattle.std.specs.Prelude.{[], ◌∷◌, take_while, take, drop, length, slice_get, Some}
 use Rattle.std.specs.List.{filter, list_any}
 use Rattle.tree_search.specs.Order.{Scan}
 use Rattle.tree_search.specs.Tree.{Index}
@@ -10,7 +11,8 @@ unfoldable pub from_place : {S E : Type 0} → (E → Bool) → Index S E → Sc
 from_place killed x scan b j =
     cond (list_any scan.past_high (drop j (x.page b).entries) || (x.page b).next == 0)
     (Ended (filter (is_wanted killed scan) (take_while (λ e. not (scan.past_high e)) (drop j (x.page b).entries))))
-    (At (x.page b).next (filter (is_wanted killed scan) (take_while (λ e. not (scan.past_high e)) (drop j (x.page b).entries))))
+    (At (x.page b).next
+    (filter (is_wanted killed scan) (take_while (λ e. not (scan.past_high e)) (drop j (x.page b).entries))))
 
 abbrev pub yielded_of : {E : Type 0} → State E → List E
 yielded_of (At b ys) = ys
@@ -31,7 +33,8 @@ rest_of killed x scan s = yielded_of (after_visits killed x scan x.blocks s)
 unfoldable pub left_of : {S E : Type 0} → (E → Bool) → Index S E → Scan S E → State E → ℕ
 left_of killed x scan s = visits_made killed x scan x.blocks s
 
--- The place stands at the scan: the searcher comes to its page and reads it there, and no entry before it is past the high bound.
+-- The place stands at the scan: the searcher comes to its page and reads it there, and no entry before it is past the
+-- high bound.
 pub record Stands {S E : Type 0} (killed : E → Bool) (x : Index S E) (scan : Scan S E) (b j : ℕ) : Type 0 where
   pub visits : ℕ
   pub so_far : List E
@@ -44,19 +47,29 @@ pub record Stands {S E : Type 0} (killed : E → Bool) (x : Index S E) (scan : S
 -- what each step of a reader along the leaves may rely on
 pub record ReadsOn {S E : Type 0} (killed : E → Bool) (x : Index S E) (scan : Scan S E) (b j : ℕ) : Type 0 where
   -- an entry that is past the high bound ends it
-  pub past : (e : E) → slice_get (x.page b).entries j ≡ Some e → scan.past_high e ≡ true → (rest_of killed x scan (from_place killed x scan b j) ≡ []) × (left_of killed x scan (from_place killed x scan b j) ≡ 0)
+  pub past : (e : E) → slice_get (x.page b).entries j ≡ Some e → scan.past_high e ≡ true
+      → (rest_of killed x scan (from_place killed x scan b j) ≡ [])
+      × (left_of killed x scan (from_place killed x scan b j) ≡ 0)
   -- one that is wanted comes first, and what is left behind it follows
-  pub wanted : (e : E) → slice_get (x.page b).entries j ≡ Some e → scan.past_high e ≡ false → is_wanted killed scan e ≡ true →
-      (rest_of killed x scan (from_place killed x scan b j) ≡ e ∷ rest_of killed x scan (from_place killed x scan b (j + 1)))
-      × (left_of killed x scan (from_place killed x scan b j) ≡ left_of killed x scan (from_place killed x scan b (j + 1)))
+  pub wanted : (e : E) → slice_get (x.page b).entries j ≡ Some e
+      → scan.past_high e ≡ false → is_wanted killed scan e ≡ true
+      → (rest_of killed x scan (from_place killed x scan b j)
+      ≡ e ∷ rest_of killed x scan (from_place killed x scan b (j + 1)))
+      × (left_of killed x scan (from_place killed x scan b j)
+      ≡ left_of killed x scan (from_place killed x scan b (j + 1)))
       × Stands killed x scan b (j + 1)
   -- one that isn't is passed over
-  pub other : (e : E) → slice_get (x.page b).entries j ≡ Some e → scan.past_high e ≡ false → is_wanted killed scan e ≡ false →
-      (rest_of killed x scan (from_place killed x scan b j) ≡ rest_of killed x scan (from_place killed x scan b (j + 1)))
-      × (left_of killed x scan (from_place killed x scan b j) ≡ left_of killed x scan (from_place killed x scan b (j + 1)))
+  pub other : (e : E) → slice_get (x.page b).entries j ≡ Some e
+      → scan.past_high e ≡ false → is_wanted killed scan e ≡ false
+      → (rest_of killed x scan (from_place killed x scan b j)
+      ≡ rest_of killed x scan (from_place killed x scan b (j + 1)))
+      × (left_of killed x scan (from_place killed x scan b j)
+      ≡ left_of killed x scan (from_place killed x scan b (j + 1)))
       × Stands killed x scan b (j + 1)
   -- at the end of the last page nothing is left
-  pub last : j ≡ length (x.page b).entries → (x.page b).next ≡ 0 → (rest_of killed x scan (from_place killed x scan b j) ≡ []) × (left_of killed x scan (from_place killed x scan b j) ≡ 0)
+  pub last : j ≡ length (x.page b).entries → (x.page b).next ≡ 0
+      → (rest_of killed x scan (from_place killed x scan b j) ≡ [])
+      × (left_of killed x scan (from_place killed x scan b j) ≡ 0)
   -- at that of another what is left is what the right sibling leads to
   pub next : j ≡ length (x.page b).entries → (x.page b).next ≢ 0 →
       (rest_of killed x scan (from_place killed x scan b j) ≡ rest_of killed x scan (At (x.page b).next []))
@@ -79,12 +92,14 @@ pub record VisitsOn {S E : Type 0} (killed : E → Bool) (x : Index S E) (scan :
   -- the page that the visit leads to is visited too
   pub goes_on : (c : ℕ) (ys : List E) → visit killed x scan b [] ≡ At c ys → IsVisited killed x scan c
   -- a leaf that is read is read from its first entry on
-  pub reads : (right_of scan.goes_right (x.page b).high_key || (x.page b).half_dead) ≡ false → (x.page b).leaf ≡ true → (visit killed x scan b [] ≡ from_place killed x scan b 0) × Stands killed x scan b 0
+  pub reads : (right_of scan.goes_right (x.page b).high_key || (x.page b).half_dead) ≡ false → (x.page b).leaf ≡ true
+      → (visit killed x scan b [] ≡ from_place killed x scan b 0) × Stands killed x scan b 0
 
 -- for every scan
 abbrev pub ReadsInSteps : {S E : Type 0} → Index S E → Type 0
 ReadsInSteps {S} {E} x =
-    (killed : E → Bool) (scan : Scan S E) (goal : List E) → after_visits killed x scan x.blocks (search_start x) ≡ Ended goal →
-    (rest_of killed x scan (search_start x) ≡ goal)
+    (killed : E → Bool) (scan : Scan S E) (goal : List E)
+    → after_visits killed x scan x.blocks (search_start x) ≡ Ended goal
+    → (rest_of killed x scan (search_start x) ≡ goal)
     × ((b : ℕ) → IsVisited killed x scan b → VisitsOn killed x scan b)
     × ((b j : ℕ) → Stands killed x scan b j → ReadsOn killed x scan b j)

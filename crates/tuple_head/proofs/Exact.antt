@@ -1,8 +1,9 @@
 -- The first of the header's rules that is broken is broken, and there is none exactly where the header keeps them all.
 use Rattle.std.proofs.Common.{◌≡◌, ◌↔◌, ℕ, ◌+◌, ◌-◌, ◌*◌, ◌/◌, ◌≤◌, inl, inr, true, None, IfSome, arith}
 use Rattle.std.proofs.lemmas.Bool.{cases_Bool, cond-true, cond-false, eqb-true, ltb-false, not-false, or_parts}
+use Rattle.page_layout.specs.Page.{max_align}
 use Rattle.tuple_head.specs.declared.HeapHead.{HeapHead}
-use Rattle.tuple_head.specs.Head.{KeepsHeadRules, PlacesAttributes, breaks_head_rule, expected_hoff, has_nulls, head_rule_of, head_rules, natts_of, up8}
+use Rattle.tuple_head.specs.Head.{KeepsHeadRules, PlacesAttributes, breaks_head_rule, expected_hoff, has_nulls, head_rule_of, head_rules, natts_of}
 use Rattle.tuple_head.proofs.First.{find-none, first_passes, none_passes}
 
 pub none_is_exact : (columns len : ℕ) (head : HeapHead) → (head_rule_of columns len head ≡ None) ↔ KeepsHeadRules columns len head
@@ -21,13 +22,13 @@ first_is_broken columns len head = first_passes (breaks_head_rule columns len he
 expected_at_least : (head : HeapHead) → 24 ≤ expected_hoff head
 unfolding expected_hoff
 expected_at_least head = elim (cases_Bool (has_nulls head)) [
-  | inl e ↦ let at = cond-true (has_nulls head) (up8 (23 + (natts_of head + 7) / 8)) 24 e in omega (arith, at)
-  | inr e ↦ let at = cond-false (has_nulls head) (up8 (23 + (natts_of head + 7) / 8)) 24 e in omega (arith, at)
+  | inl e ↦ let at = cond-true (has_nulls head) (max_align (23 + (natts_of head + 7) / 8)) 24 e in omega (arith, at)
+  | inr e ↦ let at = cond-false (has_nulls head) (max_align (23 + (natts_of head + 7) / 8)) 24 e in omega (arith, at)
 ]
 
 expected_nulls : (head : HeapHead) → has_nulls head ≡ true → natts_of head ≤ 8 * (expected_hoff head - 23)
 unfolding expected_hoff
-expected_nulls head e = let at = cond-true (has_nulls head) (up8 (23 + (natts_of head + 7) / 8)) 24 e in omega (arith, at)
+expected_nulls head e = let at = cond-true (has_nulls head) (max_align (23 + (natts_of head + 7) / 8)) 24 e in omega (arith, at)
 
 pub attributes_are_placed : (columns len : ℕ) (head : HeapHead) → KeepsHeadRules columns len head → PlacesAttributes columns len head
 attributes_are_placed columns len head kept =

@@ -1,11 +1,11 @@
--- What the header of a heap tuple says. A word's bits are named as in access/htup_details.h, without their prefix HEAP_.
-use Rattle.std.specs.Prelude.{◌≡◌, ℕ, ◌+◌, ◌-◌, ◌*◌, ◌/◌, ◌≤◌, Bool, true, false, not, ◌==◌, ◌&&◌, ◌||◌, nat_le, nat_lt, bit_and, if◌then◌else◌, List, [], ◌∷◌, get_or, Option, find}
-use Rattle.page_layout.specs.Page.{has_bit, u16_at, u32_at}
+-- What the header of a heap tuple says: its fields, a test for each thing that its bits say, and the rules H4 to H8.
+-- A word's bits are named as in access/htup_details.h, without their prefix HEAP_.
+use Rattle.std.specs.Prelude.{◌≡◌, ℕ, ◌+◌, ◌-◌, ◌*◌, ◌/◌, ◌≤◌, Bool, true, false, not, ◌==◌, ◌&&◌, ◌||◌, nat_le}
+use Rattle.std.specs.Prelude.{nat_lt, bit_and, if◌then◌else◌, List, [], ◌∷◌, get_or, Option, find}
+use Rattle.page_layout.specs.Page.{block_at, has_bit, max_align, u16_at, u32_at}
 use Rattle.page_layout.specs.declared.rules.Rule.{Rule}
 use Rattle.page_layout.specs.declared.rules.Rule.TheVariants.{H4, H5, H6, H7, H8}
 use Rattle.tuple_head.specs.declared.HeapHead.{HeapHead}
-
--- THE FIELDS
 
 -- the header in a tuple's first bytes
 unfoldable pub tuple_head_of : List ℕ → HeapHead
@@ -13,13 +13,13 @@ tuple_head_of bytes = record {
   xmin = u32_at bytes 0;
   xmax = u32_at bytes 4;
   field3 = u32_at bytes 8;
-  ctid = record { block = u16_at bytes 12 * 65536 + u16_at bytes 14; item = u16_at bytes 16 };
+  ctid = record { block = block_at bytes 12; item = u16_at bytes 16 };
   infomask2 = u16_at bytes 18;
   infomask = u16_at bytes 20;
   hoff = get_or bytes 22 0;
 }
 
--- THE TESTS
+-- The tests, a bit or some bits each.
 
 -- HASNULL: there are null bits
 unfoldable pub has_nulls : HeapHead → Bool
@@ -89,15 +89,11 @@ needs_freezing head = nat_le 3 (seen_xmin head) || is_xmax_unfrozen head || is_m
 unfoldable pub natts_of : HeapHead → ℕ
 natts_of head = bit_and head.infomask2 0x07FF
 
--- rounded up to a multiple of 8
-abbrev pub up8 : ℕ → ℕ
-up8 n = (n + 7) / 8 * 8
-
 -- where the attributes begin: after the null bits, if there are any
 unfoldable pub expected_hoff : HeapHead → ℕ
-expected_hoff head = if has_nulls head then up8 (23 + (natts_of head + 7) / 8) else 24
+expected_hoff head = if has_nulls head then max_align (23 + (natts_of head + 7) / 8) else 24
 
--- THE RULES
+-- The rules, each by what is wrong where it is broken.
 
 -- H4
 abbrev pub has_more_attributes_than_columns : ℕ → HeapHead → Bool
@@ -144,7 +140,8 @@ pub record KeepsHeadRules (columns len : ℕ) (head : HeapHead) : Type 0 where
   pub update : is_hot_updated_by_no_transaction head ≡ false
   pub chain : is_heap_only_without_update head ≡ false
 
--- there are no more attributes than columns, the header ends within the tuple, and from byte 23 on it has a bit for each attribute
+-- there are no more attributes than columns, the header ends within the tuple, and from byte 23 on it has a bit for
+-- each attribute
 pub record PlacesAttributes (columns len : ℕ) (head : HeapHead) : Type 0 where
   pub natts : natts_of head ≤ columns
   pub begins : 24 ≤ head.hoff

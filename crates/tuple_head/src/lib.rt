@@ -5,7 +5,10 @@
 #![tactic(auto)]
 
 ghost use Rattle.std.specs.Prelude.{◌≡◌, ◌<◌, ◌≤◌, length};
-ghost use Rattle.tuple_head.specs.Head.{has_nulls, is_frozen, is_heap_only, is_hinted_invalid, is_hot_updated, is_locked_only, is_moved, is_multi, is_old_form, is_updated, is_xmax_committed, is_xmax_invalid, is_xmax_unfrozen, is_xmin_committed, natts_of, needs_freezing, seen_xmin, tuple_head_of};
+ghost use Rattle.tuple_head.specs.Head.{has_nulls, is_frozen, is_heap_only, is_hinted_invalid, is_hot_updated};
+ghost use Rattle.tuple_head.specs.Head.{is_locked_only, is_moved, is_multi, is_old_form, is_updated};
+ghost use Rattle.tuple_head.specs.Head.{is_xmax_committed, is_xmax_invalid, is_xmax_unfrozen, is_xmin_committed};
+ghost use Rattle.tuple_head.specs.Head.{natts_of, needs_freezing, seen_xmin, tuple_head_of};
 
 mod masks;
 mod rules;
@@ -13,7 +16,7 @@ mod rules;
 mod tests;
 
 use key_orders::Tid;
-use page_layout::{has_bit, u16_at, u32_at};
+use page_layout::{block_at, has_bit, u16_at, u32_at};
 pub use rules::kept_rules_place_attributes;
 
 // The transaction that stands for the inserter of a frozen tuple.
@@ -53,7 +56,7 @@ pub fn heap_head(bytes: &[u8]) -> HeapHead
         xmax: u32_at(bytes, 4),
         field3: u32_at(bytes, 8),
         ctid: Tid {
-            block: u32::from(u16_at(bytes, 12)) * 65536 + u32::from(u16_at(bytes, 14)),
+            block: block_at(bytes, 12),
             item: u16_at(bytes, 16),
         },
         infomask2: u16_at(bytes, 18),

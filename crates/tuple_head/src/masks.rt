@@ -1,4 +1,4 @@
-// The bits of a tuple header's two words, named as in access/htup_details.h without their prefix.
+//! The bits of a tuple header's two words, named as in access/htup_details.h without their prefix.
 
 // Bits of t_infomask.
 pub(crate) const HASNULL: u16 = 0x0001;

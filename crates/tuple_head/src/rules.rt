@@ -1,10 +1,13 @@
-// The rules that a header alone may break.
+//! The rules that a header alone may break.
 ghost use Rattle.std.specs.Prelude.{◌≡◌, ◌↔◌, ℕ, false, IfSome, IsNone, IsTrue};
 ghost use Rattle.tuple_head.specs.declared.HeapHead.{HeapHead};
-ghost use Rattle.tuple_head.specs.Head.{KeepsHeadRules, PlacesAttributes, breaks_head_rule, expected_hoff, has_misplaced_attributes, has_more_attributes_than_columns, has_multixact_hinted_committed, head_rule_of, is_heap_only_without_update, is_hot_updated_by_no_transaction, is_old_form};
+ghost use Rattle.tuple_head.specs.Head.{KeepsHeadRules, PlacesAttributes, breaks_head_rule, expected_hoff};
+ghost use Rattle.tuple_head.specs.Head.{has_misplaced_attributes, has_more_attributes_than_columns};
+ghost use Rattle.tuple_head.specs.Head.{has_multixact_hinted_committed, head_rule_of, is_heap_only_without_update};
+ghost use Rattle.tuple_head.specs.Head.{is_hot_updated_by_no_transaction, is_old_form};
 
 use crate::HeapHead;
-use page_layout::Rule;
+use page_layout::{Rule, max_align};
 
 impl HeapHead {
     // Where the attributes begin, by the number of attributes and whether there are null bits.
@@ -13,7 +16,7 @@ impl HeapHead {
         ensures { result ≡ expected_hoff self }
     {
         if self.has_nulls() {
-            (23 + (self.natts() + 7) / 8 + 7) / 8 * 8
+            max_align(23 + (self.natts() + 7) / 8)
         } else {
             24
         }
@@ -85,5 +88,6 @@ impl HeapHead {
 /// A header that keeps the rules H4 to H8 places the tuple's attributes: they are no more than the
 /// columns, the header ends within the tuple, and from byte 23 on it has a bit for each attribute.
 pub fn kept_rules_place_attributes()
-    ensures { (columns len : ℕ) (head : HeapHead) → KeepsHeadRules columns len head → PlacesAttributes columns len head }
+    ensures { (columns len : ℕ) (head : HeapHead) →
+        KeepsHeadRules columns len head → PlacesAttributes columns len head }
 {}

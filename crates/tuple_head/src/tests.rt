@@ -1,3 +1,4 @@
+//! Headers as they lie in files, and a table of masks for each test of their bits.
 use super::*;
 use page_layout::Rule;
 

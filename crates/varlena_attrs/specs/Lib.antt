@@ -1,8 +1,7 @@
 pub mod Forms
+pub mod Faults
 pub mod Attributes
 pub mod Reading
-pub mod Tuples
 pub mod Shown
-pub mod Values
 pub mod Inline
 pub mod Laws

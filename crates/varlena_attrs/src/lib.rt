@@ -14,11 +14,10 @@ mod places;
 mod reading;
 #[cfg(test)]
 mod tests;
-mod values;
 
 pub use buffer::AttrBuffer;
 pub use fault::AttrFault;
 pub use inline::ColumnLayout;
+pub use key_orders::value_of;
 pub use places::{Attr, AttrPlace, ToastPointer, pointer_at};
 pub use reading::{Attrs, attributes, attributes_are_unique};
-pub use values::value_of;

@@ -4,8 +4,9 @@
 //! `access/transam/README`.
 #![tactic(auto)]
 
-ghost use Rattle.std.specs.Prelude.{◌≡◌, IfOk};
-ghost use Rattle.outside.specs.Outside.{HasCause, IfTold};
+ghost use Rattle.std.specs.Prelude.{◌≡◌};
+ghost use Rattle.outside.specs.Outside.{AskedAtMost, Tells};
+ghost use Rattle.rel_files.specs.Faults.{read_fault};
 ghost use Rattle.rel_files.specs.Slru.{dir_of};
 ghost use Rattle.xact_status.specs.Status.{SaysTrue, status_of, two_bits};
 
@@ -21,6 +22,7 @@ const FIRST_NORMAL_XID: u32 = 3;
 const XIDS_PER_BYTE: u32 = 4;
 
 const XIDS_PER_PAGE: u32 = 32768;
+
 /// What the two bits of a committed transaction are.
 const COMMITTED: u8 = 1;
 
@@ -54,10 +56,10 @@ fn two_bits(byte: u8, xid: u32) -> u8
 /// `ReadFault` comes only where a file can't be read. One byte at most is asked for, and no memory.
 #[tactic(auto, unfolding(crate::specs::Status::status_of))]
 pub fn status<F: Files>(files: &mut F, xact: &Slru, xid: u32) -> Result<XidState, ReadFault>
-    ensures told { IfOk result (λ state. IfTold (F.held files.old) (λ names. state ≡ status_of names (dir_of xact.now) xid)) }
-    ensures says_true { IfOk result (λ state. IfTold (F.held files.old) (λ names. SaysTrue names (dir_of xact.now) xid state)) }
-    ensures same { F.held files.new ≡ F.held files.old }
-    ensures cause { HasCause (F.faults files.old) (F.faults files.new) result }
+    ensures told { Tells F.seen files.old result (λ state names. state ≡ status_of names (dir_of xact.now) xid) }
+    ensures says_true { Tells F.seen files.old result (λ state names.
+        SaysTrue names (dir_of xact.now) xid state) }
+    ensures asked { AskedAtMost 1 F.seen files.old files.new result read_fault }
 {
     if xid == 0 {
         return Ok(XidState::NotCommitted);

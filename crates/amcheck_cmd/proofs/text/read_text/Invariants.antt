@@ -1,5 +1,5 @@
 use Rattle.std.proofs.Common.{◌≡◌, ◌-◌, ◌≤◌, take}
-use Rattle.outside.specs.Outside.{IfHeld}
+use Rattle.outside.specs.Outside.{IfHeld, Passed}
 use Rattle.outside.specs.declared.files.Part.TheVariants.{Segment}
 use Rattle.amcheck_cmd.proofs.text.read_text.Given as goal
 
@@ -7,9 +7,8 @@ use Rattle.amcheck_cmd.proofs.text.read_text.Given as goal
 abbrev pub invariant-loop-done : goal.invariant-loop-done
 invariant-loop-done g l = record {
   within : l.done ≤ l.len;
-  text : IfHeld (g.F.Files.held l.initial.files) l.file (Segment 0) (λ bytes. l.text ≡ take l.done bytes);
-  same : g.F.Files.held l.files ≡ g.F.Files.held l.initial.files;
-  later : g.F.Files.faults l.initial.files ≤ g.F.Files.faults l.files;
+  text : IfHeld g.F.Files.seen l.initial.files l.file (Segment 0) (λ bytes. l.text ≡ take l.done bytes);
+  asked : Passed g.F.Files.seen l.initial.files l.files;
 }
 
 abbrev pub decreases-loop-done : goal.decreases-loop-done

@@ -24,20 +24,20 @@ returns-in_err-read_block-clause-doubts g c names told =
 
 pub returns-clause-findings : goal.returns-clause-findings
 returns-clause-findings g c names told =
-    Adds-same _ _ _ _ _ (block_found _ names _ _ _ _ (c.in_ok-read_block.ensures.bytes names (c.in_ok-bits.ensures.same ∙ told))) (c.judge_table_page.ensures.findings names (c.in_ok-read_block.ensures.same ∙ (c.in_ok-bits.ensures.same ∙ told)))
+    Adds-same _ _ _ _ _ (block_found _ names _ _ _ _ (c.in_ok-read_block.ensures.bytes names (c.in_ok-bits.ensures.asked.same ∙ told))) (c.judge_table_page.ensures.findings names (c.in_ok-read_block.ensures.asked.same ∙ (c.in_ok-bits.ensures.asked.same ∙ told)))
 
 pub returns-clause-doubts : goal.returns-clause-doubts
 returns-clause-doubts g c names told =
-    Adds-same _ _ _ _ _ (block_doubted _ names _ _ _ _ (c.in_ok-read_block.ensures.bytes names (c.in_ok-bits.ensures.same ∙ told))) (c.judge_table_page.ensures.doubts names (c.in_ok-read_block.ensures.same ∙ (c.in_ok-bits.ensures.same ∙ told)))
+    Adds-same _ _ _ _ _ (block_doubted _ names _ _ _ _ (c.in_ok-read_block.ensures.bytes names (c.in_ok-bits.ensures.asked.same ∙ told))) (c.judge_table_page.ensures.doubts names (c.in_ok-read_block.ensures.asked.same ∙ (c.in_ok-bits.ensures.asked.same ∙ told)))
 
 pub returns-clause-externals : goal.returns-clause-externals
 returns-clause-externals g c =
     on_ok_weaker c.judge_table_page.result
-    (λ kept names told. kept names (c.in_ok-read_block.ensures.same ∙ (c.in_ok-bits.ensures.same ∙ told)) ∙ ap (λ (xs : List ExternalValue). c.args.kept.now.externals.items ++ xs) (block_has_externals _ names _ _ _ _ (c.in_ok-read_block.ensures.bytes names (c.in_ok-bits.ensures.same ∙ told))))
+    (λ kept names told. kept names (c.in_ok-read_block.ensures.asked.same ∙ (c.in_ok-bits.ensures.asked.same ∙ told)) ∙ ap (λ (xs : List ExternalValue). c.args.kept.now.externals.items ++ xs) (block_has_externals _ names _ _ _ _ (c.in_ok-read_block.ensures.bytes names (c.in_ok-bits.ensures.asked.same ∙ told))))
     c.judge_table_page.ensures.externals
 
 pub returns-clause-chunks : goal.returns-clause-chunks
 returns-clause-chunks g c =
     on_ok_weaker c.judge_table_page.result
-    (λ kept names told. kept names (c.in_ok-read_block.ensures.same ∙ (c.in_ok-bits.ensures.same ∙ told)) ∙ ap (λ (xs : List Chunk). c.args.kept.now.chunks ++ xs) (block_has_chunks _ names _ _ _ _ (c.in_ok-read_block.ensures.bytes names (c.in_ok-bits.ensures.same ∙ told))))
+    (λ kept names told. kept names (c.in_ok-read_block.ensures.asked.same ∙ (c.in_ok-bits.ensures.asked.same ∙ told)) ∙ ap (λ (xs : List Chunk). c.args.kept.now.chunks ++ xs) (block_has_chunks _ names _ _ _ _ (c.in_ok-read_block.ensures.bytes names (c.in_ok-bits.ensures.asked.same ∙ told))))
     c.judge_table_page.ensures.chunks

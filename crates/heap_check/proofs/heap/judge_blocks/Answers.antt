@@ -1,5 +1,6 @@
-use Rattle.std.proofs.Common.{◌∙◌, refl, arith}
+use Rattle.std.proofs.Common.{◌∙◌, arith}
 use Rattle.std.proofs.lemmas.Result.{err_from_is_err_and}
+use Rattle.outside.proofs.Asking.{Passed-next, Passed-none}
 use Rattle.heap_check.proofs.Adding.{cut_below, none_below, one_more_below}
 use Rattle.heap_check.proofs.heap.judge_blocks.Goals as goal
 
@@ -10,29 +11,27 @@ loop-block-init g c = record {
   externals = λ names told. none_below _ _;
   chunks = λ names told. none_below _ _;
   hand = c.requires.hand;
-  same = refl;
-  later = omega arith;
+  asked = Passed-none;
 }
 
 pub loop-block-preserved : goal.loop-block-preserved
 loop-block-preserved g c = record {
-  findings = λ names told. one_more_below _ _ _ _ _ (c.loop-block.invariant.findings names told) (c.in_ok-judge_block.ensures.findings names (c.loop-block.invariant.same ∙ told));
-  doubts = λ names told. one_more_below _ _ _ _ _ (c.loop-block.invariant.doubts names told) (c.in_ok-judge_block.ensures.doubts names (c.loop-block.invariant.same ∙ told));
-  externals = λ names told. one_more_below _ _ _ _ _ (c.loop-block.invariant.externals names told) (c.in_ok-judge_block.ensures.externals names (c.loop-block.invariant.same ∙ told));
-  chunks = λ names told. one_more_below _ _ _ _ _ (c.loop-block.invariant.chunks names told) (c.in_ok-judge_block.ensures.chunks names (c.loop-block.invariant.same ∙ told));
-  hand = λ names told. c.in_ok-judge_block.ensures.hand names (c.loop-block.invariant.same ∙ told);
-  same = c.in_ok-judge_block.ensures.same ∙ c.loop-block.invariant.same;
-  later = omega (arith, c.in_ok-judge_block.ensures.cause.later, c.loop-block.invariant.later);
+  findings = λ names told. one_more_below _ _ _ _ _ (c.loop-block.invariant.findings names told) (c.in_ok-judge_block.ensures.findings names (c.loop-block.invariant.asked.same ∙ told));
+  doubts = λ names told. one_more_below _ _ _ _ _ (c.loop-block.invariant.doubts names told) (c.in_ok-judge_block.ensures.doubts names (c.loop-block.invariant.asked.same ∙ told));
+  externals = λ names told. one_more_below _ _ _ _ _ (c.loop-block.invariant.externals names told) (c.in_ok-judge_block.ensures.externals names (c.loop-block.invariant.asked.same ∙ told));
+  chunks = λ names told. one_more_below _ _ _ _ _ (c.loop-block.invariant.chunks names told) (c.in_ok-judge_block.ensures.chunks names (c.loop-block.invariant.asked.same ∙ told));
+  hand = λ names told. c.in_ok-judge_block.ensures.hand names (c.loop-block.invariant.asked.same ∙ told);
+  asked = Passed-next c.loop-block.invariant.asked c.in_ok-judge_block.ensures.asked;
 }
 
 pub returns-in_err-judge_block-clause-findings : goal.returns-in_err-judge_block-clause-findings
 returns-in_err-judge_block-clause-findings g c names told =
-    let h = c.in_err-judge_block.ensures.findings names (c.loop-block.invariant.same ∙ told) in
+    let h = c.in_err-judge_block.ensures.findings names (c.loop-block.invariant.asked.same ∙ told) in
     let p = err_from_is_err_and c.from_residual.result c.from_residual.ensures.1 in
     rw p.1 (cut_below _ _ _ _ _ _ h.0 (omega arith) (c.loop-block.invariant.findings names told) h.1)
 
 pub returns-in_err-judge_block-clause-doubts : goal.returns-in_err-judge_block-clause-doubts
 returns-in_err-judge_block-clause-doubts g c names told =
-    let h = c.in_err-judge_block.ensures.doubts names (c.loop-block.invariant.same ∙ told) in
+    let h = c.in_err-judge_block.ensures.doubts names (c.loop-block.invariant.asked.same ∙ told) in
     let p = err_from_is_err_and c.from_residual.result c.from_residual.ensures.1 in
     rw p.1 (cut_below _ _ _ _ _ _ h.0 (omega arith) (c.loop-block.invariant.doubts names told) h.1)

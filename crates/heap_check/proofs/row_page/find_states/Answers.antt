@@ -1,4 +1,4 @@
-use Rattle.std.proofs.Common.{◌≡◌, [], length, sym, ap, ◌∙◌, arith}
+use Rattle.std.proofs.Common.{◌≡◌, [], Some, length, sym, ap, ◌∙◌, arith}
 use Rattle.std.specs.Vec.{vec_len}
 use Rattle.page_layout.specs.Page.{count_of}
 use Rattle.page_layout.specs.View.{page_bytes}
@@ -14,7 +14,8 @@ pub judge_items-requires-clause-free : goal.judge_items-requires-clause-free
 judge_items-requires-clause-free g c = c.clear.ensures (page_bytes c.new-view.result)
 
 pub returns-clause-states : goal.returns-clause-states
-returns-clause-states g c = λ names told rule none sure.
+returns-clause-states g c = λ names held rule none sure.
+    let told : (g.F.Files.seen c.new-files.result.files.now).held ≡ Some names = rw c.new-files.ensures.files held in
     let table = table_seen names c.args.table.now in
     let page = c.args.page.now in
     let same : page_bytes c.new-view.result ≡ page = c.new-view.ensures in

@@ -1,4 +1,5 @@
 use Rattle.std.proofs.Common.{◌<◌, ap, ◌∙◌, arith}
+use Rattle.outside.proofs.Asking.{Passed-next}
 use Rattle.toast_chunks.specs.Pointer.{chunk_count, stored_size}
 use Rattle.toast_chunks.proofs.Joining.{joined_all, joined_next, none_not_found}
 use Rattle.toast_chunks.proofs.detoast.joined.Goals.{in-Some+in_ok-push_chunk-in-Some, in-None}
@@ -11,10 +12,9 @@ loop-k-preserved g c =
     elim c.match-find.branch [
       | in-Some+in_ok-push_chunk-in-Some w ↦ record {
         bytes = λ names told.
-            rw w.bytes-is (joined_next names c.args.toast.now c.args.map.now c.args.p c.loop-k.k w.in-Some.chunk c.loop-k.bytes w.push_chunk.new.bytes c.requires.whole lt (c.requires.stand names told) w.in-Some.ensures (w.in_ok-push_chunk-in-Some.ensures.bytes names (c.loop-k.invariant.same ∙ told)) (c.loop-k.invariant.bytes names told));
-        hand = λ names told. rw (w.in_hand-is, w.page-is) (w.in_ok-push_chunk-in-Some.ensures.hand names (c.loop-k.invariant.same ∙ told));
-        same = rw w.files-is (w.in_ok-push_chunk-in-Some.ensures.same ∙ c.loop-k.invariant.same);
-        later = rw w.files-is (omega (arith, w.in_ok-push_chunk-in-Some.ensures.cause.later, c.loop-k.invariant.later));
+            rw w.bytes-is (joined_next names c.args.toast.now c.args.map.now c.args.p c.loop-k.k w.in-Some.chunk c.loop-k.bytes w.push_chunk.new.bytes c.requires.whole lt (c.requires.stand names told) w.in-Some.ensures (w.in_ok-push_chunk-in-Some.ensures.bytes names (c.loop-k.invariant.asked.same ∙ told)) (c.loop-k.invariant.bytes names told));
+        hand = λ names told. rw (w.in_hand-is, w.page-is) (w.in_ok-push_chunk-in-Some.ensures.hand names (c.loop-k.invariant.asked.same ∙ told));
+        asked = rw w.files-is (Passed-next c.loop-k.invariant.asked w.in_ok-push_chunk-in-Some.ensures.asked);
       }
       | in-None w ↦ absurd (none_not_found c.args.map.now c.args.p c.loop-k.k c.requires.whole lt w.in-None.ensures)
     ]

@@ -2,6 +2,7 @@ use Rattle.std.proofs.Common.{◌≡◌, ◌+◌, ◌≤◌, List, ◌++◌, len
 use Rattle.std.proofs.lemmas.Result.{err_from_is_err_and}
 use Rattle.std.specs.Option.{option_copied}
 use Rattle.std.specs.Vec.{vec_len}
+use Rattle.outside.proofs.Asking.{Passed-next}
 use Rattle.heap_check.specs.RowPages.{rows_given, rows_in_hand}
 use Rattle.heap_check.specs.Rows.{item_rows}
 use Rattle.heap_check.specs.declared.rows.LiveRow.{LiveRow}
@@ -21,7 +22,7 @@ returns-then-is_some-clause-first g c = λ names told case known are few.
     let long : length c.loop-k.self.work.states.items ≡ length c.args.self.now.work.states.items = ap length c.loop-k.invariant.page.states in
     let last : c.loop-k.k + 1 ≤ length c.loop-k.self.work.states.items = omega (arith, size, long, c.loop-k-test.true, c.loop-k.auto.k-end, c.min-count.ensures, c.len.ensures) in
     let before = known_same case names (option_copied c.args.values.now.toast) c.args.values.now.chunks.now c.args.self.now c.loop-k.self c.loop-k.invariant.page known in
-    let at = subst (λ k. rows_given c.in_ok-found.found ≡ item_rows case names c.loop-k.self.block c.loop-k.self.bytes (k + 1)) (sym c.loop-k.invariant.done) (c.in_ok-found.ensures.told names (c.loop-k.invariant.same ∙ told) case (before (c.loop-k.k + 1) (omega arith) last) are) in
+    let at = subst (λ k. rows_given c.in_ok-found.found ≡ item_rows case names c.loop-k.self.block c.loop-k.self.bytes (k + 1)) (sym c.loop-k.invariant.done) (c.in_ok-found.ensures.told names (c.loop-k.invariant.asked.same ∙ told) case (before (c.loop-k.k + 1) (omega arith) last) are) in
     first_by c.in_ok-found.found (rows_in_hand case names c.args.self.now) (rows_in_hand case names c.loop-k.self) (rows_in_hand case names c.take_row.new.self) (c.loop-k.invariant.left names told case known are)
     (in_hand_next case names c.loop-k.self c.take_row.new.self c.in_ok-found.found c.in_ok-found.ensures.page (c.in_ok-found.ensures.done ∙ ap (λ k. k + 1) (sym c.loop-k.invariant.done)) (omega (arith, last, c.loop-k.invariant.done)) at)
     (sym c.is_some.ensures ∙ c.if-is_some.true)
@@ -34,14 +35,13 @@ loop-k-preserved g c =
     record {
       left = λ names told case known are.
           let before = known_same case names (option_copied c.args.values.now.toast) c.args.values.now.chunks.now c.args.self.now c.loop-k.self c.loop-k.invariant.page known in
-          let at = subst (λ k. rows_given c.in_ok-found.found ≡ item_rows case names c.loop-k.self.block c.loop-k.self.bytes (k + 1)) (sym c.loop-k.invariant.done) (c.in_ok-found.ensures.told names (c.loop-k.invariant.same ∙ told) case (before (c.loop-k.k + 1) (omega arith) last) are) in
+          let at = subst (λ k. rows_given c.in_ok-found.found ≡ item_rows case names c.loop-k.self.block c.loop-k.self.bytes (k + 1)) (sym c.loop-k.invariant.done) (c.in_ok-found.ensures.told names (c.loop-k.invariant.asked.same ∙ told) case (before (c.loop-k.k + 1) (omega arith) last) are) in
           c.loop-k.invariant.left names told case known are
           ∙ in_hand_next case names c.loop-k.self c.take_row.new.self c.in_ok-found.found c.in_ok-found.ensures.page (c.in_ok-found.ensures.done ∙ ap (λ k. k + 1) (sym c.loop-k.invariant.done)) (omega (arith, last, c.loop-k.invariant.done)) at
           ∙ ap (λ (xs : List LiveRow). xs ++ rows_in_hand case names c.take_row.new.self) (none_given c.in_ok-found.found (sym c.is_some.ensures ∙ c.if-is_some.false));
       page = same_as c.args.self.now c.loop-k.self c.take_row.new.self c.loop-k.invariant.page c.in_ok-found.ensures.page;
       done = c.in_ok-found.ensures.done;
-      same = c.in_ok-found.ensures.same ∙ c.loop-k.invariant.same;
-      later = omega (arith, c.in_ok-found.ensures.cause.later, c.loop-k.invariant.later);
+      asked = Passed-next c.loop-k.invariant.asked c.in_ok-found.ensures.asked;
     }
 
 pub returns-clause-first : goal.returns-clause-first

@@ -1,6 +1,6 @@
-use Rattle.std.proofs.Common.{◌≡◌, ◌≤◌}
+use Rattle.std.proofs.Common.{◌≡◌}
 use Rattle.std.specs.Option.{option_copied}
-use Rattle.outside.specs.Outside.{IfTold}
+use Rattle.outside.specs.Outside.{IfTold, Passed}
 use Rattle.case_file.specs.Record.{CaseRecord}
 use Rattle.heap_check.specs.RowPages.{AreValuesOf, IsInHand, IsSamePage, rows_in_hand}
 use Rattle.heap_check.proofs.row_page.RowPage.next_row.Given as goal
@@ -8,9 +8,8 @@ use Rattle.heap_check.proofs.row_page.RowPage.next_row.Given as goal
 -- the items so far are done, and gave no row
 abbrev pub invariant-loop-k : goal.invariant-loop-k
 invariant-loop-k g l = record {
-  left : IfTold (g.F.Files.held l.initial.files) (λ names. (case : CaseRecord) → IsInHand case names (option_copied l.values.toast) l.values.chunks.now l.initial.self → AreValuesOf case names l.values → rows_in_hand case names l.initial.self ≡ rows_in_hand case names l.self);
+  left : IfTold g.F.Files.seen l.initial.files (λ names. (case : CaseRecord) → IsInHand case names (option_copied l.values.toast) l.values.chunks.now l.initial.self → AreValuesOf case names l.values → rows_in_hand case names l.initial.self ≡ rows_in_hand case names l.self);
   page : IsSamePage l.initial.self l.self;
   done : l.self.done ≡ l.k;
-  same : g.F.Files.held l.files ≡ g.F.Files.held l.initial.files;
-  later : g.F.Files.faults l.initial.files ≤ g.F.Files.faults l.files;
+  asked : Passed g.F.Files.seen l.initial.files l.files;
 }

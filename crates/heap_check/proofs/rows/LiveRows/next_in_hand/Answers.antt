@@ -16,8 +16,8 @@ next_row-requires-clause-readable g c = λ names told. readable names c.args.sel
 pub returns-clause-first : goal.returns-clause-first
 returns-clause-first g c =
     let values : RowValues = record { columns = c.columns.result; toast = c.as_ref.result; chunks = _ } in
-    given_by c.next_row.result (g.F.Files.held c.args.files.now) c.args.self.now _ refl refl
-    (first_told c.next_row.result (g.F.Files.held c.args.files.now) c.args.self.now c.next_row.new.self values c.as_ref.ensures.value refl c.columns.ensures c.requires.told c.next_row.ensures.first)
+    given_by c.next_row.result g.F.Files.seen c.args.files.now c.args.self.now _ refl refl
+    (first_told c.next_row.result g.F.Files.seen c.args.files.now c.args.self.now c.next_row.new.self values c.as_ref.ensures.value refl c.columns.ensures c.requires.told c.next_row.ensures.first)
 
 pub returns-clause-told : goal.returns-clause-told
 returns-clause-told g c = λ names told.
@@ -30,12 +30,12 @@ pub returns-clause-done : goal.returns-clause-done
 returns-clause-done g c =
     let values : RowValues = record { columns = c.columns.result; toast = c.as_ref.result; chunks = _ } in
     let new : LiveRows = record { case = c.args.self.now.case; heap = c.args.self.now.heap; logs = c.args.self.now.logs; page = c.next_row.new.self; next = c.args.self.now.next } in
-    done_by c.next_row.result (g.F.Files.held c.args.files.now) c.args.self.now new refl
-    (first_told c.next_row.result (g.F.Files.held c.args.files.now) c.args.self.now c.next_row.new.self values c.as_ref.ensures.value refl c.columns.ensures c.requires.told c.next_row.ensures.first)
+    done_by c.next_row.result g.F.Files.seen c.args.files.now c.args.self.now new refl
+    (first_told c.next_row.result g.F.Files.seen c.args.files.now c.args.self.now c.next_row.new.self values c.as_ref.ensures.value refl c.columns.ensures c.requires.told c.next_row.ensures.first)
 
 pub returns-clause-left : goal.returns-clause-left
 returns-clause-left g c =
     let values : RowValues = record { columns = c.columns.result; toast = c.as_ref.result; chunks = _ } in
     let new : LiveRows = record { case = c.args.self.now.case; heap = c.args.self.now.heap; logs = c.args.self.now.logs; page = c.next_row.new.self; next = c.args.self.now.next } in
-    kept_by c.next_row.result (g.F.Files.held c.args.files.now) c.args.self.now new refl refl
-    (left_told c.next_row.result (g.F.Files.held c.args.files.now) c.args.self.now c.next_row.new.self values c.as_ref.ensures.value refl c.columns.ensures c.requires.told c.next_row.ensures.left)
+    kept_by c.next_row.result g.F.Files.seen c.args.files.now c.args.self.now new refl refl
+    (left_told c.next_row.result g.F.Files.seen c.args.files.now c.args.self.now c.next_row.new.self values c.as_ref.ensures.value refl c.columns.ensures c.requires.told c.next_row.ensures.left)

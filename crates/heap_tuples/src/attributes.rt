@@ -1,0 +1,76 @@
+//! The attributes of a heap tuple, whose header is given.
+ghost use Rattle.std.specs.Prelude.{◌≡◌, ◌≤◌, Ok, [], length, OnOk, OnErr, IfOk, IfErr, All};
+ghost use Rattle.std.specs.Option.{option_copied};
+ghost use Rattle.key_orders.specs.Types.{HasAlignment};
+ghost use Rattle.tuple_head.specs.Head.{tuple_head_of};
+ghost use Rattle.varlena_attrs.specs.Inline.{are_inline};
+ghost use Rattle.varlena_attrs.specs.Shown.{FaultIn, IsWithin, shown_in};
+ghost use Rattle.heap_tuples.specs.Tuples.{attributes_in, body_of, nulls_of};
+
+use key_orders::ColType;
+use tuple_head::HeapHead;
+use varlena_attrs::{AttrBuffer, AttrFault, ColumnLayout};
+
+// The null bits, where there are some: from byte 23 up to the header's end.
+#[inline]
+fn nulls_of(tuple: &[u8], head: HeapHead) -> Option<&[u8]>
+    requires header { head ≡ tuple_head_of tuple.now }
+    requires begins { 23 ≤ head.hoff }
+    requires within { head.hoff ≤ length tuple.now }
+    ensures { option_copied result ≡ nulls_of tuple.now }
+{
+    if head.has_nulls() {
+        Some(&tuple[23..head.hoff as usize])
+    } else {
+        None
+    }
+}
+
+// What follows the header.
+#[inline]
+fn body_of(tuple: &[u8], head: HeapHead) -> &[u8]
+    requires header { head ≡ tuple_head_of tuple.now }
+    requires within { head.hoff ≤ length tuple.now }
+    ensures { result.now ≡ body_of tuple.now }
+{
+    &tuple[head.hoff as usize..]
+}
+
+/// Reads the attributes of a heap tuple, whose header is given and ends within the tuple, into a
+/// buffer. The answer is the tuple's body, in which the places lie. Columns and faults are those of
+/// `AttrBuffer::read`; after a fault the buffer is empty.
+#[tactic(auto, unfolding(crate::specs::Tuples::attributes_in))]
+pub fn read_tuple<'p>(
+    buffer: &mut AttrBuffer,
+    columns: &[ColType],
+    tuple: &'p [u8],
+    head: HeapHead,
+) -> Result<&'p [u8], AttrFault>
+    requires aligned { All HasAlignment columns.now }
+    requires header { head ≡ tuple_head_of tuple.now }
+    requires begins { 23 ≤ head.hoff }
+    requires within { head.hoff ≤ length tuple.now }
+    ensures body { IfOk result (λ body. body.now ≡ body_of tuple.now) }
+    ensures value { IfOk result (λ body. attributes_in columns.now tuple.now ≡ Ok (shown_in body.now buffer.new)) }
+    ensures within { IfOk result (λ body. All (IsWithin (length body.now)) buffer.new) }
+    ensures count { OnOk result (length buffer.new ≡ length columns.now) }
+    ensures fault { IfErr result (FaultIn (attributes_in columns.now tuple.now)) }
+    ensures empty { OnErr result (buffer.new ≡ []) }
+{
+    let body = body_of(tuple, head);
+    buffer.read(columns, body, nulls_of(tuple, head), head.natts())?;
+    Ok(body)
+}
+
+/// Whether the attributes of a heap tuple, whose header is given and ends within the tuple, can be
+/// read, and all its values are stored in line: none stands in a TOAST table. It takes no memory.
+#[inline]
+#[tactic(auto, unfolding(crate::specs::Tuples::attributes_in))]
+pub fn are_inline(layout: &ColumnLayout<'_>, tuple: &[u8], head: HeapHead) -> bool
+    requires header { head ≡ tuple_head_of tuple.now }
+    requires begins { 23 ≤ head.hoff }
+    requires within { head.hoff ≤ length tuple.now }
+    ensures { result ≡ are_inline (attributes_in layout.now tuple.now) }
+{
+    layout.are_inline(body_of(tuple, head), nulls_of(tuple, head), head.natts())
+}
