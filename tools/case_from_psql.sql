@@ -14,16 +14,19 @@
 -- What a case can't say is left out, and a comment in the text gives the
 -- reason: an index that isn't a B-tree, that is partial or on an expression,
 -- that has included columns, a key type or a collation that the checker doesn't
--- order; and a missing value whose bytes can't be printed here.
+-- order; and a missing value whose stored bytes can't be told from SQL. Such a
+-- value is read as null.
 --
--- It needs no extension and no special right, and it changes nothing. It ends
--- with status 3, and an error on standard error, where the name isn't that of a
--- table with a heap file. Only names are read, and no rows, so any state of the
--- table will do; but a command that rewrites the table or changes its columns
--- or indexes (VACUUM FULL, CLUSTER, TRUNCATE, REINDEX, ALTER TABLE) makes the
--- text out of date.
+-- It needs no extension and no special right, and it changes nothing. Where a
+-- case can't describe the table it prints nothing, gives the reason on standard
+-- error, and ends with status 3. Only names, sizes and missing values are read,
+-- and no rows, so any state of the table will do; but a command that rewrites
+-- the table or changes its columns or indexes (VACUUM FULL, CLUSTER, TRUNCATE,
+-- REINDEX, ALTER TABLE) makes the text out of date.
 
 \set ON_ERROR_STOP on
+\set VERBOSITY terse
+\set SHOW_CONTEXT never
 \encoding UTF8
 
 \if :{?tab}
@@ -31,24 +34,70 @@
 do $$ begin raise exception 'name the table, as -v tab=SCHEMA.TABLE'; end $$;
 \endif
 
-select
-    class.relkind in ('r', 'm', 't')
-        and coalesce(access_method.amname, '') = 'heap'
-        and pg_relation_filepath(class.oid) is not null as has_heap_file,
-    current_setting('block_size')::int4 = 8192 as has_usual_blocks
-from pg_class as class
-left join pg_am as access_method on access_method.oid = class.relam
-where class.oid = :'tab'::regclass
+-- A name that no relation has ends the script here.
+select :'tab'::regclass::oid as table_oid
 \gset
 
-\if :has_heap_file
-\else
-do $$ begin raise exception 'this relation is no table with a heap file of its own'; end $$;
-\endif
+-- Why no case can describe the table; an empty text where one can.
+select set_config('kamzudrev.reason', coalesce((
+    with columns as (
+        select attname, attlen, atttypid
+        from pg_attribute
+        where attrelid = :'table_oid'::oid and attnum > 0
+    ),
+    sizes as (
+        select
+            pg_relation_size(class.oid) / 8192 as heap_blocks,
+            pg_relation_size(nullif(class.reltoastrelid, 0)) / 8192 as toast_blocks
+        from pg_class as class
+        where class.oid = :'table_oid'::oid
+    )
+    select case
+        when current_setting('block_size') <> '8192'
+        then format('the blocks of this server have %s bytes, and only 8192 will do', current_setting('block_size'))
+        when class.relkind = 'v'
+        then 'it is a view, which has no file'
+        when class.relkind = 'p'
+        then 'it is a partitioned table, which has no file; each of its partitions is a table and has a case of its own'
+        when class.relkind = 'f'
+        then 'it is a foreign table, which has no file here'
+        when class.relkind in ('i', 'I')
+        then 'it is an index; name its table, whose case lists it'
+        when class.relkind not in ('r', 'm', 't')
+        then 'it is no table'
+        when access_method.amname is distinct from 'heap'
+        then format('its access method is %s, and only heap will do', coalesce(access_method.amname, 'not known'))
+        when class.relpersistence = 't'
+        then 'it is a temporary table, which is gone once the server is stopped'
+        when pg_relation_filepath(class.oid) is null
+        then 'it has no file'
+        when not exists (select from columns)
+        then 'it has no column, and a case lists at least one'
+        when (select count(*) from columns) > 64
+        then format(
+            'it has %s columns, dropped ones among them, and a case lists 64 at most',
+            (select count(*) from columns)
+        )
+        when exists (select from columns where attlen < -1 or attlen > 8000)
+        then format(
+            'its column %s is of a type that no case can list: its length (attlen) is %s',
+            (select to_json(attname::text) from columns where attlen < -1 or attlen > 8000 limit 1),
+            (select attlen from columns where attlen < -1 or attlen > 8000 limit 1)
+        )
+        when sizes.heap_blocks > 16384
+        then format('its heap has %s blocks, and the checker reads 16384 at most (128 MiB)', sizes.heap_blocks)
+        when sizes.toast_blocks > 16384
+        then format('its TOAST table has %s blocks, and the checker reads 16384 at most (128 MiB)', sizes.toast_blocks)
+    end
+    from pg_class as class
+    cross join sizes
+    left join pg_am as access_method on access_method.oid = class.relam
+    where class.oid = :'table_oid'::oid
+), ''), false) <> '' as is_refused
+\gset
 
-\if :has_usual_blocks
-\else
-do $$ begin raise exception 'the blocks of this server are not of 8192 bytes'; end $$;
+\if :is_refused
+do $$ begin raise exception 'there is no case for this table: %', current_setting('kamzudrev.reason'); end $$;
 \endif
 
 with recursive
@@ -60,7 +109,7 @@ target as (
         nullif(class.reltoastrelid, 0) as toast_oid,
         pg_relation_filepath(nullif(class.reltoastrelid, 0)) as toast_path
     from pg_class as class
-    where class.oid = :'tab'::regclass
+    where class.oid = :'table_oid'::oid
 ),
 
 -- A column of a domain is stored as the type below it, which can be a domain too.
@@ -79,9 +128,13 @@ base_types as (
     select distinct on (domain_steps.attnum)
         domain_steps.attnum,
         domain_steps.type_oid,
-        base.typname::text as type_name
+        base.typname::text as type_name,
+        base.typtype = 'e' as is_enum,
+        case when base.typnamespace = 'pg_catalog'::regnamespace then base.typname::text end as server_type,
+        send.proname::text as send_name
     from domain_steps
     left join pg_type as base on base.oid = domain_steps.type_oid
+    left join pg_proc as send on send.oid = base.typsend and send.pronamespace = 'pg_catalog'::regnamespace
     order by domain_steps.attnum, domain_steps.depth desc
 ),
 
@@ -103,56 +156,149 @@ columns as (
             ) then base_types.type_name
             when base_types.type_oid = 'varchar'::regtype then 'text'
         end as key_type,
-        -- The value that rows from before the column have. Its column in the
-        -- catalog is an array of one element and of any type.
-        case
-            when attribute.atthasmissing and not attribute.attisdropped
-            then (attribute.attmissingval::text::text[])[1]
-        end as missing_text
+        attribute.atthasmissing and not attribute.attisdropped as has_missing
     from pg_attribute as attribute
     join target on attribute.attrelid = target.oid
     left join base_types on base_types.attnum = attribute.attnum
     where attribute.attnum > 0
 ),
 
--- The bytes of the missing values. The send functions give a number's highest
--- byte first, and storage has its lowest byte first.
-missing_bytes as (
-    select
-        attnum,
-        case type_oid
-            when 'bool'::regtype then boolsend(missing_text::bool)
-            when 'int2'::regtype then int2send(missing_text::int2)
-            when 'int4'::regtype then int4send(missing_text::int4)
-            when 'int8'::regtype then int8send(missing_text::int8)
-            when 'oid'::regtype then oidsend(missing_text::oid)
-            when 'date'::regtype then date_send(missing_text::date)
-            when 'timestamp'::regtype then timestamp_send(missing_text::timestamp)
-            when 'timestamptz'::regtype then timestamptz_send(missing_text::timestamptz)
-            when 'float4'::regtype then float4send(missing_text::float4)
-            when 'float8'::regtype then float8send(missing_text::float8)
-        end as highest_byte_first,
-        case type_oid
-            when 'text'::regtype then convert_to(missing_text, getdatabaseencoding())
-            when 'varchar'::regtype then convert_to(missing_text, getdatabaseencoding())
-            when 'bytea'::regtype then missing_text::bytea
-            when 'uuid'::regtype then uuid_send(missing_text::uuid)
-        end as as_stored
-    from columns
-    where missing_text is not null
+-- The types whose values are stored as one number after the other, each with its
+-- lowest byte first, by the function that sends them. Sending gives the same
+-- numbers, each with its highest byte first: here are their widths. What comes
+-- after them is stored as it is sent.
+sent_numbers (send_name, widths) as (
+    values
+        ('boolsend', array[1]), ('charsend', array[1]), ('byteasend', array[]::int4[]),
+        ('int2send', array[2]), ('int4send', array[4]), ('int8send', array[8]), ('cash_send', array[8]),
+        ('float4send', array[4]), ('float8send', array[8]),
+        ('oidsend', array[4]), ('xidsend', array[4]), ('cidsend', array[4]), ('xid8send', array[8]),
+        ('regclasssend', array[4]), ('regtypesend', array[4]), ('regprocsend', array[4]),
+        ('regproceduresend', array[4]), ('regopersend', array[4]), ('regoperatorsend', array[4]),
+        ('regrolesend', array[4]), ('regnamespacesend', array[4]), ('regcollationsend', array[4]),
+        ('regconfigsend', array[4]), ('regdictionarysend', array[4]),
+        ('date_send', array[4]), ('time_send', array[8]), ('timetz_send', array[8, 4]),
+        ('timestamp_send', array[8]), ('timestamptz_send', array[8]), ('interval_send', array[8, 4, 4]),
+        ('uuid_send', array[]::int4[]), ('macaddr_send', array[]::int4[]), ('macaddr8_send', array[]::int4[]),
+        ('pg_lsn_send', array[8]), ('tidsend', array[2, 2, 2]),
+        ('point_send', array[8, 8]), ('lseg_send', array[8, 8, 8, 8]), ('box_send', array[8, 8, 8, 8]),
+        ('line_send', array[8, 8, 8]), ('circle_send', array[8, 8, 8]),
+        ('bit_send', array[4]), ('varbit_send', array[4])
 ),
 
+-- The missing values, which rows from before their columns have. Each stands in
+-- the catalog as an array of one element, of any type. What an array sends is 24
+-- bytes and then what its element sends; sending hangs on no setting. A text is
+-- sent in the client's encoding, and is stored in the database's. An enum is
+-- stored as the oid of its label.
+missing_values as (
+    select
+        base_types.*,
+        case
+            when is_enum or server_type in ('text', 'varchar', 'bpchar', 'json', 'name')
+            then (attribute.attmissingval::text::text[])[1]
+        end as missing_text,
+        case
+            when not is_enum and (
+                send_name in (select sent_numbers.send_name from sent_numbers)
+                or send_name in ('numeric_send', 'inet_send', 'cidr_send')
+            ) then substring(array_send(attribute.attmissingval) from 25)
+        end as sent
+    from columns
+    join base_types on base_types.attnum = columns.attnum
+    join target on true
+    join pg_attribute as attribute on attribute.attrelid = target.oid and attribute.attnum = columns.attnum
+    where columns.has_missing
+),
+
+-- A numeric is sent as five numbers of two bytes and its digits, of two bytes
+-- each: the count of digits, the weight of the first, the sign, and the count of
+-- decimal places. It is stored as a header and the digits. The header has two
+-- bytes where weight and places are small, or where it is no number, else four.
+numeric_parts as (
+    select
+        attnum,
+        sent,
+        get_byte(sent, 4) * 256 + get_byte(sent, 5) as sign,
+        (get_byte(sent, 2) * 256 + get_byte(sent, 3) + 32768) % 65536 - 32768 as weight,
+        get_byte(sent, 6) * 256 + get_byte(sent, 7) as places
+    from missing_values
+    where send_name = 'numeric_send'
+),
+
+numeric_headers as (
+    select
+        attnum,
+        sent,
+        case
+            when sign >= 49152 then int2send((sign - 65536)::int2)
+            when places <= 63 and weight between -64 and 63 then int2send((
+                32768 + sign / 16384 * 8192 + places * 128 + (weight + 128) % 128 - 65536
+            )::int2)
+            else int2send((sign + places)::int2) || int2send(weight::int2)
+        end as header
+    from numeric_parts
+),
+
+-- What is stored, each as numbers with the highest byte first, and their widths.
+missing_numbers as (
+    select missing_values.attnum, sent as highest_first, widths
+    from missing_values
+    join sent_numbers on sent_numbers.send_name = missing_values.send_name
+    where sent is not null
+
+    union all
+    select missing_values.attnum, oidsend(label.oid), array[4]
+    from missing_values
+    join pg_enum as label on label.enumtypid = type_oid and label.enumlabel = missing_text
+    where is_enum
+
+    union all
+    select attnum, convert_to(missing_text, getdatabaseencoding()), array[]::int4[]
+    from missing_values
+    where server_type in ('text', 'varchar', 'bpchar', 'json')
+
+    -- A name fills its 64 bytes up with zeros.
+    union all
+    select
+        attnum,
+        convert_to(missing_text, getdatabaseencoding())
+            || decode(repeat('00', 64 - length(convert_to(missing_text, getdatabaseencoding()))), 'hex'),
+        array[]::int4[]
+    from missing_values
+    where server_type = 'name'
+
+    -- An address is sent as its family, its bits, two bytes that aren't stored, and its bytes.
+    union all
+    select attnum, substring(sent for 2) || substring(sent from 5), array[]::int4[]
+    from missing_values
+    where send_name in ('inet_send', 'cidr_send')
+
+    union all
+    select
+        attnum,
+        header || substring(sent from 9),
+        array_fill(2, array[length(header || substring(sent from 9)) / 2])
+    from numeric_headers
+),
+
+-- The digits of each number's bytes, the lowest first, and those of the rest.
 missing_digits as (
     select
         attnum,
-        coalesce(
-            encode(as_stored, 'hex'),
-            (
-                select string_agg(lpad(to_hex(get_byte(highest_byte_first, place)), 2, '0'), '' order by place desc)
-                from generate_series(0, length(highest_byte_first) - 1) as place
+        coalesce((
+            select string_agg(
+                lpad(to_hex(get_byte(highest_first, first + place)), 2, '0'), '' order by number, place desc
             )
-        ) as digits
-    from missing_bytes
+            from (
+                select number, width, (sum(width) over (order by number) - width)::int4 as first
+                from unnest(widths) with ordinality as piece (width, number)
+            ) as pieces
+            cross join lateral generate_series(0, width - 1) as place
+        ), '') || encode(substring(
+            highest_first from 1 + (select coalesce(sum(width), 0)::int4 from unnest(widths) as width)
+        ), 'hex') as digits
+    from missing_numbers
 ),
 
 indexes as (
@@ -307,12 +453,18 @@ lines (part, number, place, line) as (
         end,
         case when columns.key_type is null then 'align = ' || columns.alignment end,
         case
-            when columns.missing_text is null then null
+            when not columns.has_missing then null
             when missing_digits.digits is null
-            then '# The missing value is left out: the bytes of the type '
-                || to_json(columns.type_name) || ' are not known here.'
+            then format(
+                '# The missing value of %s is left out and read as null: '
+                    'the stored bytes of its type %s can''t be told from SQL.',
+                to_json(columns.column_name), to_json(columns.type_name)
+            )
             when length(missing_digits.digits) > 16000
-            then '# The missing value is left out: it has more than 8000 bytes.'
+            then format(
+                '# The missing value of %s is left out and read as null: it has more than 8000 bytes.',
+                to_json(columns.column_name)
+            )
             else format('missing = "%s"', missing_digits.digits)
         end
     )
