@@ -1,4 +1,4 @@
-# Read by bench/pages and bench/heap: it takes times and peak memory of commands.
+# Read by the benches: it makes files, and takes times and peak memory of commands.
 # A command is a text for `bash -c`, and must end with status 0.
 
 export LC_ALL=C
@@ -57,4 +57,45 @@ find_program() {
         return 1
     fi
     echo "$(cd "$(dirname "$1")" && pwd)/$(basename "$1")"
+}
+
+# Logs in which every transaction of so many files of pg_xact is committed: two bits for each, 01.
+make_logs() {
+    local segment
+    mkdir xact offsets members
+    for segment in $(seq 0 $(($1 - 1))); do
+        head -c 262144 /dev/zero | tr '\0' 'U' >"xact/$(printf %04X "$segment")"
+    done
+    head -c 8192 /dev/zero >offsets/0000
+    head -c 8192 /dev/zero >members/0000
+}
+
+# A heap of 16384 blocks with these flags and transactions (see bench/make_heap), and its case.
+make_table() {
+    "$here/make_heap" "$1" 16384 "$2" "$3"
+    cat >"$1.toml" <<CASE
+[cluster]
+next_xid = 104857600
+oldest_xid = 3
+next_multi = 1
+oldest_multi = 1
+next_member = 0
+xact = "xact"
+offsets = "offsets"
+members = "members"
+[heap]
+file = "$1"
+[[column]]
+name = "id"
+type = "int8"
+[[column]]
+name = "item"
+type = "int4"
+[[column]]
+name = "block"
+type = "int4"
+[[column]]
+name = "note"
+type = "text"
+CASE
 }
