@@ -251,7 +251,8 @@ columns Int4 null, index 1 i KeySpec { column: 0, ctype: Int4, desc: true, nulls
 // A text with so many of a piece for each mark.
 fn with_many(alloc: Global, text: &str) -> Result<String, Fail> {
     let cluster =
-        "next_xid = 1000\noldest_xid = 700\nnext_multi = 6\noldest_multi = 1\nnext_member = 4\nxact = 'x'\noffsets = 'o'\nmembers = 'm'";
+        "next_xid = 1000\noldest_xid = 700\nnext_multi = 6\noldest_multi = 1\nnext_member = 4\n\
+        xact = 'x'\noffsets = 'o'\nmembers = 'm'";
     let pieces = [
         ("<none>", "", 1),
         ("\\n", "\n", 1),

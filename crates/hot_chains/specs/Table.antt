@@ -1,5 +1,6 @@
 -- What the table of a page's chains says.
-use Rattle.std.specs.Prelude.{◌≡◌, ℕ, ◌+◌, ◌-◌, ◌≤◌, Bool, false, ◌==◌, if◌then◌else◌, List, length, get_or, replicate, Option, Some, None}
+use Rattle.std.specs.Prelude.{◌≡◌, ℕ, ◌+◌, ◌-◌, ◌≤◌, Bool, false, ◌==◌, if◌then◌else◌, List, length, get_or, replicate}
+use Rattle.std.specs.Prelude.{Option, Some, None}
 use Rattle.page_layout.specs.declared.rules.Rule.{Rule}
 use Rattle.liveness.specs.declared.states.ItemState.{ItemState}
 use Rattle.hot_chains.specs.declared.table.Chains.{Chains}

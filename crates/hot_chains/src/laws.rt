@@ -2,7 +2,8 @@
 ghost use Rattle.std.specs.Prelude.{◌≡◌, ◌↔◌, ◌≤◌, ◌||◌, ℕ, List, true, if◌then◌else◌, IfSome, IsTrue, None, Some};
 ghost use Rattle.page_layout.specs.declared.rules.Rule.{Rule};
 ghost use Rattle.liveness.specs.declared.states.ItemState.{ItemState};
-ghost use Rattle.hot_chains.specs.Chains.{IsRootOf, Reaches, breaks_chain_rule, chain_rule, is_heap_only_tuple, is_root_at, may_step, root_of};
+ghost use Rattle.hot_chains.specs.Chains.{IsRootOf, Reaches, breaks_chain_rule, chain_rule, is_heap_only_tuple};
+ghost use Rattle.hot_chains.specs.Chains.{is_root_at, may_step, root_of};
 ghost use Rattle.hot_chains.specs.Quiet.{HasNoChains, HasOneRoot, IsLiveItem, KeepsChainRules};
 ghost use Rattle.hot_chains.specs.Sentences.{ComesSoon, IsChainRuleBroken};
 

@@ -1,5 +1,6 @@
 -- What files in memory hold, by their entries.
-use Rattle.std.specs.Prelude.{ℕ, Bool, false, ◌==◌, ◌&&◌, if◌then◌else◌, List, Option, Some, None, string_bytes, find, take}
+use Rattle.std.specs.Prelude.{ℕ, Bool, false, ◌==◌, ◌&&◌, if◌then◌else◌, List, Option, Some, None, string_bytes, find}
+use Rattle.std.specs.Prelude.{take}
 use Rattle.std.specs.Option.{option_map}
 use Rattle.std.specs.Str.{bytes_eq}
 use Rattle.outside.specs.declared.files.Part.{Part}

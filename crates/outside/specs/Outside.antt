@@ -1,5 +1,6 @@
 -- What files show of themselves, what a sink has taken, and when a fault may be told.
-use Rattle.std.specs.Prelude.{◌≡◌, ℕ, ◌+◌, ◌-◌, ◌^◌, ◌≤◌, Bool, min, List, ◌∷◌, ◌++◌, Option, Some, None, Result, Ok, IfOk, IfSome, OnErr, IsErrOf, IsSomeAnd}
+use Rattle.std.specs.Prelude.{◌≡◌, ℕ, ◌+◌, ◌-◌, ◌^◌, ◌≤◌, Bool, min, List, ◌∷◌, ◌++◌, Option, Some, None, Result, Ok}
+use Rattle.std.specs.Prelude.{IfOk, IfSome, OnErr, IsErrOf, IsSomeAnd}
 use Rattle.std.specs.Option.{option_map}
 use Rattle.std.proofs.Common.{refl, ap, append_assoc}
 use Rattle.outside.specs.declared.files.Failed.{Failed}
@@ -37,7 +38,8 @@ Tells seen files result P = IfOk result (λ answer. IfTold seen files (P answer)
 
 -- where the bytes of a name are told, they meet P
 abbrev pub IfHeld : {S : Type 0} → (S → Seen) → S → List ℕ → Part → (List ℕ → Type 0) → Type 0
-IfHeld seen files base part P = (names : Names) (bytes : List ℕ) → (seen files).held ≡ Some names → names base part ≡ Some bytes → P bytes
+IfHeld seen files base part P =
+    (names : Names) (bytes : List ℕ) → (seen files).held ≡ Some names → names base part ≡ Some bytes → P bytes
 
 -- where names are told, this one is held, and its bytes meet P
 abbrev pub IsHeldAnd : {S : Type 0} → (S → Seen) → S → List ℕ → Part → (List ℕ → Type 0) → Type 0
@@ -62,7 +64,8 @@ failed = record {}
 
 -- files were asked, and this came of it: they hold what they held and ask the files that they asked,
 -- no count fell, this fault comes only where a call failed, and they were read at most so often
-pub record AskedWithin {T E : Type 0} (budget : Option ℕ) (old new : Seen) (result : Result T E) (fault : E) : Type 0 where
+pub record AskedWithin {T E : Type 0} (budget : Option ℕ) (old new : Seen) (result : Result T E) (fault : E)
+    : Type 0 where
   pub same : new.held ≡ old.held
   pub later : old.faults ≤ new.faults
   pub onward : old.reads ≤ new.reads
@@ -91,6 +94,7 @@ abbrev pub appended : Option (List ℕ) → List ℕ → Option (List ℕ)
 appended written bytes = option_map (λ xs. xs ++ bytes) written
 
 -- two pieces after one another are their join
-pub appended-append : (written : Option (List ℕ)) (xs ys : List ℕ) → appended (appended written xs) ys ≡ appended written (xs ++ ys)
+pub appended-append : (written : Option (List ℕ)) (xs ys : List ℕ)
+    → appended (appended written xs) ys ≡ appended written (xs ++ ys)
 appended-append None xs ys = refl
 appended-append (Some ws) xs ys = ap Some (append_assoc ws xs ys)

@@ -1,5 +1,6 @@
 //! Files and a sink, by what they mean.
-ghost use Rattle.std.specs.Prelude.{◌≡◌, ◌+◌, ◌<◌, ◌≤◌, ℕ, Bool, List, Option, length, take, drop, IfOk, IfSome, OnOk, OnErr, IsSomeAnd};
+ghost use Rattle.std.specs.Prelude.{◌≡◌, ◌+◌, ◌<◌, ◌≤◌, ℕ, Bool, List, Option, length, take, drop, IfOk, IfSome, OnOk};
+ghost use Rattle.std.specs.Prelude.{OnErr, IsSomeAnd};
 ghost use Rattle.std.specs.Option.{option_map};
 ghost use Rattle.outside.specs.Counting.{one_more};
 ghost use Rattle.outside.specs.Outside.{AskedAtMost, HasCause, IfHeld, IsHeldAnd, Rose, Seen, Tells, appended, failed};

@@ -1,5 +1,6 @@
 //! Bytes that are held in memory, each under a file's name.
-ghost use Rattle.std.specs.Prelude.{◌↔◌, ◌≡◌, ◌+◌, ◌≤◌, None, not, filter, find, position, length, take, drop, string_bytes, IfSome, IsSome, IsSomeAnd, IsTrue, OnErr, OnOk};
+ghost use Rattle.std.specs.Prelude.{◌↔◌, ◌≡◌, ◌+◌, ◌≤◌, None, not, filter, find, position, length, take, drop};
+ghost use Rattle.std.specs.Prelude.{string_bytes, IfSome, IsSome, IsSomeAnd, IsTrue, OnErr, OnOk};
 ghost use Rattle.std.specs.Bool.{OnFalse};
 ghost use Rattle.std.specs.Option.{option_copied, option_map};
 ghost use Rattle.outside.specs.Held.{is_named, look_up};

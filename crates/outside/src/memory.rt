@@ -1,10 +1,12 @@
 //! Files in memory, which fail where they are told to.
-ghost use Rattle.std.specs.Prelude.{◌↔◌, ◌≡◌, ◌+◌, ◌≤◌, Contains, IsErr, IsSome, IsSomeAnd, IsTrue, OnErr, OnOk, length, take, drop};
+ghost use Rattle.std.specs.Prelude.{◌↔◌, ◌≡◌, ◌+◌, ◌≤◌, Contains, IsErr, IsSome, IsSomeAnd, IsTrue, OnErr, OnOk};
+ghost use Rattle.std.specs.Prelude.{length, take, drop};
 ghost use Rattle.std.specs.Bool.{OnFalse};
 ghost use Rattle.std.specs.Option.{option_map};
 ghost use Rattle.outside.specs.Outside.{AskedAtMost, IfHeld, IsHeldAnd, Rose, Tells, failed};
 ghost use Rattle.outside.specs.Counting.{one_more};
-ghost use Rattle.outside.specs.Memory.{after_add, after_cut, after_fail_length, after_fail_read, after_forget, after_length, after_read, files_state, mem_seen, no_files};
+ghost use Rattle.outside.specs.Memory.{after_add, after_cut, after_fail_length, after_fail_read, after_forget};
+ghost use Rattle.outside.specs.Memory.{after_length, after_read, files_state, mem_seen, no_files};
 
 use crate::files::{Failed, FileName, Files, NoMemory, Part};
 use crate::held::HeldFiles;

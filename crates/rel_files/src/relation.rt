@@ -22,7 +22,8 @@ pub struct Relation {
 }
 
 impl Relation {
-    ghost use Rattle.rel_files.specs.Relation.{FindsFront, IsAttached, IsPast, IsRefused, IsRelationOf, base_of, count_of, long_of, size_of};
+    ghost use Rattle.rel_files.specs.Relation.{FindsFront, IsAttached, IsPast, IsRefused, IsRelationOf, base_of};
+    ghost use Rattle.rel_files.specs.Relation.{count_of, long_of, size_of};
 
     /// Attaches a relation, whose name without a segment's number is `base`. `segment_blocks` is the
     /// number of blocks of a full segment, 1 to 131072 (131072 in a server as it is built by

@@ -1,8 +1,10 @@
 //! The segments of a relation, one after another up to its last.
-ghost use Rattle.std.specs.Prelude.{◌≡◌, ◌↔◌, ℕ, suc, ◌+◌, ◌-◌, ◌*◌, ◌/◌, ◌<◌, ◌≤◌, ◌^◌, List, min, length, IfOk, IfSome, Some, None, if◌then◌else◌, nat_lt};
+ghost use Rattle.std.specs.Prelude.{◌≡◌, ◌↔◌, ℕ, suc, ◌+◌, ◌-◌, ◌*◌, ◌/◌, ◌<◌, ◌≤◌, ◌^◌, List, min, length, IfOk};
+ghost use Rattle.std.specs.Prelude.{IfSome, Some, None, if◌then◌else◌, nat_lt};
 ghost use Rattle.outside.specs.declared.files.Part.TheVariants.{Segment};
 ghost use Rattle.outside.specs.Outside.{AskedAtMost, Names, Tells, failed};
-ghost use Rattle.rel_files.specs.Blocks.{block_of, blocks_below, blocks_of, front_blocks_of, front_long_segment_of, last_segment, long_segment_of, segment_length};
+ghost use Rattle.rel_files.specs.Blocks.{block_of, blocks_below, blocks_of, front_blocks_of, front_long_segment_of};
+ghost use Rattle.rel_files.specs.Blocks.{last_segment, long_segment_of, segment_length};
 ghost use Rattle.rel_files.specs.Ends.{IsEnd, IsLong};
 ghost use Rattle.rel_files.specs.Segments.{FindsLast, FindsBlocks};
 

@@ -1,5 +1,6 @@
 -- The chunks of a TOAST table, and the values that they make.
-use Rattle.std.specs.Prelude.{◌≡◌, ℕ, zero, suc, ℤ, pos, ◌<◌, Bool, true, false, ◌==◌, ◌&&◌, List, Option, Some, None, count_by}
+use Rattle.std.specs.Prelude.{◌≡◌, ℕ, zero, suc, ℤ, pos, ◌<◌, Bool, true, false, ◌==◌, ◌&&◌, List, Option, Some, None}
+use Rattle.std.specs.Prelude.{count_by}
 use Rattle.std.specs.Ordering.{int_eq}
 use Rattle.varlena_attrs.specs.declared.places.ToastPointer.{ToastPointer}
 use Rattle.toast_chunks.specs.declared.map.Chunk.{Chunk}

@@ -5,7 +5,8 @@ use Rattle.page_layout.specs.Page.{item_of}
 use Rattle.rel_files.specs.Blocks.{block_of}
 use Rattle.rel_files.specs.Relation.{base_of, count_of, size_of}
 use Rattle.rel_files.specs.declared.relation.Relation.{Relation}
-use Rattle.tuple_head.specs.Head.{has_misplaced_attributes, has_more_attributes_than_columns, is_old_form, tuple_head_of}
+use Rattle.tuple_head.specs.Head.{has_misplaced_attributes, has_more_attributes_than_columns, is_old_form}
+use Rattle.tuple_head.specs.Head.{tuple_head_of}
 use Rattle.varlena_attrs.specs.Forms.{Attribute}
 use Rattle.varlena_attrs.specs.Reading.{Outcome}
 use Rattle.heap_tuples.specs.Places.{IsTupleAt, tuple_at}

@@ -1,5 +1,6 @@
 // The chunks of a TOAST table, found by their value and number.
-ghost use Rattle.std.specs.Prelude.{◌≡◌, ◌↔◌, ◌∷◌, [], ◌++◌, ◌+◌, ◌<◌, ◌≤◌, ◌^◌, ℕ, Some, false, pos, vec_capacity, vec_len, IfOk, IsSome, IsTrue, OnErr, OnOk, count_by, unwrap_or};
+ghost use Rattle.std.specs.Prelude.{◌≡◌, ◌↔◌, ◌∷◌, [], ◌++◌, ◌+◌, ◌<◌, ◌≤◌, ◌^◌, ℕ, Some, false, pos, vec_capacity};
+ghost use Rattle.std.specs.Prelude.{vec_len, IfOk, IsSome, IsTrue, OnErr, OnOk, count_by, unwrap_or};
 ghost use Rattle.std.specs.BTreeMap.{Updates, get};
 ghost use Rattle.std.specs.Option.{option_map_or};
 ghost use Rattle.std.specs.Ordering.{nat_cmp};

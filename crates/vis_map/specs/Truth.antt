@@ -28,8 +28,8 @@ IsSettled (Tuple head judged) = needs_freezing head ≡ false
 abbrev pub IsAllFrozen : List ItemState → Type 0
 IsAllFrozen items = All IsSettled items
 
--- what is set is true: the page's flag and the all-visible bit of a block that is all-visible, the bit only beside the flag,
--- and the all-frozen bit of a block that is all-frozen, only beside the all-visible bit
+-- what is set is true: the page's flag and the all-visible bit of a block that is all-visible, the bit only beside
+-- the flag, and the all-frozen bit of a block that is all-frozen, only beside the all-visible bit
 pub record AreTrue (bits : MapBits) (page_flag : Bool) (items : List ItemState) : Type 0 where
   pub flag : page_flag ≡ true → IsAllVisible items
   pub visible : bits.all_visible ≡ true → (page_flag ≡ true) × IsAllVisible items

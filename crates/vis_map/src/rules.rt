@@ -3,7 +3,8 @@ ghost use Rattle.std.specs.Prelude.{◌≡◌, ◌↔◌, IfSome, IsNone};
 ghost use Rattle.std.specs.List.{list_all};
 ghost use Rattle.page_layout.specs.declared.rules.Rule.{Rule};
 ghost use Rattle.vis_map.specs.Truth.{AreTrue};
-ghost use Rattle.vis_map.specs.Rules.{IsMapRuleBroken, has_bit_without_flag, is_falsely_frozen, is_falsely_visible, is_frozen_but_not_visible, is_settled, is_visible, map_rule_of};
+ghost use Rattle.vis_map.specs.Rules.{IsMapRuleBroken, has_bit_without_flag, is_falsely_frozen, is_falsely_visible};
+ghost use Rattle.vis_map.specs.Rules.{is_frozen_but_not_visible, is_settled, is_visible, map_rule_of};
 
 use crate::MapBits;
 use liveness::{ItemState, Life};
