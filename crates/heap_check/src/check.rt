@@ -17,7 +17,7 @@ use crate::logs::CaseLogs;
 use crate::map::MapPage;
 use crate::table::{TableRules, toast_oid};
 use case_file::Case;
-use multi_members::{Answers, Multixacts, Remembering};
+use liveness::{Memory, Remembering, Transactions};
 use outside::{Files, NoMemory};
 use page_layout::Rule;
 use reports::{CheckFault, Place, Rel, Report};
@@ -52,7 +52,7 @@ fn judge_map<F: Files>(
 }
 
 // Judges the heap of a case, and keeps the values of its live tuples that stand in the TOAST table.
-fn judge_heap<F: Multixacts>(
+fn judge_heap<F: Transactions>(
     alloc: Global,
     files: &mut F,
     case: &Case,
@@ -102,7 +102,7 @@ fn toast_rules<'p>(columns: &'p ColumnLayout<'p>, logs: &'p CaseLogs) -> TableRu
 }
 
 // Judges the TOAST table of a case, if it has one, and keeps its live chunks.
-fn judge_toast<F: Multixacts>(
+fn judge_toast<F: Transactions>(
     alloc: Global,
     files: &mut F,
     case: &Case,
@@ -140,7 +140,7 @@ fn judge_toast<F: Multixacts>(
 
 // Judges the map, the heap and the TOAST table of a case in turn, and keeps of the tuples what is wanted
 // to judge values.
-fn judge_in_turn<F: Multixacts>(
+fn judge_in_turn<F: Transactions>(
     alloc: Global,
     files: &mut F,
     case: &Case,
@@ -167,7 +167,7 @@ fn judge_in_turn<F: Multixacts>(
     judge_toast(alloc, files, case, logs, at, toast, report)
 }
 
-// The same over files of which it is remembered what was found of multixacts.
+// The same over files of which it is remembered what was found of transactions.
 fn judge_files<F: Files>(
     alloc: Global,
     files: &mut F,
@@ -188,8 +188,8 @@ fn judge_files<F: Files>(
     ensures asked { Asked F.seen files.old files.new result RowFault.ReadFault }
 {
     let logs = CaseLogs::new(alloc, case)?;
-    let mut answers = Answers::new(alloc, &logs.offsets, &logs.members, &logs.cluster)?;
-    let mut files = Remembering::new(files, &mut answers);
+    let mut memory = Memory::new(alloc, &logs.lent())?;
+    let mut files = Remembering::new(files, &mut memory);
     judge_in_turn(alloc, &mut files, case, &logs, at, heap, toast, report)?;
     Ok(())
 }

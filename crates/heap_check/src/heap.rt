@@ -16,7 +16,7 @@ use crate::map::MapPage;
 use crate::table::TableRules;
 use crate::table_page::judge_table_page;
 use crate::work::Work;
-use multi_members::Multixacts;
+use liveness::Transactions;
 use outside::NoMemory;
 use page_layout::Rule;
 use rel_files::Relation;
@@ -24,7 +24,7 @@ use reports::{Finding, Place, Rel, Report};
 use std::alloc::Global;
 
 // Reads a block of a table into the page, and judges it.
-fn judge_block<F: Multixacts>(
+fn judge_block<F: Transactions>(
     files: &mut F,
     table: &TableRules<'_>,
     relation: &Relation,
@@ -54,7 +54,7 @@ fn judge_block<F: Multixacts>(
 }
 
 // Reads and judges the blocks of a table, one after the other, with one page in hand.
-fn judge_blocks<F: Multixacts>(
+fn judge_blocks<F: Transactions>(
     files: &mut F,
     table: &TableRules<'_>,
     relation: &Relation,
@@ -98,7 +98,7 @@ pub fn add_segment(report: &mut Report, rel: Rel, long: Option<u32>) -> Result<(
 }
 
 /// Judges a table: its segments, and then its blocks. What of its live tuples is wanted later is kept.
-pub fn judge_table<F: Multixacts>(
+pub fn judge_table<F: Transactions>(
     alloc: Global,
     files: &mut F,
     table: &TableRules<'_>,

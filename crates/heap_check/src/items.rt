@@ -23,8 +23,7 @@ use crate::tuple::judge_tuple;
 use crate::verdict::{ItemVerdict, add_verdict};
 use crate::work::Work;
 use key_orders::Tid;
-use liveness::ItemState;
-use multi_members::Multixacts;
+use liveness::{ItemState, Transactions};
 use outside::NoMemory;
 use page_layout::{LineFlag, PageView, Rule};
 use reports::{Place, Report};
@@ -32,7 +31,7 @@ use varlena_attrs::AttrBuffer;
 
 // Judges a normal item: where it lies, and then its tuple.
 #[tactic(auto, using(crate::proofs::KeptRules::no_externals, crate::proofs::KeptRules::no_chunks), unfolding(crate::specs::Verdicts::normal_verdict, crate::specs::Storage::overlaps_lower_item, page_layout::specs::Page::header_of))]
-fn judge_normal<F: Multixacts>(
+fn judge_normal<F: Transactions>(
     files: &mut F,
     table: &TableRules<'_>,
     page: PageView<'_>,
@@ -67,7 +66,7 @@ fn judge_normal<F: Multixacts>(
 
 // Judges an item.
 #[tactic(auto, using(crate::proofs::KeptRules::no_externals, crate::proofs::KeptRules::no_chunks), unfolding(crate::specs::Verdicts::item_verdict))]
-fn judge_item<F: Multixacts>(
+fn judge_item<F: Transactions>(
     files: &mut F,
     table: &TableRules<'_>,
     page: PageView<'_>,
@@ -112,7 +111,7 @@ fn add_state(states: &mut Vec<ItemState>, verdict: ItemVerdict) -> Result<(), No
 }
 
 // Judges an item, and adds what is found of it, its state, and what of it is kept.
-fn judge_and_add<F: Multixacts>(
+fn judge_and_add<F: Transactions>(
     files: &mut F,
     table: &TableRules<'_>,
     page: PageView<'_>,
@@ -153,7 +152,7 @@ fn judge_and_add<F: Multixacts>(
 /// Judges the items of a page, each by itself, and adds what is found of them, their states, and what
 /// of them is kept. The cells are free at first, and there are no states.
 #[tactic(auto, unfolding(crate::specs::Heap::items_findings, crate::specs::Heap::items_doubts))]
-pub fn judge_items<F: Multixacts>(
+pub fn judge_items<F: Transactions>(
     files: &mut F,
     table: &TableRules<'_>,
     page: PageView<'_>,

@@ -31,8 +31,7 @@ use crate::work::Work;
 use heap_tuples::{read_tuple, tuple_at};
 use hot_chains::Chains;
 use key_orders::{ColType, Tid};
-use liveness::{ItemState, Life};
-use multi_members::{Answers, Remembering};
+use liveness::{ItemState, Life, Memory, Remembering};
 use outside::{Files, NoMemory};
 use page_layout::{PageKind, PageView};
 use rel_files::Relation;
@@ -162,9 +161,8 @@ fn find_states<F: Files>(
     let count = view.item_count() as usize;
     let mut kept = Kept::new(alloc);
     let mut report = Report::new(alloc);
-    let logs = &table.logs;
-    let mut answers = Answers::new(alloc, logs.offsets, logs.members, &logs.cluster)?;
-    let mut files = Remembering::new(files, &mut answers);
+    let mut memory = Memory::new(alloc, &table.logs)?;
+    let mut files = Remembering::new(files, &mut memory);
     judge_items(&mut files, table, view, block, work, &mut kept, &mut report)?;
     if report.counts() != (0, 0) || work.states.len() != count {
         work.states.clear();

@@ -17,7 +17,7 @@ use crate::joint::judge_joint;
 use crate::kept::Kept;
 use crate::table::TableRules;
 use crate::work::Work;
-use multi_members::Multixacts;
+use liveness::Transactions;
 use page_layout::{PageKind, PageView, has_bit};
 use reports::{Finding, Place, Report};
 use vis_map::MapBits;
@@ -34,7 +34,7 @@ fn is_flagged_visible(page: PageView<'_>) -> bool
 
 // Judges a page of a table whose header keeps its rules: its items, each by itself, and then, where
 // nothing was found, all together.
-fn judge_sound_page<F: Multixacts>(
+fn judge_sound_page<F: Transactions>(
     files: &mut F,
     table: &TableRules<'_>,
     page: PageView<'_>,
@@ -75,7 +75,7 @@ fn judge_sound_page<F: Multixacts>(
 /// Judges a page of a table: its header, and where that breaks no rule its items. `bits` is what the
 /// visibility map says of the block.
 #[tactic(auto, unfolding(crate::specs::Heap::page_findings, crate::specs::Heap::page_doubts, crate::specs::Heap::page_externals, crate::specs::Heap::page_chunks, crate::specs::Tables::table_with))]
-pub fn judge_table_page<F: Multixacts>(
+pub fn judge_table_page<F: Transactions>(
     files: &mut F,
     table: &TableRules<'_>,
     page: &[u8; 8192],

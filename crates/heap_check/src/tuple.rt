@@ -14,8 +14,7 @@ use crate::table::TableRules;
 use crate::values::judge_values;
 use crate::verdict::{ItemVerdict, reason_of};
 use key_orders::Tid;
-use liveness::{ItemState, Judged, Life, life_in};
-use multi_members::Multixacts;
+use liveness::{ItemState, Judged, Life, Transactions, life_in};
 use outside::NoMemory;
 use page_layout::Rule;
 use reports::Reason;
@@ -68,7 +67,7 @@ fn life_verdict(
 /// rules of headers (H4 to H8), the tuple's life (H9 to H13), and the values of a live one (H17 to
 /// H20), which are kept where they break none.
 #[tactic(auto, using(crate::proofs::KeptRules::no_externals, crate::proofs::KeptRules::no_chunks), unfolding(crate::specs::Verdicts::tuple_verdict, crate::specs::Tables::table_with))]
-pub fn judge_tuple<F: Multixacts>(
+pub fn judge_tuple<F: Transactions>(
     files: &mut F,
     table: &TableRules<'_>,
     bytes: &[u8],

@@ -1,3 +1,4 @@
 pub mod Life
 pub mod LogFiles
 pub mod Logs
+pub mod Memory

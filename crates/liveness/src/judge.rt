@@ -7,13 +7,16 @@ ghost use Rattle.liveness.specs.Logs.{is_normal};
 ghost use Rattle.liveness.specs.Life.{SaysTrue, UpdateSaysTrue, deleter_judged, inserter_life, judged_by_multi};
 ghost use Rattle.liveness.specs.Life.{judged_of, plain, remover_judged};
 
+use crate::memory::Memory;
+use crate::remembering::Remembering;
 use crate::states::{Doubt, Judged, Life, Status3};
-use multi_members::{Direct, MultiState, Multixacts};
+use crate::transactions::Transactions;
+use multi_members::MultiState;
 use outside::Files;
 use page_layout::Rule;
 use rel_files::{ReadFault, multi_in_range, xid_in_range};
 use tuple_head::HeapHead;
-use xact_status::{XidState, status};
+use xact_status::XidState;
 
 const FIRST_NORMAL_XID: u32 = 3;
 
@@ -33,7 +36,7 @@ fn plain(life: Life) -> Judged
 
 // The inserter's part: None goes on to the deleter's.
 #[tactic(auto, unfolding(crate::specs::Life::inserter_life))]
-fn inserter_life<F: Files>(
+fn inserter_life<F: Transactions>(
     files: &mut F,
     logs: &Status3<'_>,
     head: HeapHead,
@@ -58,7 +61,7 @@ fn inserter_life<F: Files>(
     if !is_normal(x) || head.is_xmin_committed() {
         return Ok(None);
     }
-    Ok(match status(files, logs.xact, x)? {
+    Ok(match files.status(logs, x)? {
         XidState::Missing => Some(Life::Broken(Rule::H12)),
         XidState::Committed => None,
         XidState::NotCommitted => Some(Life::Dead),
@@ -67,7 +70,7 @@ fn inserter_life<F: Files>(
 
 // The part for a remover x.
 #[tactic(auto, unfolding(crate::specs::Life::remover_judged))]
-fn remover_judged<F: Files>(
+fn remover_judged<F: Transactions>(
     files: &mut F,
     logs: &Status3<'_>,
     hinted: bool,
@@ -93,7 +96,7 @@ fn remover_judged<F: Files>(
     if hinted {
         return Ok(dead);
     }
-    Ok(match status(files, logs.xact, x)? {
+    Ok(match files.status(logs, x)? {
         XidState::Missing => plain(Life::Broken(Rule::H12)),
         XidState::Committed => dead,
         XidState::NotCommitted => Judged {
@@ -104,7 +107,7 @@ fn remover_judged<F: Files>(
 }
 
 // The part for a multixact.
-fn judged_by_multi<F: Files>(
+fn judged_by_multi<F: Transactions>(
     files: &mut F,
     logs: &Status3<'_>,
     multi: MultiState,
@@ -124,7 +127,7 @@ fn judged_by_multi<F: Files>(
 
 // The deleter's part.
 #[tactic(auto, unfolding(crate::specs::Life::deleter_judged))]
-fn deleter_judged<F: Multixacts>(
+fn deleter_judged<F: Transactions>(
     files: &mut F,
     logs: &Status3<'_>,
     head: HeapHead,
@@ -142,14 +145,14 @@ fn deleter_judged<F: Multixacts>(
     if !multi_in_range(&logs.cluster, head.xmax) {
         return Ok(plain(Life::Broken(Rule::H10)));
     }
-    let multi = files.updater(logs.offsets, logs.members, &logs.cluster, head.xmax)?;
+    let multi = files.updater(logs, head.xmax)?;
     judged_by_multi(files, logs, multi)
 }
 
-/// The same as `life`, of files in which multixacts are looked up: where many tuples are judged, what was
-/// found of the last multixacts can so be remembered.
+/// The same as `life`, of files in which transactions are looked up: where many tuples are judged, what was
+/// found of the last transactions can so be remembered.
 #[tactic(auto, unfolding(crate::specs::Life::judged_of))]
-pub fn life_in<F: Multixacts>(
+pub fn life_in<F: Transactions>(
     files: &mut F,
     logs: &Status3<'_>,
     head: &HeapHead,
@@ -202,5 +205,9 @@ pub fn life<F: Files>(
         UpdateSaysTrue names (log_files_of logs.now) head.now judged.update) }
     ensures asked { Asked F.seen files.old files.new result read_fault }
 {
-    life_in(&mut Direct::new(files), logs, head)
+    life_in(
+        &mut Remembering::new(files, &mut Memory::none()),
+        logs,
+        head,
+    )
 }

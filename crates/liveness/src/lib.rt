@@ -11,12 +11,18 @@ ghost use Rattle.liveness.specs.LogFiles.{LogFiles, logs_of};
 ghost use Rattle.liveness.specs.Life.{SaysTrue, UpdateSaysTrue, judged_of, life_of};
 
 mod judge;
+mod memory;
+mod remembering;
 mod states;
 #[cfg(test)]
 mod tests;
+mod transactions;
 
 pub use judge::{life, life_in};
+pub use memory::Memory;
+pub use remembering::Remembering;
 pub use states::{Doubt, ItemState, Judged, Life, Status3};
+pub use transactions::Transactions;
 
 /// The law of `life`, for all that logs may hold and all headers: where its table calls a tuple live, the
 /// tuple is inserted and not deleted; where it calls it dead, it isn't; where it says a rule or a doubt, that

@@ -1,15 +1,16 @@
 //! Tuples over logs in files in memory.
 use crate::Doubt::{U1, U2, U3};
 use crate::Life::{Broken, Dead, Live, Unjudged};
-use crate::{Judged, Life, Status3, life, life_in};
-use multi_members::{Answers, Remembering};
+use crate::{Judged, Life, Memory, Remembering, Status3, Transactions, life, life_in};
+use multi_members::MultiState;
 use outside::{MemFiles, Part};
 use page_layout::Rule::{H9, H10, H11, H12, H13};
-use rel_files::{Cluster, Slru};
+use rel_files::{Cluster, Slru, multi_in_range};
 use std::alloc::Global;
 use std::process::Abort;
 use std::test::Fail;
 use tuple_head::{HeapHead, heap_head};
+use xact_status::XidState;
 
 // The logs' folders in memory.
 #[derive(Drop)]
@@ -305,15 +306,16 @@ fn each_fault_is_handed_on(rt: HostRuntime) -> Result<(), Fail> {
 }
 
 #[test]
-fn a_multixact_is_looked_up_once(rt: HostRuntime) -> Result<(), Fail> {
+fn transactions_are_looked_up_once(rt: HostRuntime) -> Result<(), Fail> {
     let alloc = rt.alloc();
     let folders = Folders::new(alloc)?;
     let logs = folders.logs(CLUSTER);
     let mut files = updated_under_locks(alloc, 0x55)?;
-    // The first takes five reads, and each other the byte of its inserter and that of 712.
-    files.fail_read(12)?;
-    let mut answers = Answers::new(alloc, logs.offsets, logs.members, &logs.cluster)?;
-    let mut found = Remembering::new(&mut files, &mut answers);
+    // The first takes a piece of pg_xact for its inserter, and three reads for its multixact; the others
+    // take none, since 700 to 703 and 712 stand in one piece.
+    files.fail_read(5)?;
+    let mut memory = Memory::new(alloc, &logs)?;
+    let mut found = Remembering::new(&mut files, &mut memory);
     for xmin in 700..704u32 {
         let got = life_in(&mut found, &logs, &head(xmin, 5, 0x1000))?;
         let want = Judged {
@@ -322,7 +324,35 @@ fn a_multixact_is_looked_up_once(rt: HostRuntime) -> Result<(), Fail> {
         };
         assert_eq!(rt; got, want, "{xmin}");
     }
-    assert_eq!(rt; files.reads(), 11);
+    assert_eq!(rt; files.reads(), 4);
+    Ok(())
+}
+
+// One of the logs of another folder, or none kept at all: everything is looked up anew.
+#[test]
+fn other_logs_are_looked_up_anew(rt: HostRuntime) -> Result<(), Fail> {
+    let alloc = rt.alloc();
+    let folders = Folders::new(alloc)?;
+    let logs = folders.logs(CLUSTER);
+    let other = Slru::new(alloc, "other")?;
+    let others = Status3 {
+        xact: &other,
+        members: &other,
+        ..logs
+    };
+    for (mut memory, reads) in [(Memory::new(alloc, &logs)?, 4), (Memory::none(), 8)] {
+        let mut files = updated_under_locks(alloc, 0x55)?;
+        let mut found = Remembering::new(&mut files, &mut memory);
+        assert!(rt; multi_in_range(&CLUSTER, 5));
+        for _ in 0..2 {
+            assert_eq!(rt; found.status(&logs, 700)?, XidState::Committed);
+            assert_eq!(rt; found.status(&others, 700)?, XidState::Missing);
+            assert_eq!(rt; found.updater(&logs, 5)?, MultiState::Updater(712));
+            assert_eq!(rt; found.updater(&others, 5)?, MultiState::Missing);
+        }
+        // Of the other logs only where the members begin and end is there to be read, twice in each turn.
+        assert_eq!(rt; files.reads(), reads + 4);
+    }
     Ok(())
 }
 

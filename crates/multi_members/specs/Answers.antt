@@ -1,7 +1,7 @@
 -- What is kept of multixacts that were looked up.
 use Rattle.std.specs.Prelude.{◌≡◌, ℕ, List, Option, Some, None, All, IfSome}
 use Rattle.std.specs.Coded.{Coded-set, Unit-prop, Π_prop}
-use Rattle.outside.specs.Outside.{Held, Names}
+use Rattle.outside.specs.Outside.{Names}
 use Rattle.rel_files.specs.Slru.{dir_of}
 use Rattle.rel_files.specs.declared.cluster.Cluster.{Cluster}
 use Rattle.multi_members.specs.declared.answers.Answer.{Answer}
@@ -28,21 +28,14 @@ unfoldable pub AreTrue : Names → Answers → Type 0
 AreTrue names answers =
     All (PlaceIsTrue names (dir_of answers.offsets) (dir_of answers.members) answers.cluster) answers.places.items
 
--- they are true of what files hold, where it is told
-abbrev pub AreTrueOf : Held → Answers → Type 0
-AreTrueOf held answers = (names : Names) → held ≡ Some names → AreTrue names answers
-
 -- each of these facts has one proof at most
 PlaceIsTrue-prop : (names : Names) (offsets members : List ℕ) (cluster : Cluster) (place : Option Answer)
     → IsProp (PlaceIsTrue names offsets members cluster place)
 PlaceIsTrue-prop names offsets members cluster None = Unit-prop
 PlaceIsTrue-prop names offsets members cluster (Some answer) = Coded-set multi_state.the_row.coded _ _
 
-AreTrue-prop : (names : Names) (answers : Answers) → IsProp (AreTrue names answers)
+pub AreTrue-prop : (names : Names) (answers : Answers) → IsProp (AreTrue names answers)
 unfolding AreTrue
 AreTrue-prop names answers =
     let each = PlaceIsTrue-prop names (dir_of answers.offsets) (dir_of answers.members) answers.cluster in
     Π_prop (λ at. Π_prop (λ other. Π_prop (λ below. each _)))
-
-pub AreTrueOf-prop : (held : Held) (answers : Answers) → IsProp (AreTrueOf held answers)
-AreTrueOf-prop held answers = Π_prop (λ names. Π_prop (λ told. AreTrue-prop names answers))

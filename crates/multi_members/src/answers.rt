@@ -2,8 +2,9 @@
 ghost use Rattle.std.specs.Prelude.{◌≡◌};
 
 use crate::state::MultiState;
-use outside::NoMemory;
-use rel_files::{Cluster, Slru};
+use crate::updater;
+use outside::{Files, NoMemory};
+use rel_files::{Cluster, ReadFault, Slru};
 use std::alloc::Global;
 
 // How many answers are kept.
@@ -28,10 +29,11 @@ pub struct Answers {
 
 impl Answers {
     ghost use Rattle.std.specs.Prelude.{ℕ, List, IfOk, IfSome, IsTrue};
-    ghost use Rattle.outside.specs.Outside.{Names};
+    ghost use Rattle.outside.specs.Outside.{AskedAtMost, IfTold, Names, Tells};
+    ghost use Rattle.rel_files.specs.Faults.{read_fault};
+    ghost use Rattle.rel_files.specs.Ranges.{is_multi_in_range};
     ghost use Rattle.rel_files.specs.Slru.{dir_of};
     ghost use Rattle.multi_members.specs.Updater.{updater_of};
-    ghost use Rattle.rel_files.specs.declared.cluster.Cluster.{Cluster};
     ghost use Rattle.multi_members.specs.Answers.{AreFor, AreTrue};
 
     /// None yet, for these folders and numbers. All its memory is taken here: some 5 KiB and the folders'
@@ -53,8 +55,8 @@ impl Answers {
         })
     }
 
-    // Whether they are for these folders and numbers.
-    pub(crate) fn are_for(&self, offsets: &Slru, members: &Slru, cluster: &Cluster) -> bool
+    /// Whether they are for these folders and numbers.
+    pub fn are_for(&self, offsets: &Slru, members: &Slru, cluster: &Cluster) -> bool
         ensures { IsTrue result → AreFor (dir_of offsets.now) (dir_of members.now) cluster.now self.now }
     {
         self.offsets.dir() == offsets.dir()
@@ -63,10 +65,9 @@ impl Answers {
     }
 
     // What was found of a multixact, if it is kept.
-    pub(crate) fn find(&self, multi: u32) -> Option<MultiState>
-        ensures { (names : Names) (offsets members : List ℕ) (cluster : Cluster)
-            → AreFor offsets members cluster self.now → AreTrue names self.now
-            → IfSome result (λ state. state ≡ updater_of names offsets members cluster multi) }
+    fn find(&self, multi: u32) -> Option<MultiState>
+        ensures { (names : Names) → AreTrue names self.now → IfSome result (λ state.
+            state ≡ updater_of names (dir_of self.now.offsets) (dir_of self.now.members) self.now.cluster multi) }
     {
         match self.places.get(multi as usize % PLACES) {
             Some(Some(answer)) if answer.multi == multi => Some(answer.state),
@@ -75,14 +76,32 @@ impl Answers {
     }
 
     // Keeps what was found of a multixact.
-    pub(crate) fn keep(&mut self, multi: u32, state: MultiState)
-        ensures { (names : Names) (offsets members : List ℕ) (cluster : Cluster)
-            → AreFor offsets members cluster self.old → AreTrue names self.old
-            → state ≡ updater_of names offsets members cluster multi → AreTrue names self.new }
+    fn keep(&mut self, multi: u32, state: MultiState)
+        ensures { (names : Names) → AreTrue names self.old
+            → state ≡ updater_of names (dir_of self.old.offsets) (dir_of self.old.members) self.old.cluster multi
+            → AreTrue names self.new }
     {
         let place = multi as usize % PLACES;
         if place < self.places.len() {
             self.places[place] = Some(Answer { multi, state });
         }
+    }
+
+    /// What `updater` gives of their folders and numbers, from memory where it is there; else it is looked
+    /// up and kept. Nothing is kept after a fault.
+    pub fn updater<F: Files>(&mut self, files: &mut F, multi: u32) -> Result<MultiState, ReadFault>
+        requires in_range { IsTrue (is_multi_in_range self.old.cluster multi) }
+        requires says_true { IfTold F.seen files.old (λ names. AreTrue names self.old) }
+        ensures told { Tells F.seen files.old result (λ state names. state
+            ≡ updater_of names (dir_of self.old.offsets) (dir_of self.old.members) self.old.cluster multi) }
+        ensures says_true { IfTold F.seen files.old (λ names. AreTrue names self.new) }
+        ensures asked { AskedAtMost 327688 F.seen files.old files.new result read_fault }
+    {
+        if let Some(state) = self.find(multi) {
+            return Ok(state);
+        }
+        let state = updater(files, &self.offsets, &self.members, &self.cluster, multi)?;
+        self.keep(multi, state);
+        Ok(state)
     }
 }

@@ -13,24 +13,18 @@ ghost use Rattle.multi_members.specs.Updater.{SaysTrue, updater_of};
 
 mod answers;
 mod bytes;
-mod direct;
 mod edges;
 mod groups;
 mod members;
-mod multixacts;
-mod remembering;
 mod state;
 #[cfg(test)]
 mod tests;
 
 pub use answers::Answers;
-pub use direct::Direct;
 use edges::{Edge, begin_of, end_of};
 use members::first_updater;
-pub use multixacts::Multixacts;
 use outside::Files;
 use rel_files::{Cluster, ReadFault, Slru};
-pub use remembering::Remembering;
 pub use state::MultiState;
 
 /// How many members of one multixact are looked at.

@@ -8,13 +8,16 @@ ghost use Rattle.std.specs.Prelude.{◌≡◌};
 ghost use Rattle.outside.specs.Outside.{AskedAtMost, Tells};
 ghost use Rattle.rel_files.specs.Faults.{read_fault};
 ghost use Rattle.rel_files.specs.Slru.{dir_of};
-ghost use Rattle.xact_status.specs.Status.{SaysTrue, status_of, two_bits};
+ghost use Rattle.xact_status.specs.Status.{SaysTrue, state_by_byte, status_of, two_bits};
 
-use outside::Files;
-use rel_files::{ReadFault, Slru};
-
+mod piece;
+mod read;
 #[cfg(test)]
 mod tests;
+
+use outside::Files;
+pub use read::StatesRead;
+use rel_files::{ReadFault, Slru};
 
 /// The first of the ids that transactions are given; those below it are kept for the system.
 const FIRST_NORMAL_XID: u32 = 3;
@@ -39,10 +42,23 @@ pub enum XidState {
 }
 
 // The two bits of a transaction in the byte that it shares with three others.
+#[inline]
 fn two_bits(byte: u8, xid: u32) -> u8
     ensures { result ≡ two_bits xid byte }
 {
     (byte >> (2 * (xid % XIDS_PER_BYTE))) % 4
+}
+
+// The state of a transaction from 3 on, by the byte that has its bits, where it is held.
+#[inline]
+fn state_by_byte(byte: Option<u8>, xid: u32) -> XidState
+    ensures { result ≡ state_by_byte xid byte }
+{
+    match byte {
+        None => XidState::Missing,
+        Some(byte) if two_bits(byte, xid) == COMMITTED => XidState::Committed,
+        Some(_) => XidState::NotCommitted,
+    }
 }
 
 /// The state of the transaction `xid` by the files of pg_xact, whose folder is `xact`.
@@ -69,9 +85,6 @@ pub fn status<F: Files>(files: &mut F, xact: &Slru, xid: u32) -> Result<XidState
     }
     let page = xid / XIDS_PER_PAGE;
     let place = xid % XIDS_PER_PAGE / XIDS_PER_BYTE;
-    match xact.byte(files, page, place as u16)? {
-        None => Ok(XidState::Missing),
-        Some(byte) if two_bits(byte, xid) == COMMITTED => Ok(XidState::Committed),
-        Some(_) => Ok(XidState::NotCommitted),
-    }
+    let byte = xact.byte(files, page, place as u16)?;
+    Ok(state_by_byte(byte, xid))
 }
