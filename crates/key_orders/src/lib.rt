@@ -4,6 +4,7 @@
 mod columns;
 mod compare;
 mod laws;
+mod more;
 mod octets;
 mod orders;
 mod refs;
@@ -15,6 +16,7 @@ mod values;
 pub use columns::{ColType, KeySpec, Value, ValueRef};
 pub use compare::{cmp_entry, cmp_sep, cmp_two_seps, cmp_values, fits_columns};
 pub use laws::{goes_right_has_the_laws, key_orders_are_total, keys_are_searchable};
+pub use more::{MAX_MORE_COLUMNS, MoreRefs, MoreSpec};
 pub use octets::Octets;
 pub use orders::{BoolOrder, BytesOrder, IntOrder, KeyOrder, NullPlace, Reversed};
 pub use refs::{KeyRefs, MAX_KEY_COLUMNS};

@@ -1,5 +1,6 @@
 //! The table of types: what the values of each are, how they are stored, and whether it may be a key.
 ghost use Rattle.std.specs.Prelude.{◌≡◌, false, length, true};
+ghost use Rattle.key_orders.specs.Orders.{fits_type};
 ghost use Rattle.key_orders.specs.Types.{HasLength, alignment_of, fixed_length, may_be_key, type_of};
 ghost use Rattle.key_orders.specs.Values.{value_in, value_shown};
 
@@ -126,11 +127,13 @@ impl ColType {
 
 /// The value that the bytes of a column are: integers have their lowest byte first, and all but
 /// `Oid` are signed; a bool byte other than 0 is true; a varlena is its content without its header.
+/// The value fits the column.
 #[inline]
 #[tactic(auto, unfolding(crate::specs::Values::value_in))]
 pub fn value_of<'p>(ctype: ColType, piece: &'p [u8]) -> ValueRef<'p>
     requires { HasLength ctype (length piece.now) }
-    ensures { value_shown result ≡ value_in ctype piece.now }
+    ensures value { value_shown result ≡ value_in ctype piece.now }
+    ensures fits { fits_type ctype (value_shown result) ≡ true }
 {
     match ctype {
         ColType::Bool => ValueRef::Bool(piece[0] != 0),

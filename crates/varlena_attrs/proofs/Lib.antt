@@ -5,3 +5,5 @@ pub mod Law
 pub mod Faults
 pub mod First
 pub mod Ends
+pub mod Keying
+pub mod KeyAttributes

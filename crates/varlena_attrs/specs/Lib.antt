@@ -5,3 +5,6 @@ pub mod Reading
 pub mod Shown
 pub mod Inline
 pub mod Laws
+pub mod Keyed
+pub mod KeyedShown
+pub mod KeyLaws

@@ -10,6 +10,7 @@ mod buffer;
 mod fault;
 mod forms;
 mod inline;
+mod keyed;
 mod places;
 mod reading;
 #[cfg(test)]
@@ -19,5 +20,6 @@ pub use buffer::AttrBuffer;
 pub use fault::AttrFault;
 pub use inline::ColumnLayout;
 pub use key_orders::value_of;
+pub use keyed::{KeyFault, entry_attributes, key_attributes, key_values_are_attributes};
 pub use places::{Attr, AttrPlace, ToastPointer, pointer_at};
 pub use reading::{Attrs, attributes, attributes_are_unique};
