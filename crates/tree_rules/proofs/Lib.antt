@@ -1,0 +1,17 @@
+pub mod Decide
+pub mod Find
+pub mod Entries
+pub mod First
+pub mod Searchable
+pub mod Broken
+pub mod Kept
+pub mod Meets
+pub mod LevelWalk
+pub mod Circles
+pub mod Walks
+pub mod Cursors
+pub mod Items
+pub mod Steps
+pub mod Example
+pub mod Loops
+pub mod Keyed

@@ -1,0 +1,10 @@
+pub mod Rules
+pub mod Questions
+pub mod Tests
+pub mod Sound
+pub mod Links
+pub mod Meeting
+pub mod LevelWalk
+pub mod Walk
+pub mod Cursor
+pub mod Same

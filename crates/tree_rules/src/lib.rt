@@ -1,0 +1,165 @@
+//! The rules on the levels of a B-tree, L1 to L9: which of them an index breaks first, and walks along
+//! the levels that find it.
+//!
+//! The crate has no code, only definitions and proofs. Its functions do nothing; their contracts are
+//! the theorems, and a caller has them by calling. S stands for separators, E for entries, whatever
+//! their order. `same` is any test that tells whether two separators are the same.
+//!
+//! Source: the README of PostgreSQL's `access/nbtree`.
+#![tactic(auto)]
+
+ghost use Rattle.std.specs.Prelude.{◌≡◌, ◌≢◌, ◌≤◌, ◌+◌, ◌-◌, ◌↔◌, ℕ, Bool, true, false, suc, List, [], map};
+ghost use Rattle.std.specs.Prelude.{Option, Some, None};
+ghost use Rattle.std.specs.List.{filter};
+ghost use Rattle.std.specs.Cmp.{IsTotalOrder};
+ghost use Rattle.std.specs.declared.cmp.Ordering.{Ordering};
+ghost use Rattle.page_layout.specs.declared.rules.Rule.{Rule};
+ghost use Rattle.tree_search.specs.Keys.{Columns, key_order};
+ghost use Rattle.tree_search.specs.Order.{Order};
+ghost use Rattle.tree_search.specs.Tree.{Index, chain_of, linked_from};
+ghost use Rattle.tree_search.specs.Levels.{Downlink, downlinks, entry_page, lead_to, rows};
+ghost use Rattle.tree_search.specs.Searchable.{IsInUse, IsSearchable};
+ghost use Rattle.tree_rules.specs.Rules.{BreaksLevelRule, KeepsLevelRules, entry_at};
+ghost use Rattle.tree_rules.specs.Questions.{Finding, IsFirst};
+ghost use Rattle.tree_rules.specs.Tests.{are_roots_misplaced, comes_back, first_broken};
+ghost use Rattle.tree_rules.specs.Sound.{HasSoundPages, IsSame, IsTransitive};
+ghost use Rattle.tree_rules.specs.Links.{IsOpenChain, first_page, to_left, to_right, walks_to};
+ghost use Rattle.tree_rules.specs.Meeting.{unmet, rows_met};
+ghost use Rattle.tree_rules.specs.LevelWalk.{level_finding, level_walk};
+ghost use Rattle.tree_rules.specs.Walk.{walk_finding};
+ghost use Rattle.tree_rules.specs.Cursor.{AreAbove, cursor_start, dead_below, downlinks_left, downlinks_read};
+ghost use Rattle.tree_rules.specs.Cursor.{read_finding, turned_cursor};
+ghost use Rattle.tree_rules.specs.Same.{TellsApart, same_keys};
+
+use tree_search::keys_have_the_laws;
+
+/// Where the rules on single pages hold, the finding says exactly which rule on levels is broken
+/// first, and none says that the index breaks no rule.
+///
+/// - `found`: a finding breaks its rule.
+/// - `first`: and no rule that is asked before it is broken.
+/// - `silent`: there is no finding exactly where no rule is broken.
+/// - `searchable`: where no rule is broken, the index has all that the theorems on searches ask
+///   (`tree_search::search_finds`).
+/// - `kept`: what those theorems ask leaves no rule broken, in an order that is transitive, whatever
+///   single pages have besides.
+/// - `none`: and so no finding.
+pub fn rules_are_exact<S, E>()
+    ensures found { (same : S → S → Bool) (o : Order S E) (x : Index S E) → IsSame same → HasSoundPages o x →
+        (rule : Rule) (block : ℕ) → first_broken same o x ≡ Some (rule, block) → BreaksLevelRule o x rule block }
+    ensures first { (same : S → S → Bool) (o : Order S E) (x : Index S E) → IsSame same → HasSoundPages o x →
+        (f : Finding) → first_broken same o x ≡ Some f → IsFirst o x f }
+    ensures silent { (same : S → S → Bool) (o : Order S E) (x : Index S E) → IsSame same → HasSoundPages o x →
+        (first_broken same o x ≡ None) ↔ KeepsLevelRules o x }
+    ensures searchable { (same : S → S → Bool) (o : Order S E) (x : Index S E) → IsSame same → HasSoundPages o x →
+        KeepsLevelRules o x → IsSearchable o x }
+    ensures kept { (o : Order S E) (x : Index S E) → IsTransitive o → IsSearchable o x → KeepsLevelRules o x }
+    ensures none { (same : S → S → Bool) (o : Order S E) (x : Index S E) → IsSame same → IsTransitive o →
+        IsSearchable o x → first_broken same o x ≡ None }
+{}
+
+/// One walk along each level, from the top down, finds the same. `same` needs no law here.
+///
+/// - `walk`: where each walk keeps the downlinks of the live pages that it passes, as a list for the
+///   level below.
+/// - `read`: where each walk reads its downlinks along the level above, and keeps which pages of the
+///   levels above are dead.
+pub fn walks_find_the_first<S, E>()
+    ensures walk { (same : S → S → Bool) (o : Order S E) (x : Index S E) → HasSoundPages o x →
+        first_broken same o x ≡ walk_finding same o x }
+    ensures read { (same : S → S → Bool) (o : Order S E) (x : Index S E) → HasSoundPages o x →
+        first_broken same o x ≡ read_finding same o x }
+{}
+
+/// What loops need to know of the chain of a level: its first page, and whether it is a circle (L2).
+///
+/// - `back`: a walk of at most n links tells whether the links come back to the page.
+/// - `left`: and so does one to the left, of at most as many links as there are blocks.
+/// - `chain`: what the links to the right reach from the first page is the whole chain. It ends, is no
+///   longer than there are blocks, and all its pages are in use and of one level.
+/// - `entries`: where L1 holds, the entry page of each level is in use and of its level, whatever else
+///   is broken.
+pub fn chains_are_walked<S, E>()
+    ensures back { (link : ℕ → ℕ) (b n : ℕ) → b ≢ 0 → walks_to link b n (link b) ≡ comes_back link b n }
+    ensures left { (o : Order S E) (x : Index S E) → HasSoundPages o x → (b : ℕ) → IsInUse x b →
+        walks_to (to_left x) b x.blocks (to_left x b) ≡ comes_back (to_right x) b x.blocks }
+    ensures chain { (o : Order S E) (x : Index S E) → HasSoundPages o x → (b : ℕ) → IsInUse x b →
+        comes_back (to_right x) b x.blocks ≡ false →
+        IsOpenChain x b (linked_from (to_right x) x.blocks (first_page x b)) }
+    ensures entries { (o : Order S E) (x : Index S E) → HasSoundPages o x → x.root ≢ 0 →
+        are_roots_misplaced x ≡ false → (n : ℕ) → n ≤ x.level →
+        IsInUse x (entry_at x n) × ((x.page (entry_at x n)).level ≡ x.level - n) }
+{}
+
+/// What loops need to know of the downlinks to a level, taken one after the other as their pages are
+/// met along the chain.
+///
+/// - `order`: all are met exactly where they are the linked pages in chain order (L4).
+/// - `roles`: a page is linked exactly where the next downlink leads to it, if they are in order.
+pub fn downlinks_are_met<S, E>()
+    ensures order { (o : Order S E) (x : Index S E) → HasSoundPages o x → (b : ℕ) → IsInUse x b →
+        comes_back (to_right x) b x.blocks ≡ false → (ds : List (Downlink S)) →
+        (unmet (chain_of x b) ds ≡ []) ↔ (map (λ d. d.1) ds ≡ filter (lead_to ds) (chain_of x b)) }
+    ensures roles { (x : Index S E) (linked : ℕ → Bool) (c : List ℕ) (ds : List (Downlink S)) (split : Bool)
+        (lower : Option S) → map (λ d. d.1) ds ≡ filter linked c →
+        rows x linked split lower c ≡ rows_met x c ds split lower }
+{}
+
+/// What loops need to know of the downlinks to the level below. The first two speak of a level where
+/// nothing was found, n levels below the top and with number m.
+///
+/// - `below`: the downlinks that its walk kept are those to the level below.
+/// - `read`: and so are those that are read along it, by a set of the dead pages of the levels above,
+///   to which this level's are added. The set then has no page of a level further down.
+/// - `begin`: the cursor that reads them begins before the first page, with no data item in hand.
+/// - `turn`: where it has none in hand, it takes those of the next page. Where it has some, the
+///   definition says what is left (`downlinks_left`).
+/// - `done`: where there is no further page, nothing is left.
+pub fn downlinks_are_read<S, E>()
+    ensures below { (same : S → S → Bool) (o : Order S E) (x : Index S E) → HasSoundPages o x → x.root ≢ 0 →
+        are_roots_misplaced x ≡ false → (m n : ℕ) → m + n ≡ x.level →
+        level_finding same o x m (downlinks x n) ≡ None →
+        (level_walk same o x (downlinks x n)).below ≡ downlinks x (suc n) }
+    ensures read { (same : S → S → Bool) (o : Order S E) (x : Index S E) → HasSoundPages o x → x.root ≢ 0 →
+        are_roots_misplaced x ≡ false → (m n : ℕ) → m + n ≡ x.level →
+        level_finding same o x m (downlinks x n) ≡ None → (dead : ℕ → Bool) → AreAbove x m dead →
+        (downlinks_read x dead (downlinks x n) ≡ downlinks x (suc n))
+        × ((b : ℕ) → dead_below x dead (downlinks x n) b ≡ true → m ≤ (x.page b).level) }
+    ensures begin { (x : Index S E) (dead : ℕ → Bool) (ds : List (Downlink S)) →
+        downlinks_read x dead ds ≡ downlinks_left x (dead_below x dead ds) x.blocks (cursor_start x ds) }
+    ensures turn { (x : Index S E) (dead : ℕ → Bool) (n : ℕ) (lower : Option S) (b : ℕ) → b ≢ 0 →
+        downlinks_left x dead (suc n) (record { items = []; lower = lower; block = b })
+        ≡ downlinks_left x dead n (turned_cursor x dead (record { items = []; lower = lower; block = b })) }
+    ensures done { (x : Index S E) (dead : ℕ → Bool) (n : ℕ) (lower : Option S) →
+        downlinks_left x dead n (record { items = []; lower = lower; block = 0 }) ≡ [] }
+{}
+
+/// What the laws above ask of separators holds of keys that are compared column by column, whatever
+/// the total order of each column and of the TIDs. V stands for the values, T for the TIDs.
+///
+/// - `transitive`: their order is transitive.
+/// - `same`: that two keys compare equal is a test of whether they are the same, where each order
+///   finds equal only what is the same.
+pub fn keys_fit<V, T>()
+    ensures transitive { (cs : Columns V) (ts : T → T → Ordering) → ((i : ℕ) → IsTotalOrder (cs i)) →
+        IsTotalOrder ts → IsTransitive (key_order cs ts) }
+    ensures same { (cs : Columns V) (ts : T → T → Ordering) → ((i : ℕ) → IsTotalOrder (cs i)) → IsTotalOrder ts →
+        ((i : ℕ) → TellsApart (cs i)) → TellsApart ts → IsSame (same_keys cs ts) }
+{
+    keys_have_the_laws::<V, T>();
+}
+
+#[cfg(test)]
+mod tests {
+    use super::*;
+
+    #[test]
+    fn theorems_can_be_called() {
+        rules_are_exact::<u64, u64>();
+        walks_find_the_first::<u64, u64>();
+        chains_are_walked::<u64, u64>();
+        downlinks_are_met::<u64, u64>();
+        downlinks_are_read::<u64, u64>();
+        keys_fit::<i64, u32>();
+    }
+}
