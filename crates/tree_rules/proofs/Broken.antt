@@ -21,8 +21,7 @@ use Rattle.tree_rules.specs.Questions.{finding_of, last_questions, level_questio
 use Rattle.tree_rules.specs.Questions.{row_questions}
 use Rattle.tree_rules.specs.Tests.{first_broken}
 use Rattle.tree_rules.specs.Sound.{HasSoundPages, IsSame}
-use Rattle.tree_rules.proofs.Decide.{some_eq}
-use Rattle.tree_rules.proofs.Find.{flat_map-Each}
+use Rattle.tree_rules.proofs.Find.{some_eq, flat_map-Each}
 use Rattle.tree_rules.proofs.First.{first, each_map, map_each, each_level, each_down, questions_some, questions_none}
 use Rattle.tree_rules.proofs.First.{Unbroken}
 use Rattle.tree_rules.proofs.Searchable.{of_level}

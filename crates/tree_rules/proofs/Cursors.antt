@@ -6,6 +6,7 @@ use Rattle.std.specs.Prelude.{option_map, Option, Some, None, ◌==◌, ◌||◌
 use Rattle.std.specs.List.{filter, find, flat_map, list_any}
 use Rattle.std.proofs.lemmas.Bool.{cases_Bool, cond-true, cond-false, eq-eqb, eqb-true, eqb-false, ne_eqb, both_ways}
 use Rattle.std.proofs.lemmas.Bool.{false_from_ne_true, or_cases, or_parts, not-false, and_parts}
+use Rattle.std.proofs.Math.Bool.{or-false}
 use Rattle.tree_search.specs.Order.{Order}
 use Rattle.tree_search.specs.Tree.{Index, chain_of, linked_from}
 use Rattle.tree_search.specs.Levels.{Role, Dead, Linked, Right_half, Neither, Row, row, row_page, row_role, is_live}
@@ -45,10 +46,6 @@ unmarked (r ∷ rs) b out =
     ap (λ (z : Bool). (z && is_dead (row_role r)) || list_any (λ r. (row_page r == b) && is_dead (row_role r)) rs) (ne_eqb (row_page r) b (λ e. out (inl (sym e))))
     ∙ unmarked rs b (λ k. out (inr k))
 
-or_false : (b : Bool) → (b || false) ≡ b
-or_false true = refl
-or_false false = refl
-
 -- a set without these pages tells after they have been added
 pub marks_tell :
     {S : Type 0} (dead : ℕ → Bool) (rs : List (Row S)) → NoRepeats (map row_page rs)
@@ -72,7 +69,7 @@ marks_tell {S} dead rs apart fresh = each_two (λ r. dead (row_page r) ≡ false
     own [] apart = tt
     own (r ∷ rs) apart = (
       ap (λ (z : Bool). (z && is_dead (row_role r)) || list_any (λ s. (row_page s == row_page r) && is_dead (row_role s)) rs) (eq-eqb (row_page r) (row_page r) refl)
-          ∙ (ap (λ z. is_dead (row_role r) || z) (unmarked rs (row_page r) apart.0) ∙ or_false (is_dead (row_role r))),
+          ∙ (ap (λ z. is_dead (row_role r) || z) (unmarked rs (row_page r) apart.0) ∙ or-false (is_dead (row_role r))),
       later r rs rs apart.0 (own rs apart.1),
     )
 

@@ -1,7 +1,7 @@
 -- Each test decides its rule.
 use Rattle.std.proofs.Common.{◌≡◌, ◌≢◌, ℕ, zero, suc, ◌-◌, ◌<◌, ◌≤◌, inl, inr, Bool, true, false, not, ◌&&◌, ◌||◌}
 use Rattle.std.proofs.Common.{List, [], ◌∷◌, map, refl, sym, ap, ◌∙◌, subst, arith, add-one}
-use Rattle.std.specs.Prelude.{⊤, Option, Some, None, ◌==◌, nat_le, slice_get, option_map}
+use Rattle.std.specs.Prelude.{⊤, Option, Some, None, ◌==◌, nat_le, slice_get}
 use Rattle.std.specs.Bool.{Decides}
 use Rattle.std.specs.List.{filter, list_any, Any, Contains}
 use Rattle.std.proofs.lemmas.Bool.{cases_Bool, and_parts, and_from, or_cases, not-true, not_from_false, leb-false}
@@ -14,7 +14,8 @@ use Rattle.tree_search.specs.Levels.{Role, Dead, Linked, Right_half, Neither, is
 use Rattle.tree_search.specs.Levels.{row_lower, Downlink, lead_to, entry_page, downlinks, level_rows}
 use Rattle.tree_search.specs.Searchable.{IsInUse, IsSoundPage, EntryAbove}
 use Rattle.tree_search.proofs.Chains.{Follows, OnLevel, walk_or_circle}
-use Rattle.tree_rules.specs.Rules.{HasLowEntry, HasLowKey, IsCircle, IsLowSeparator, IsMisplaced, IsNotAlone}
+use Rattle.tree_rules.specs.Rules.{second_separator, HasLowEntry, HasLowKey, IsCircle, IsLowSeparator, IsMisplaced}
+use Rattle.tree_rules.specs.Rules.{IsNotAlone}
 use Rattle.tree_rules.specs.Rules.{StandsInChain, entry_at}
 use Rattle.tree_rules.specs.Questions.{Circle, Downlinks, FastRoot, IsBroken, LastPage, LiveOrDead, LowerBound}
 use Rattle.tree_rules.specs.Questions.{Question, Roots, Separator, Unreached}
@@ -22,12 +23,10 @@ use Rattle.tree_rules.specs.Tests.{comes_back, has_low_key, is_broken, is_dead, 
 use Rattle.tree_rules.specs.Tests.{is_low_separator, is_misplaced, is_neither, is_not_alone, is_right_half}
 use Rattle.tree_rules.specs.Tests.{same_bound, same_numbers, stands_within}
 use Rattle.tree_rules.specs.Sound.{IsSame}
+use Rattle.tree_rules.proofs.Find.{some_eq}
 
 itself : (b : Bool) → Decides b (b ≡ true)
 itself b = (λ h. h, λ h. h)
-
-pub some_eq : {X : Type 0} (a b : X) → Some a ≡ Some b → a ≡ b
-some_eq a b h = cc
 
 pub any_decides :
     {X : Type 0} (p : X → Bool) (P : X → Type 0) → ((x : X) → Decides (p x) (P x)) → (xs : List X)
@@ -120,7 +119,7 @@ low_decides : {S E : Type 0} (o : Order S E) (x : Index S E) (r : Row S) → Dec
 low_decides {S} {E} o x r =
     let p : Page S E = x.page (row_page r) in
     let lo : Option S = row_lower r in
-    let item : Option S = option_map (λ c. c.0) (slice_get p.children 1) in
+    let item : Option S = second_separator p.children in
     let e = entry_decides o lo (slice_get p.entries 0) in
     let entry : Decides (p.leaf && is_low_entry o lo (slice_get p.entries 0)) (HasLowEntry o lo p) = (
       λ h. let q = and_parts p.leaf (is_low_entry o lo (slice_get p.entries 0)) h in let f = e.0 q.1 in (q.0, f.0, f.1, f.2),

@@ -87,17 +87,17 @@ module _ {S E : Type 0} (o : Order S E) (x : Index S E) (sound : (b : ℕ) → I
       go lower (c ∷ cs) h = (one c.1 h.0, later cs h.1)
 
   -- the downlinks of a row
-  down_here : (m : ℕ) (r : Row S) → OnLevel x (suc m) (row_page r) → Each {X = Downlink S} (λ d. OnLevel x m d.1) (row_downlinks x r)
-  down_here m (row p Dead lo) here = tt
-  down_here m (row p Linked lo) here = children_here m p lo here
-  down_here m (row p Right_half lo) here = children_here m p lo here
-  down_here m (row p Neither lo) here = tt
+  row_downlinks_here : (m : ℕ) (r : Row S) → OnLevel x (suc m) (row_page r) → Each {X = Downlink S} (λ d. OnLevel x m d.1) (row_downlinks x r)
+  row_downlinks_here m (row p Dead lo) here = tt
+  row_downlinks_here m (row p Linked lo) here = children_here m p lo here
+  row_downlinks_here m (row p Right_half lo) here = children_here m p lo here
+  row_downlinks_here m (row p Neither lo) here = tt
 
-  downs_here :
+  downlinks_here :
       (m : ℕ) (rs : List (Row S)) → Each (OnLevel x (suc m)) (map row_page rs)
       → Each {X = Downlink S} (λ d. OnLevel x m d.1) (flat_map (row_downlinks x) rs)
-  downs_here m [] here = tt
-  downs_here m (r ∷ rs) here = Each-append {X = Downlink S} (λ d. OnLevel x m d.1) (row_downlinks x r) (flat_map (row_downlinks x) rs) (down_here m r here.0) (downs_here m rs here.1)
+  downlinks_here m [] here = tt
+  downlinks_here m (r ∷ rs) here = Each-append {X = Downlink S} (λ d. OnLevel x m d.1) (row_downlinks x r) (flat_map (row_downlinks x) rs) (row_downlinks_here m r here.0) (downlinks_here m rs here.1)
 
   some_child : (lower : Option S) (cs : List (S × ℕ)) (ds : List (Downlink S)) → cs ≢ [] → page_downlinks lower cs ++ ds ≢ []
   some_child lower [] ds ne = absurd (ne refl)
@@ -145,7 +145,7 @@ module _ {S E : Type 0} (o : Order S E) (x : Index S E) (sound : (b : ℕ) → I
       (m : ℕ) (ds : List (Downlink S)) → OnLevel x (suc m) (entry_page ds)
       → OnLevel x m (entry_page (flat_map (row_downlinks x) (level_below x ds)))
   step_here m ds here =
-      entry_here m (flat_map (row_downlinks x) (level_below x ds)) (downs_here m (level_below x ds) (rows_here (suc m) ds here))
+      entry_here m (flat_map (row_downlinks x) (level_below x ds)) (downlinks_here m (level_below x ds) (rows_here (suc m) ds here))
       (some_down m (entry_page ds) (lead_to ds) (names_entry ds here.0.not_meta) here false None (chain_of x (entry_page ds)) (entry_in_chain (suc m) (entry_page ds) here))
 
   -- the entry page of the level n levels below the top, and m above the leaves

@@ -17,8 +17,8 @@ use Rattle.tree_rules.specs.Questions.{Roots, Unreached, finding_of, last_questi
 use Rattle.tree_rules.specs.Questions.{questions, row_questions}
 use Rattle.tree_rules.specs.Tests.{are_roots_misplaced, first_broken, is_broken, is_misplaced}
 use Rattle.tree_rules.specs.Sound.{HasSoundPages, IsSame}
-use Rattle.tree_rules.proofs.Decide.{Founded, decides, some_eq}
-use Rattle.tree_rules.proofs.Find.{IsFound, found, none_found, Each-flat_map}
+use Rattle.tree_rules.proofs.Decide.{Founded, decides}
+use Rattle.tree_rules.proofs.Find.{some_eq, IsFound, found, none_found, Each-flat_map}
 use Rattle.tree_rules.proofs.Entries.{entry_is}
 
 -- no rule that is asked is broken

@@ -1,7 +1,7 @@
 -- An internal page's second data item is above its lower bound, since the rules hold on the level below.
 use Rattle.std.proofs.Common.{◌≡◌, ◌≢◌, ℕ, zero, suc, ◌+◌, ◌-◌, ◌≤◌, Bool, true, false, ◌&&◌, List, [], ◌∷◌, ◌++◌}
 use Rattle.std.proofs.Common.{refl, sym, ap, ◌∙◌, subst, arith}
-use Rattle.std.specs.Prelude.{⊤, Option, Some, None, slice_get, option_map}
+use Rattle.std.specs.Prelude.{⊤, Option, Some, None}
 use Rattle.std.specs.List.{flat_map, All}
 use Rattle.std.proofs.lemmas.Bool.{both_ways}
 use Rattle.std.proofs.lemmas.List.Elements.{All-from_recursion}
@@ -12,9 +12,9 @@ use Rattle.tree_search.specs.Levels.{is_live, Downlink, page_downlinks, row_down
 use Rattle.tree_search.specs.Searchable.{IsInUse, IsSoundPage, KeyAbove, IsSearchable}
 use Rattle.tree_search.proofs.Lists.{Each}
 use Rattle.tree_search.proofs.Rows.{Sound, linked_downs, level_is}
-use Rattle.tree_rules.specs.Rules.{HasLowItem, IsLowSeparator}
+use Rattle.tree_rules.specs.Rules.{second_separator, HasLowItem, IsLowSeparator}
 use Rattle.tree_rules.specs.Sound.{IsTransitive}
-use Rattle.tree_rules.proofs.Decide.{some_eq}
+use Rattle.tree_rules.proofs.Find.{some_eq}
 
 -- the second data item of a live internal page is above its lower bound
 abbrev pub ItemsAbove : {S E : Type 0} → Order S E → Index S E → Type 0
@@ -95,7 +95,7 @@ module _ {S E : Type 0} (o : Order S E) (chained : IsTransitive o) (x : Index S 
   -- so does that of each live row
   item_up :
       (lower : Option S) (cs : List (S × ℕ)) → Rises o (page_downlinks lower cs)
-      → ¬ IsLowSeparator o lower (option_map (λ c. c.0) (slice_get cs 1))
+      → ¬ IsLowSeparator o lower (second_separator cs)
   item_up None cs h k = k.2 tt
   item_up (Some l) [] h k = absurd (let e = k.1 in cc)
   item_up (Some l) (c ∷ []) h k = absurd (let e = k.1 in cc)

@@ -26,8 +26,8 @@ use Rattle.tree_rules.proofs.Items.{ItemsAbove}
 use Rattle.tree_rules.proofs.First.{each_two, each_map, each_level, each_down, questions_some, questions_none}
 use Rattle.tree_rules.proofs.First.{founded_all, Unbroken}
 
-none_any : {X : Type 0} (P : X → Type 0) (xs : List X) → All (λ x. ¬ P x) xs → ¬ Any P xs
-none_any P xs all a = subst (λ z. ¬ P z) a.3 (all a.0 a.1 a.2) a.4
+none_of_any : {X : Type 0} (P : X → Type 0) (xs : List X) → All (λ x. ¬ P x) xs → ¬ Any P xs
+none_of_any P xs all a = subst (λ z. ¬ P z) a.3 (all a.0 a.1 a.2) a.4
 
 -- the last page is live
 last_kept :
@@ -43,7 +43,7 @@ alone_kept :
 alone_kept fast [] some first later h = some refl
 alone_kept {S} fast (r ∷ rs) some first later h = elim h [
   | inl ne ↦ ne (first r refl)
-  | inr a ↦ none_any (λ (r : Row S). row_role r ≢ Right_half) rs (All-from_recursion (λ (r : Row S). ¬ (row_role r ≢ Right_half)) rs (each_of rs (λ k w at. later k w (ap (slice_get (r ∷ rs)) (add-one k) ∙ at)))) a
+  | inr a ↦ none_of_any (λ (r : Row S). row_role r ≢ Right_half) rs (All-from_recursion (λ (r : Row S). ¬ (row_role r ≢ Right_half)) rs (each_of rs (λ k w at. later k w (ap (slice_get (r ∷ rs)) (add-one k) ∙ at)))) a
 ]
   where
     each_of :
@@ -71,16 +71,16 @@ module _ {S E : Type 0} (o : Order S E) (x : Index S E) (fit : IsSearchable o x)
     ]
   ]
 
-  downs_kept : (n : ℕ) → IsSoundLevel o x n → Kept (Downlinks n)
-  downs_kept n level h = elim h [
+  downlinks_kept : (n : ℕ) → IsSoundLevel o x n → Kept (Downlinks n)
+  downlinks_kept n level h = elim h [
     | inl ne ↦ ne level.in_order
-    | inr a ↦ none_any {X = Downlink S} (λ d. (x.page d.1).half_dead ≡ true) (downlinks x n) (λ k d lt t. both_ways _ (level.no_half_dead k d lt) t) a
+    | inr a ↦ none_of_any {X = Downlink S} (λ d. (x.page d.1).half_dead ≡ true) (downlinks x n) (λ k d lt t. both_ways _ (level.no_half_dead k d lt) t) a
   ]
 
   separator_kept :
       (n : ℕ) (r : Row S) → (row_role r ≡ Linked → All (λ d. d.1 ≡ row_page r → d.0 ≡ row_lower r) (downlinks x n))
       → Kept (Separator n r)
-  separator_kept n r all h = none_any {X = Downlink S} (λ d. (d.1 ≡ row_page r) × (d.0 ≢ row_lower r)) (downlinks x n) (λ k d lt p. p.1 (all h.0 k d lt p.0)) h.1
+  separator_kept n r all h = none_of_any {X = Downlink S} (λ d. (d.1 ≡ row_page r) × (d.0 ≢ row_lower r)) (downlinks x n) (λ k d lt p. p.1 (all h.0 k d lt p.0)) h.1
 
   bounds_kept :
       (r : Row S)
@@ -116,7 +116,7 @@ module _ {S E : Type 0} (o : Order S E) (x : Index S E) (fit : IsSearchable o x)
       let rows : Each (λ r. Each Kept (row_questions n r)) rs =
       each_two (λ r. (row_role r ≢ Neither) × Sep r) (λ r. Kept (LowerBound r)) (λ r. Each Kept (row_questions n r)) rs (λ r a b. (a.0, (separator_kept n r a.1, (b, tt))))
       (each_two (λ r. row_role r ≢ Neither) Sep (λ r. (row_role r ≢ Neither) × Sep r) rs (λ r a b. (a, b)) roles seps) bounds in
-      each_level x Kept m n (λ c. level.no_circle c.0 c.1) (downs_kept n level) rows (last_kept Kept rs (λ r ne e. ne e) level.last_live) (λ e. fast_kept ne)
+      each_level x Kept m n (λ c. level.no_circle c.0 c.1) (downlinks_kept n level) rows (last_kept Kept rs (λ r ne e. ne e) level.last_live) (λ e. fast_kept ne)
 
   blocks_kept : (bs : List ℕ) → ((b : ℕ) → In b bs → (b ≢ 0) × (b < x.blocks)) → Each Kept (map Unreached bs)
   blocks_kept bs all = each_map Kept Unreached bs (Each-from_in (λ b. Kept (Unreached b)) bs (λ b i h. let k = all b i in h.1 (fit.reached b (record { not_meta = k.0; inside = k.1; used = h.0 }))))

@@ -6,6 +6,8 @@ use Rattle.std.specs.Option.{option_or}
 use Rattle.std.specs.List.{filter, find, list_any, flat_map}
 use Rattle.std.proofs.lemmas.Bool.{cases_Bool, cond-true, cond-false, eqb-true, both_ways, not-false, or_parts}
 use Rattle.std.proofs.lemmas.Bool.{false_from_ne_true}
+use Rattle.std.proofs.Math.Bool.{or-false, or_assoc}
+use Rattle.std.proofs.lemmas.List.{append-nil}
 use Rattle.std.proofs.lemmas.List.Folds.{find-append}
 use Rattle.tree_search.specs.Order.{Order}
 use Rattle.tree_search.specs.Tree.{Index, chain_of}
@@ -29,30 +31,18 @@ or_none : {X : Type 0} (a : Option X) → option_or a None ≡ a
 or_none None = refl
 or_none (Some x) = refl
 
-or_assoc : {X : Type 0} (a b c : Option X) → option_or (option_or a b) c ≡ option_or a (option_or b c)
-or_assoc None b c = refl
-or_assoc (Some x) b c = refl
+option_or_assoc : {X : Type 0} (a b c : Option X) → option_or (option_or a b) c ≡ option_or a (option_or b c)
+option_or_assoc None b c = refl
+option_or_assoc (Some x) b c = refl
 
 pub map_or : {X Y : Type 0} (f : X → Y) (a b : Option X) → option_map f (option_or a b) ≡ option_or (option_map f a) (option_map f b)
 map_or f None b = refl
 map_or f (Some x) b = refl
 
-or_false : (b : Bool) → (b || false) ≡ b
-or_false true = refl
-or_false false = refl
-
-or_or : (a b c : Bool) → ((a || b) || c) ≡ (a || (b || c))
-or_or true b c = refl
-or_or false b c = refl
-
 not_and : (a h z : Bool) → (not (a && h) || z) ≡ (not a || (not h || z))
 not_and true true z = refl
 not_and true false z = refl
 not_and false h z = refl
-
-append_none : {X : Type 0} (xs : List X) → xs ++ [] ≡ xs
-append_none [] = refl
-append_none (x ∷ xs) = ap (λ w. x ∷ w) (append_none xs)
 
 -- L7 at the end of these rows, where it stood at o before
 abbrev ends : {S : Type 0} → List (Row S) → Option Finding → Option Finding
@@ -66,7 +56,7 @@ alone_of fast (r ∷ rs) begun alone = alone_of fast rs true (cond begun (alone 
 alone_later :
     {S : Type 0} (fast : ℕ) (rs : List (Row S)) (a : Bool)
     → not (alone_of fast rs true a) ≡ (not a || list_any (λ r. not (is_right_half (row_role r))) rs)
-alone_later fast [] a = sym (or_false (not a))
+alone_later fast [] a = sym (or-false (not a))
 alone_later fast (r ∷ rs) a = alone_later fast rs (a && is_right_half (row_role r)) ∙ not_and a (is_right_half (row_role r)) (list_any (λ r. not (is_right_half (row_role r))) rs)
 
 alone_is : {S : Type 0} (fast : ℕ) (rs : List (Row S)) → is_not_alone fast rs ≡ not (alone_of fast rs false false)
@@ -102,15 +92,15 @@ module _ {S E : Type 0} (same : S → S → Bool) (o : Order S E) (x : Index S E
   walk_rest (b ∷ c) w = walk_rest c (walk_step same o x w b)
 
   walk_half : (c : List ℕ) (w : Walk S) → (W w c).half_dead ≡ (w.half_dead || half_met x c w.ahead)
-  walk_half [] w = sym (or_false w.half_dead)
-  walk_half (b ∷ c) w = walk_half c (walk_step same o x w b) ∙ or_or w.half_dead (is_next w.ahead b && (x.page b).half_dead) (half_met x c (unmet_after w.ahead b))
+  walk_half [] w = sym (or-false w.half_dead)
+  walk_half (b ∷ c) w = walk_half c (walk_step same o x w b) ∙ or_assoc w.half_dead (is_next w.ahead b && (x.page b).half_dead) (half_met x c (unmet_after w.ahead b))
 
   walk_finding : (c : List ℕ) (w : Walk S) → (W w c).finding ≡ option_or w.finding (findings c w.ahead w.split w.lower)
   walk_finding [] w = sym (or_none w.finding)
   walk_finding (b ∷ c) w =
       let r = role_of (x.page b) (is_next w.ahead b) w.split in
       walk_finding c (walk_step same o x w b)
-      ∙ or_assoc w.finding (page_finding same o x (row b r w.lower) (next_separator w.ahead)) (findings c (unmet_after w.ahead b) (is_live r && (x.page b).incomplete_split) (lower_after (x.page b) r w.lower))
+      ∙ option_or_assoc w.finding (page_finding same o x (row b r w.lower) (next_separator w.ahead)) (findings c (unmet_after w.ahead b) (is_live r && (x.page b).incomplete_split) (lower_after (x.page b) r w.lower))
 
   walk_dead_end : (c : List ℕ) (w : Walk S) → (W w c).dead_end ≡ ends (rows_met x c w.ahead w.split w.lower) w.dead_end
   walk_dead_end [] w = refl
@@ -121,7 +111,7 @@ module _ {S E : Type 0} (same : S → S → Bool) (o : Order S E) (x : Index S E
   walk_alone (b ∷ c) w = walk_alone c (walk_step same o x w b)
 
   pub walk_below : (c : List ℕ) (w : Walk S) → (W w c).below ≡ w.below ++ flat_map (row_downlinks x) (rows_met x c w.ahead w.split w.lower)
-  walk_below [] w = sym (append_none w.below)
+  walk_below [] w = sym (append-nil w.below)
   walk_below (b ∷ c) w =
       let r = role_of (x.page b) (is_next w.ahead b) w.split in
       walk_below c (walk_step same o x w b)
@@ -244,24 +234,24 @@ module _ {S E : Type 0} (same : S → S → Bool) (o : Order S E) (x : Index S E
     abbrev then_found : Option Finding
     then_found = option_or (findings c ds false None) (option_or (ends met_rows None) (cond ((m == x.fastlevel) && not (alone_of x.fastroot met_rows false false)) (Some (L8, x.fastroot)) None))
 
-    wrong_downs : is_all_met (unmet c ds) ≡ false → are_downlinks_wrong x ds ≡ true
-    wrong_downs f =
+    wrong_downlinks : is_all_met (unmet c ds) ≡ false → are_downlinks_wrong x ds ≡ true
+    wrong_downlinks f =
         let no_order : same_numbers (pages ds) linked ≡ false = false_from_ne_true (same_numbers (pages ds) linked) (λ t.
         both_ways (is_all_met (unmet c ds)) f ((all_met_cases (unmet c ds)).1 (all_met (lead_to ds) c ds ((same_numbers_decides (pages ds) linked).0 t)))) in
         ap (λ (z : Bool). not z || list_any (λ d. (x.page d.1).half_dead) ds) no_order
 
-    right_downs : unmet c ds ≡ [] → pages ds ≡ linked
-    right_downs none = met_in_order c ds apart none
+    right_downlinks : unmet c ds ≡ [] → pages ds ≡ linked
+    right_downlinks none = met_in_order c ds apart none
 
-    downs_test : unmet c ds ≡ [] → are_downlinks_wrong x ds ≡ half_met x c ds
-    downs_test none =
-        let t : same_numbers (pages ds) linked ≡ true = (same_numbers_decides (pages ds) linked).1 (right_downs none) in
+    downlinks_test : unmet c ds ≡ [] → are_downlinks_wrong x ds ≡ half_met x c ds
+    downlinks_test none =
+        let t : same_numbers (pages ds) linked ≡ true = (same_numbers_decides (pages ds) linked).1 (right_downlinks none) in
         ap (λ (z : Bool). not z || list_any (λ d. (x.page d.1).half_dead) ds) t ∙ sym (half_met_is x c ds none)
 
     later_found : unmet c ds ≡ [] → option_map (finding_of x) (find (is_broken same o x) later) ≡ then_found
     later_found none =
         let test : Question S → Bool = is_broken same o x in
-        let e : pages ds ≡ linked = right_downs none in
+        let e : pages ds ≡ linked = right_downlinks none in
         let rows_are : level_rows x n ≡ met_rows = rows_are_met x (lead_to ds) c ds false None e in
         let ds_apart : NoRepeats (pages ds) = subst NoRepeats (sym e) (NoRepeats-filter (lead_to ds) c apart) in
         let A : List (Question S) = flat_map (row_questions n) (level_rows x n) in
@@ -284,12 +274,12 @@ module _ {S E : Type 0} (same : S → S → Bool) (o : Order S E) (x : Index S E
     parts_found = elim (cases_Bool (is_all_met (unmet c ds))) [
       | inl t ↦
           let none : unmet c ds ≡ [] = (all_met_cases (unmet c ds)).0 t in
-          ap (λ (z : Bool). option_map (finding_of x) (cond z (Some (Downlinks n)) (find (is_broken same o x) later))) (downs_test none)
+          ap (λ (z : Bool). option_map (finding_of x) (cond z (Some (Downlinks n)) (find (is_broken same o x) later))) (downlinks_test none)
           ∙ (or_map (half_met x c ds) (Downlinks n) (find (is_broken same o x) later)
           ∙ (ap (λ z. cond (half_met x c ds) (Some (L4, entry_at x n)) z) (later_found none)
           ∙ ap (λ (z : Bool). cond (not z || half_met x c ds) (Some (L4, entry_at x n)) then_found) (sym t)))
       | inr f ↦
-          ap (λ (z : Bool). option_map (finding_of x) (cond z (Some (Downlinks n)) (find (is_broken same o x) later))) (wrong_downs f)
+          ap (λ (z : Bool). option_map (finding_of x) (cond z (Some (Downlinks n)) (find (is_broken same o x) later))) (wrong_downlinks f)
           ∙ ap (λ (z : Bool). cond (not z || half_met x c ds) (Some (L4, entry_at x n)) then_found) (sym f)
     ]
 

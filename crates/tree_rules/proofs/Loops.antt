@@ -3,6 +3,7 @@ use Rattle.std.proofs.Common.{◌≡◌, ◌≢◌, ℕ, zero, suc, ◌+◌, ◌
 use Rattle.std.proofs.Common.{refl, sym, ap, ◌∙◌, subst, arith}
 use Rattle.std.specs.Prelude.{Option, ◌==◌, ◌&&◌, ◌||◌, fold}
 use Rattle.std.proofs.lemmas.Bool.{eq-eqb, ne_eqb}
+use Rattle.std.proofs.Math.Bool.{or_assoc}
 use Rattle.tree_search.specs.Search.{last_or}
 use Rattle.tree_search.specs.Tree.{Index, linked_from}
 use Rattle.tree_search.proofs.Lists.{Each}
@@ -12,10 +13,6 @@ use Rattle.tree_rules.specs.Tests.{is_dead}
 use Rattle.tree_rules.specs.Links.{Leads, walks_to}
 use Rattle.tree_rules.specs.Walk.{with_blocks}
 use Rattle.tree_rules.specs.Cursor.{downlinks_along, with_dead}
-
-or_or : (a b c : Bool) → (a || (b || c)) ≡ ((a || b) || c)
-or_or true b c = refl
-or_or false b c = refl
 
 -- what the rest of the walk finds is what the whole finds
 pub record LeftWalk (f : ℕ → ℕ) (e n i b next : ℕ) : Type 0 where
@@ -130,13 +127,13 @@ ahead_step f Ok n i b lt ne h =
 pub with_dead_step :
     {S : Type 0} (dead : ℕ → Bool) (r : Row S) (rs : List (Row S)) (q : ℕ)
     → with_dead dead (r ∷ rs) q ≡ with_dead (λ z. dead z || ((row_page r == z) && is_dead (row_role r))) rs q
-with_dead_step dead r rs q = or_or (dead q) ((row_page r == q) && is_dead (row_role r)) (list_any (λ r. (row_page r == q) && is_dead (row_role r)) rs)
+with_dead_step dead r rs q = sym (or_assoc (dead q) ((row_page r == q) && is_dead (row_role r)) (list_any (λ r. (row_page r == q) && is_dead (row_role r)) rs))
 
 -- a set with the first block added
 pub with_blocks_step :
     (blocks : ℕ → Bool) (b : ℕ) (c : List ℕ) (q : ℕ)
     → with_blocks blocks (b ∷ c) q ≡ with_blocks (λ z. blocks z || (b == z)) c q
-with_blocks_step blocks b c q = or_or (blocks q) (b == q) (list_any (λ d. d == q) c)
+with_blocks_step blocks b c q = sym (or_assoc (blocks q) (b == q) (list_any (λ d. d == q) c))
 
 -- sets that say the same of the pages of a chain give the same downlinks
 pub along_same :

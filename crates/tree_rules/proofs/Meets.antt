@@ -5,6 +5,7 @@ use Rattle.std.specs.Prelude.{Option, ◌==◌, ◌||◌}
 use Rattle.std.specs.List.{filter, list_any}
 use Rattle.std.proofs.lemmas.Bool.{cases_Bool, cond-true, cond-false, eq-eqb, eqb-true, ne_eqb, both_ways, or_cases}
 use Rattle.std.proofs.lemmas.Bool.{or_left, false_from_ne_true}
+use Rattle.std.proofs.Math.Bool.{or-false}
 use Rattle.tree_search.specs.Tree.{Index}
 use Rattle.tree_search.specs.Levels.{Role, row, is_live, Downlink, lead_to, role_of, lower_after, rows}
 use Rattle.tree_search.proofs.Lists.{In, NoRepeats}
@@ -155,17 +156,13 @@ one_separator {S} same lo d (e ∷ ds) apart h = elim h [
       let t : (e.1 == d.1) ≡ true = eq-eqb e.1 d.1 (ap (λ (z : Downlink S). z.1) (sym is)) in
       ap (λ (u : Bool). (u && not (same_bound same e.0 lo)) || list_any (λ e. (e.1 == d.1) && not (same_bound same e.0 lo)) ds) t
       ∙ (ap (λ w. not (same_bound same e.0 lo) || w) (none ds (λ k. apart.0 (subst (λ (z : Downlink S). In z.1 (pages ds)) is k)))
-      ∙ (or_false (not (same_bound same e.0 lo)) ∙ ap (λ (z : Downlink S). not (same_bound same z.0 lo)) (sym is)))
+      ∙ (or-false (not (same_bound same e.0 lo)) ∙ ap (λ (z : Downlink S). not (same_bound same z.0 lo)) (sym is)))
   | inr k ↦
       let f : (e.1 == d.1) ≡ false = ne_eqb e.1 d.1 (λ z. apart.0 (subst (λ q. In q (pages ds)) (sym z) (In_pages d ds k))) in
       ap (λ (u : Bool). (u && not (same_bound same e.0 lo)) || list_any (λ e. (e.1 == d.1) && not (same_bound same e.0 lo)) ds) f
       ∙ one_separator same lo d ds apart.1 k
 ]
   where
-    or_false : (b : Bool) → (b || false) ≡ b
-    or_false true = refl
-    or_false false = refl
-
     In_pages : (d : Downlink S) (ds : List (Downlink S)) → In d ds → In d.1 (pages ds)
     In_pages d [] h = absurd h
     In_pages d (e ∷ ds) h = elim h [ inl is ↦ inl (ap (λ (z : Downlink S). z.1) is) | inr k ↦ inr (In_pages d ds k) ]

@@ -1,7 +1,7 @@
 -- Where there is no finding the index is searchable.
 use Rattle.std.proofs.Common.{◌≡◌, ◌≢◌, ℕ, zero, suc, ◌+◌, ◌-◌, ◌≤◌, inl, inr, Bool, true, false, not, cond, ◌&&◌}
 use Rattle.std.proofs.Common.{List, [], ◌∷◌, ◌++◌, length, map, refl, sym, ap, ◌∙◌, subst, arith, add-zero, add-one}
-use Rattle.std.specs.Prelude.{Option, Some, None, ◌==◌, ◌||◌, slice_get, option_map}
+use Rattle.std.specs.Prelude.{Option, Some, None, ◌==◌, ◌||◌, slice_get}
 use Rattle.std.specs.List.{flat_map, filter, list_any, All}
 use Rattle.std.proofs.lemmas.Bool.{cases_Bool, cases_eq, eq-eqb, eqb-true, or_parts, and_cases, both_ways, not-false}
 use Rattle.std.proofs.lemmas.Bool.{not_from_false}
@@ -15,15 +15,15 @@ use Rattle.tree_search.specs.Search.{tree_blocks}
 use Rattle.tree_search.proofs.Lists.{Each, Each-front, Each-back, Each-map, Each-in}
 use Rattle.tree_search.proofs.Chains.{OnLevel}
 use Rattle.tree_search.proofs.Gather.{block_in}
-use Rattle.tree_rules.specs.Rules.{StandsInChain, entry_at}
+use Rattle.tree_rules.specs.Rules.{second_separator, StandsInChain, entry_at}
 use Rattle.tree_rules.specs.Questions.{Circle, FastRoot, LastPage, LowerBound, Question, Separator, Unreached}
 use Rattle.tree_rules.specs.Questions.{last_questions, level_questions, levels_down, questions, row_questions}
 use Rattle.tree_rules.specs.Tests.{first_broken, is_broken, is_dead, is_linked, is_low_entry, is_low_separator}
 use Rattle.tree_rules.specs.Tests.{is_neither, is_not_alone, is_right_half, same_bound, same_numbers, stands_within}
 use Rattle.tree_rules.specs.Sound.{HasSoundPages, IsSame}
-use Rattle.tree_rules.proofs.Decide.{some_eq, same_numbers_decides, same_bound_decides, linked_decides, dead_decides}
+use Rattle.tree_rules.proofs.Decide.{same_numbers_decides, same_bound_decides, linked_decides, dead_decides}
 use Rattle.tree_rules.proofs.Decide.{half_decides, neither_decides, StandsInChain_decides}
-use Rattle.tree_rules.proofs.Find.{none_any, flat_map-Each}
+use Rattle.tree_rules.proofs.Find.{some_eq, none_any, flat_map-Each}
 use Rattle.tree_rules.proofs.Entries.{entry_is, rows_here}
 use Rattle.tree_rules.proofs.First.{each_two, map_each, RootsStand, questions_some, questions_none, none_broken}
 use Rattle.tree_rules.proofs.First.{unbroken_at, roots_from_none}
@@ -124,7 +124,7 @@ module _ {S E : Type 0} (same : S → S → Bool) (o : Order S E) (x : Index S E
       let lo = row_lower r in
       let key = is_low_separator o lo p.high_key in
       let entry = p.leaf && is_low_entry o lo (slice_get p.entries 0) in
-      let item = not p.leaf && is_low_separator o lo (option_map (λ c. c.0) (slice_get p.children 1)) in
+      let item = not p.leaf && is_low_separator o lo (second_separator p.children) in
       elim (and_cases (is_live (row_role r)) (key || (entry || item)) h) [
         | inl f ↦ absurd (both_ways (is_live (row_role r)) f live)
         | inr f ↦ let q = or_parts key (entry || item) f in record { key = q.0; entry = (or_parts entry item q.1).0 }

@@ -82,13 +82,13 @@ IsLowSeparator {S} o lower separator = (s : S) × (separator ≡ Some s) × ¬ K
 abbrev pub HasLowEntry : {S E : Type 0} → Order S E → Option S → Page S E → Type 0
 HasLowEntry {S} {E} o lower p = (p.leaf ≡ true) × (e : E) × (slice_get p.entries 0 ≡ Some e) × ¬ EntryAbove o lower e
 
--- the separator of the second data item. That of the first says nothing
-abbrev pub second_separator : {S E : Type 0} → Page S E → Option S
-second_separator p = option_map (λ c. c.0) (slice_get p.children 1)
+-- the separator of the second of these data items. That of the first is never read
+abbrev pub second_separator : {S : Type 0} → List (S × ℕ) → Option S
+second_separator children = option_map (λ c. c.0) (slice_get children 1)
 
 -- the page is internal, and its second data item's separator isn't above the lower bound
 abbrev pub HasLowItem : {S E : Type 0} → Order S E → Option S → Page S E → Type 0
-HasLowItem o lower p = (p.leaf ≡ false) × IsLowSeparator o lower (second_separator p)
+HasLowItem o lower p = (p.leaf ≡ false) × IsLowSeparator o lower (second_separator p.children)
 
 -- the page is live, and its high key, its first entry or its second data item isn't above its lower bound
 abbrev pub HasLowKey : {S E : Type 0} → Order S E → Index S E → Row S → Type 0

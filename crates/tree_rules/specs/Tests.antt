@@ -88,7 +88,7 @@ has_low_key o x r =
     is_live (row_role r)
     && (is_low_separator o (row_lower r) p.high_key
     || (p.leaf && is_low_entry o (row_lower r) (slice_get p.entries 0)
-    || not p.leaf && is_low_separator o (row_lower r) (second_separator p)))
+    || not p.leaf && is_low_separator o (row_lower r) (second_separator p.children)))
 
 -- L8
 abbrev pub is_not_alone : {S : Type 0} → ℕ → List (Row S) → Bool
