@@ -9,7 +9,7 @@ use Rattle.liveness.specs.declared.states.ItemState.TheVariants.{Unused, Dead, R
 use Rattle.liveness.specs.declared.states.Life.{Life}
 use Rattle.liveness.specs.declared.states.Life.TheVariants.{Live, Dead as dead_life, Unjudged, Broken}
 
--- ITEMS
+-- Items
 
 -- item i of the page; number 0 and numbers past the end name nothing
 unfoldable pub item_at : List ItemState → ℕ → ItemState
@@ -60,7 +60,7 @@ is_root (Tuple head judged) = not (is_heap_only head)
 is_root Unused = false
 is_root Dead = false
 
--- STEPS AND ROOTS
+-- Steps and roots
 
 -- item i, the state of which is given first, steps to item j of the given state
 abbrev pub steps : ℕ → ℕ → ItemState → ℕ → ItemState → Bool
@@ -99,7 +99,7 @@ abbrev pub IsRootOf : ℕ → List ItemState → ℕ → Option ℕ → Type 0
 IsRootOf block items i None = (r : ℕ) → Reaches block items r i → ⊥
 IsRootOf block items i (Some r) = Reaches block items r i × ((q : ℕ) → Reaches block items q i → r ≤ q)
 
--- THE SAME AS FUNCTIONS
+-- The same as functions
 
 -- the one item that this one names, to which it may step
 abbrev pub pointer : ItemState → ℕ
@@ -143,7 +143,7 @@ root_number block items i = lowest_root (step_of block items) (is_root_at items)
 unfoldable pub root_of : ℕ → List ItemState → ℕ → Option ℕ
 root_of block items i = if root_number block items i == 0 then None else Some (root_number block items i)
 
--- THE RULES
+-- The rules
 
 -- a redirect's target isn't a normal heap-only tuple
 abbrev pub points_astray : List ItemState → ItemState → Bool

@@ -28,7 +28,7 @@ pub record AreChains (block : ℕ) (items : List ItemState) (chains : Chains) : 
   pub rules : (i : ℕ) → 1 ≤ i → i ≤ length items → rule_in chains i ≡ chain_rule block items i
   pub roots : (i : ℕ) → 1 ≤ i → i ≤ length items → root_in chains i ≡ root_of block items i
 
--- THE PARTS OF THE TABLE AS THEY ARE FILLED
+-- The parts of the table as they are filled
 
 -- there is room for so many items, and nothing is said of them
 pub record IsBlank (chains : Chains) (count : ℕ) : Type 0 where

@@ -12,7 +12,7 @@ use Rattle.tree_search.specs.Levels.{Dead, Linked, Right_half, Neither, is_live,
 use Rattle.tree_search.specs.Levels.{Downlink, lead_to, entry_page, downlinks, level_rows}
 use Rattle.tree_search.specs.Searchable.{EntryAbove, KeyAbove}
 
--- WHERE RULES ARE ASKED
+-- Where rules are asked
 
 -- there are pages n levels below the top
 abbrev pub IsLevel : {S E : Type 0} → Index S E → ℕ → Type 0
@@ -30,7 +30,7 @@ IsOnLevel x n r = IsLevel x n × Contains (level_rows x n) r
 abbrev pub IsLastOnLevel : {S E : Type 0} → Index S E → ℕ → Row S → Type 0
 IsLastOnLevel x n r = IsLevel x n × (slice_get (level_rows x n) (length (level_rows x n) - 1) ≡ Some r)
 
--- L1: THE ROOTS
+-- L1: the roots
 
 -- the block is idle, or its page isn't of this level
 abbrev pub IsMisplaced : {S E : Type 0} → Index S E → (block level : ℕ) → Type 0
@@ -42,18 +42,18 @@ abbrev pub AreRootsMisplaced : {S E : Type 0} → Index S E → Type 0
 AreRootsMisplaced x =
     IsMisplaced x x.root x.level ⊎ (IsMisplaced x x.fastroot x.fastlevel ⊎ (x.level < x.fastlevel))
 
--- L2: THE CHAIN OF A LEVEL
+-- L2: the chain of a level
 
 -- the chain is a circle: its links to the right lead from this page back to it
 abbrev pub IsCircle : {S E : Type 0} → Index S E → ℕ → Type 0
 IsCircle x b = (k : ℕ) × (after_links (λ c. (x.page c).next) (k + 1) b ≡ b)
 
--- L3: THE ROLE OF A PAGE
+-- L3: the role of a page
 
 abbrev pub IsNeitherLiveNorDead : {S : Type 0} → Row S → Type 0
 IsNeitherLiveNorDead r = row_role r ≡ Neither
 
--- L4: THE DOWNLINKS TO A LEVEL
+-- L4: the downlinks to a level
 
 -- the pages that they lead to aren't the linked pages of the chain, in its order
 abbrev pub AreOutOfOrder : {S E : Type 0} → Index S E → List (Downlink S) → Type 0
@@ -66,13 +66,13 @@ LeadToHalfDead x ds = Any (λ d. (x.page d.1).half_dead ≡ true) ds
 abbrev pub AreDownlinksWrong : {S E : Type 0} → Index S E → List (Downlink S) → Type 0
 AreDownlinksWrong x ds = AreOutOfOrder x ds ⊎ LeadToHalfDead x ds
 
--- L5: THE SEPARATOR OF A PAGE
+-- L5: the separator of a page
 
 -- a downlink leads to the page with another separator than the page's lower bound
 abbrev pub HasWrongSeparator : {S : Type 0} → List (Downlink S) → Row S → Type 0
 HasWrongSeparator ds r = (row_role r ≡ Linked) × Any (λ d. (d.1 ≡ row_page r) × (d.0 ≢ row_lower r)) ds
 
--- L6: THE LOWER BOUND OF A PAGE
+-- L6: the lower bound of a page
 
 -- there is such a separator, and it isn't above the lower bound
 abbrev pub IsLowSeparator : {S E : Type 0} → Order S E → Option S → Option S → Type 0
@@ -97,19 +97,19 @@ HasLowKey o x r =
     (is_live (row_role r) ≡ true)
     × (IsLowSeparator o (row_lower r) p.high_key ⊎ (HasLowEntry o (row_lower r) p ⊎ HasLowItem o (row_lower r) p))
 
--- L7: THE LAST PAGE OF A LEVEL
+-- L7: the last page of a level
 
 abbrev pub IsDead : {S : Type 0} → Row S → Type 0
 IsDead r = row_role r ≡ Dead
 
--- L8: THE LEVEL OF THE FAST ROOT
+-- L8: the level of the fast root
 
 -- the level doesn't begin with the fast root, or a later page of it isn't a right half
 abbrev pub IsNotAlone : {S : Type 0} → (fastroot : ℕ) → List (Row S) → Type 0
 IsNotAlone fastroot [] = Unit {0}
 IsNotAlone fastroot (r ∷ rs) = (row_page r ≢ fastroot) ⊎ Any (λ r. row_role r ≢ Right_half) rs
 
--- L9: A BLOCK
+-- L9: a block
 
 -- it stands in the chain of a level
 abbrev pub StandsInChain : {S E : Type 0} → Index S E → ℕ → Type 0
@@ -119,7 +119,7 @@ StandsInChain x b = (x.root ≢ 0) × (n : ℕ) × (n ≤ x.level) × Contains (
 abbrev pub IsUnreached : {S E : Type 0} → Index S E → ℕ → Type 0
 IsUnreached x b = ((x.page b).idle ≡ false) × ¬ StandsInChain x b
 
--- ALL OF THEM
+-- All of them
 
 -- the index breaks this rule, and the block is the one that is named for it
 pub data BreaksLevelRule {S E : Type 0} (o : Order S E) (x : Index S E) : Rule → ℕ → Type 0 where

@@ -11,7 +11,7 @@ use Rattle.liveness.specs.declared.states.Life.TheVariants.{Live, Dead as dead_l
 use Rattle.vis_map.specs.declared.bits.MapBits.{MapBits}
 use Rattle.vis_map.specs.Truth.{IsAllFrozen, IsAllVisible}
 
--- THE SENTENCES
+-- The sentences
 
 -- V1
 abbrev pub IsFrozenButNotVisible : MapBits → Type 0
@@ -36,7 +36,7 @@ IsMapRuleBroken bits page_flag items V3 = IsFalselyVisible bits page_flag items
 IsMapRuleBroken bits page_flag items V4 = IsFalselyFrozen bits items
 IsMapRuleBroken bits page_flag items _ = ⊥
 
--- THE TESTS
+-- The tests
 
 abbrev pub is_live : Life → Bool
 is_live Live = true
