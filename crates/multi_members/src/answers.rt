@@ -1,5 +1,5 @@
 //! A bounded memory of what was found of multixacts.
-ghost use Rattle.std.specs.Prelude.{◌≡◌};
+ghost use Rattle.std.specs.Prelude.{◌≡◌, ◌↔◌};
 
 use crate::state::MultiState;
 use crate::updater;
@@ -57,7 +57,7 @@ impl Answers {
 
     /// Whether they are for these folders and numbers.
     pub fn are_for(&self, offsets: &Slru, members: &Slru, cluster: &Cluster) -> bool
-        ensures { IsTrue result → AreFor (dir_of offsets.now) (dir_of members.now) cluster.now self.now }
+        ensures { IsTrue result ↔ AreFor (dir_of offsets.now) (dir_of members.now) cluster.now self.now }
     {
         self.offsets.dir() == offsets.dir()
             && self.members.dir() == members.dir()

@@ -1,5 +1,5 @@
 //! What was read of pg_xact, kept so that it isn't read again.
-ghost use Rattle.std.specs.Prelude.{◌≡◌, ◌/◌, ◌≤◌};
+ghost use Rattle.std.specs.Prelude.{◌≡◌, ◌↔◌, ◌/◌, ◌≤◌};
 
 use crate::piece::{Piece, piece_of};
 use crate::{FIRST_NORMAL_XID, XidState, status};
@@ -43,7 +43,7 @@ impl StatesRead {
     /// Whether they are of this folder.
     #[inline]
     pub fn are_of(&self, xact: &Slru) -> bool
-        ensures { IsTrue result → dir_of self.now.xact ≡ dir_of xact.now }
+        ensures { IsTrue result ↔ (dir_of self.now.xact ≡ dir_of xact.now) }
     {
         self.xact.dir() == xact.dir()
     }
