@@ -10,6 +10,7 @@ pub mod LevelWalk
 pub mod Circles
 pub mod Walks
 pub mod Cursors
+pub mod Descent
 pub mod Items
 pub mod Steps
 pub mod Example

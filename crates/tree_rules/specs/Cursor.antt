@@ -68,6 +68,10 @@ levels_read_finding same o x (suc level) dead ds =
     option_or (level_finding same o x (suc level) ds)
     (levels_read_finding same o x level (dead_below x dead ds) (downlinks_read x dead ds))
 
+-- what is found on all levels
+abbrev pub all_levels_finding : {S E : Type 0} → (S → S → Bool) → Order S E → Index S E → Option Finding
+all_levels_finding same o x = levels_read_finding same o x x.level (λ b. false) (root_downlinks x)
+
 -- the set with the blocks in the chains of this level and those below it added
 abbrev pub blocks_read :
     {S E : Type 0} → Index S E → (level : ℕ) → (ℕ → Bool) → List (Downlink S) → (ℕ → Bool) → ℕ → Bool
@@ -85,6 +89,5 @@ unfoldable pub read_finding : {S E : Type 0} → (S → S → Bool) → Order S 
 read_finding same o x =
     option_or
     (cond (x.root == 0) None
-    (option_or (cond (are_roots_misplaced x) (Some (L1, 0)) None)
-    (levels_read_finding same o x x.level (λ b. false) (root_downlinks x))))
+    (option_or (cond (are_roots_misplaced x) (Some (L1, 0)) None) (all_levels_finding same o x)))
     (unreached_finding x (is_block_read x))

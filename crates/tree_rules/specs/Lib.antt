@@ -7,4 +7,5 @@ pub mod Meeting
 pub mod LevelWalk
 pub mod Walk
 pub mod Cursor
+pub mod Descent
 pub mod Same

@@ -40,10 +40,17 @@ abbrev pub is_block_walked : {S E : Type 0} → (S → S → Bool) → Order S E
 is_block_walked same o x =
     cond (x.root == 0) (λ b. false) (blocks_walked same o x x.level (root_downlinks x) (λ b. false))
 
--- L9, where this tells which blocks stand in a chain
+-- the block isn't idle, and isn't in this set of those that stand in a chain
+abbrev pub is_outside : {S E : Type 0} → Index S E → (ℕ → Bool) → ℕ → Bool
+is_outside x stands b = not (x.page b).idle && not (stands b)
+
+-- the first such block from 1 to n - 1
+abbrev pub first_outside : {S E : Type 0} → Index S E → (ℕ → Bool) → ℕ → Option ℕ
+first_outside x stands n = find (is_outside x stands) (tree_blocks n)
+
+-- L9, where this is the set
 abbrev pub unreached_finding : {S E : Type 0} → Index S E → (ℕ → Bool) → Option Finding
-unreached_finding x stands =
-    option_map (λ b. (L9, b)) (find (λ b. not (x.page b).idle && not (stands b)) (tree_blocks x.blocks))
+unreached_finding x stands = option_map (λ b. (L9, b)) (first_outside x stands x.blocks)
 
 -- what is found in the order of the work: the roots, each level by its downlinks, then the blocks in no chain. The set
 -- of all in a chain is asked for only where nothing was found before

@@ -8,12 +8,13 @@
 //! Source: the README of PostgreSQL's `access/nbtree`.
 #![tactic(auto)]
 
-ghost use Rattle.std.specs.Prelude.{◌≡◌, ◌≢◌, ◌≤◌, ◌+◌, ◌-◌, ◌↔◌, ℕ, Bool, true, false, suc, List, [], map};
+ghost use Rattle.std.specs.Prelude.{◌≡◌, ◌≢◌, ◌≤◌, ◌<◌, ◌+◌, ◌-◌, ◌↔◌, ℕ, Bool, true, false, suc, List, [], map};
 ghost use Rattle.std.specs.Prelude.{Option, Some, None};
 ghost use Rattle.std.specs.List.{filter};
 ghost use Rattle.std.specs.Cmp.{IsTotalOrder};
 ghost use Rattle.std.specs.declared.cmp.Ordering.{Ordering};
 ghost use Rattle.page_layout.specs.declared.rules.Rule.{Rule};
+ghost use Rattle.page_layout.specs.declared.rules.Rule.TheVariants.{L1};
 ghost use Rattle.tree_search.specs.Keys.{Columns, key_order};
 ghost use Rattle.tree_search.specs.Order.{Order};
 ghost use Rattle.tree_search.specs.Tree.{Index, chain_of, linked_from};
@@ -26,9 +27,10 @@ ghost use Rattle.tree_rules.specs.Sound.{HasSoundPages, IsSame, IsTransitive};
 ghost use Rattle.tree_rules.specs.Links.{IsOpenChain, first_page, to_left, to_right, walks_to};
 ghost use Rattle.tree_rules.specs.Meeting.{unmet, rows_met};
 ghost use Rattle.tree_rules.specs.LevelWalk.{level_finding, level_walk};
-ghost use Rattle.tree_rules.specs.Walk.{walk_finding};
+ghost use Rattle.tree_rules.specs.Walk.{first_outside, is_outside, unreached_finding, walk_finding};
 ghost use Rattle.tree_rules.specs.Cursor.{AreAbove, cursor_start, dead_below, downlinks_left, downlinks_read};
-ghost use Rattle.tree_rules.specs.Cursor.{read_finding, turned_cursor};
+ghost use Rattle.tree_rules.specs.Cursor.{all_levels_finding, is_block_read, read_finding, turned_cursor};
+ghost use Rattle.tree_rules.specs.Descent.{HavePassed, IsBefore};
 ghost use Rattle.tree_rules.specs.Same.{TellsApart, same_keys};
 
 use tree_search::keys_have_the_laws;
@@ -134,6 +136,68 @@ pub fn downlinks_are_read<S, E>()
         downlinks_left x dead n (record { items = []; lower = lower; block = 0 }) ≡ [] }
 {}
 
+/// What a loop over the levels needs to know, from the top level down. It keeps two sets of blocks: the
+/// dead pages of the levels that it has passed, and all their pages.
+///
+/// - `begin`: with empty sets it stands before the top level.
+/// - `found`: what is found on a level that it comes to is what is found on all levels.
+/// - `next`: where nothing is found on a level above the leaves, the loop stands before the next one
+///   once its sets have gained the level's pages. The cursor that begins on this level reads the
+///   downlinks to that one.
+/// - `last`: where nothing is found on the leaves, nothing is found on all levels, and the set has all
+///   pages of their chains.
+pub fn levels_are_judged<S, E>()
+    ensures begin { (same : S → S → Bool) (o : Order S E) (x : Index S E) → x.root ≢ 0 →
+        (dead stands : ℕ → Bool) → ((b : ℕ) → dead b ≡ false) → ((b : ℕ) → stands b ≡ false) →
+        IsBefore same o x dead stands x.level 0 }
+    ensures found { (same : S → S → Bool) (o : Order S E) (x : Index S E) (dead stands : ℕ → Bool) (m n : ℕ)
+        (f : Finding) → IsBefore same o x dead stands m n → level_finding same o x m (downlinks x n) ≡ Some f →
+        all_levels_finding same o x ≡ Some f }
+    ensures next { (same : S → S → Bool) (o : Order S E) (x : Index S E) → HasSoundPages o x → x.root ≢ 0 →
+        are_roots_misplaced x ≡ false → (dead stands dead_then stands_then : ℕ → Bool) (m n : ℕ) →
+        IsBefore same o x dead stands (suc m) n → level_finding same o x (suc m) (downlinks x n) ≡ None →
+        HavePassed x (downlinks x n) dead stands dead_then stands_then →
+        IsBefore same o x dead_then stands_then m (suc n)
+        × (downlinks_left x dead_then x.blocks (cursor_start x (downlinks x n)) ≡ downlinks x (suc n)) }
+    ensures last { (same : S → S → Bool) (o : Order S E) (x : Index S E)
+        (dead stands dead_then stands_then : ℕ → Bool) (n : ℕ) → IsBefore same o x dead stands 0 n →
+        level_finding same o x 0 (downlinks x n) ≡ None →
+        HavePassed x (downlinks x n) dead stands dead_then stands_then →
+        (all_levels_finding same o x ≡ None) × ((b : ℕ) → stands_then b ≡ is_block_read x b) }
+{}
+
+/// What is found in an index, by its parts: the roots, the levels, and the blocks in no chain.
+///
+/// - `empty`: without a root only the blocks are asked, and none stands in a chain.
+/// - `roots`: else L1 comes first,
+/// - `levels`: then what is found on the levels,
+/// - `blocks`: and then the first block that no chain has.
+pub fn parts_make_the_first<S, E>()
+    ensures empty { (same : S → S → Bool) (o : Order S E) (x : Index S E) → HasSoundPages o x → x.root ≡ 0 →
+        (stands : ℕ → Bool) → ((b : ℕ) → stands b ≡ false) → first_broken same o x ≡ unreached_finding x stands }
+    ensures roots { (same : S → S → Bool) (o : Order S E) (x : Index S E) → HasSoundPages o x → x.root ≢ 0 →
+        are_roots_misplaced x ≡ true → first_broken same o x ≡ Some (L1, 0) }
+    ensures levels { (same : S → S → Bool) (o : Order S E) (x : Index S E) → HasSoundPages o x → x.root ≢ 0 →
+        are_roots_misplaced x ≡ false → (f : Finding) → all_levels_finding same o x ≡ Some f →
+        first_broken same o x ≡ Some f }
+    ensures blocks { (same : S → S → Bool) (o : Order S E) (x : Index S E) → HasSoundPages o x → x.root ≢ 0 →
+        are_roots_misplaced x ≡ false → all_levels_finding same o x ≡ None → (stands : ℕ → Bool) →
+        ((b : ℕ) → stands b ≡ is_block_read x b) → first_broken same o x ≡ unreached_finding x stands }
+{}
+
+/// What a loop over the blocks needs to know, which looks for the first in no chain (L9).
+///
+/// - `begin`: there is none before block 1.
+/// - `passed`: a block that is idle or stands in a chain is passed.
+/// - `found`: the first that is neither is the answer.
+pub fn blocks_are_asked<S, E>()
+    ensures begin { (x : Index S E) (stands : ℕ → Bool) → first_outside x stands 1 ≡ None }
+    ensures passed { (x : Index S E) (stands : ℕ → Bool) (b : ℕ) → 1 ≤ b → first_outside x stands b ≡ None →
+        is_outside x stands b ≡ false → first_outside x stands (b + 1) ≡ None }
+    ensures found { (x : Index S E) (stands : ℕ → Bool) (b n : ℕ) → 1 ≤ b → b < n →
+        first_outside x stands b ≡ None → is_outside x stands b ≡ true → first_outside x stands n ≡ Some b }
+{}
+
 /// What the laws above ask of separators holds of keys that are compared column by column, whatever
 /// the total order of each column and of the TIDs. V stands for the values, T for the TIDs.
 ///
@@ -160,6 +224,9 @@ mod tests {
         chains_are_walked::<u64, u64>();
         downlinks_are_met::<u64, u64>();
         downlinks_are_read::<u64, u64>();
+        levels_are_judged::<u64, u64>();
+        parts_make_the_first::<u64, u64>();
+        blocks_are_asked::<u64, u64>();
         keys_fit::<i64, u32>();
     }
 }
