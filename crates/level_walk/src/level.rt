@@ -1,7 +1,8 @@
 // What a walk along one level carries from page to page.
-ghost use Rattle.std.specs.Prelude.{◌≡◌, ◌==◌, ◌&&◌, cond, not, None, Some};
+ghost use Rattle.std.specs.Prelude.{◌≡◌, ◌==◌, ◌&&◌, ◌||◌, cond, not, None, Some};
 ghost use Rattle.std.specs.Option.{option_or};
 ghost use Rattle.page_layout.specs.declared.rules.Rule.TheVariants.{L7, L8};
+ghost use Rattle.tree_search.specs.Levels.{is_live};
 ghost use Rattle.tree_rules.specs.Tests.{is_dead, is_right_half};
 ghost use Rattle.level_walk.specs.Level.{after_page, at_start, is_after_split, is_alone_after, page_finding};
 ghost use Rattle.level_walk.specs.Level.{verdict_of};
@@ -63,6 +64,13 @@ fn page_finding(page: &PageSeen, role: PageRole) -> Option<(Rule, u32)>
     None
 }
 
+// Whether the page is live with an incomplete split.
+fn is_split(page: &PageSeen, role: PageRole) -> bool
+    ensures { result ≡ (is_live (role_named role) && page.now.marks.incomplete_split) }
+{
+    role.is_live() && page.marks.incomplete_split
+}
+
 // L7, in case there is no further page.
 fn dead_end(block: u32, role: PageRole) -> Option<(Rule, u32)>
     ensures { result ≡ cond (is_dead (role_named role)) (Some (L7, block)) None }
@@ -97,6 +105,13 @@ impl LevelWalk {
         marks.role(linked, self.split)
     }
 
+    // Whether a downlink led to a half-dead page, this one included.
+    fn leads_to_half_dead(&self, page: &PageSeen) -> bool
+        ensures { result ≡ (self.now.half_dead || (page.now.linked && page.now.marks.half_dead)) }
+    {
+        self.half_dead || (page.linked && page.marks.half_dead)
+    }
+
     // Whether the level begins with the fast root and goes on with right halves, up to this page.
     fn is_alone(&self, page: &PageSeen, role: PageRole, fastroot: u32) -> bool
         ensures { result ≡ is_alone_after self.now page.now.block (role_named role) fastroot }
@@ -114,8 +129,8 @@ impl LevelWalk {
     {
         let role = self.role(&page.marks, page.linked);
         LevelWalk {
-            split: role.is_live() & page.marks.incomplete_split,
-            half_dead: self.half_dead | (page.linked & page.marks.half_dead),
+            split: is_split(page, role),
+            half_dead: self.leads_to_half_dead(page),
             finding: first_of(self.finding, page_finding(page, role)),
             dead_end: dead_end(page.block, role),
             begun: true,
@@ -146,7 +161,7 @@ impl LevelWalk {
     ) -> Option<(Rule, u32)>
         ensures { result ≡ verdict_of self.now all_met entry is_fast fastroot }
     {
-        let wrong = !all_met | self.half_dead;
+        let wrong = !all_met || self.half_dead;
         if wrong {
             return Some((Rule::L4, entry));
         }
