@@ -1,5 +1,5 @@
 -- The findings of a file are the rules that are broken on its blocks.
-use Rattle.std.proofs.Common.{◌≡◌, ℕ, ◌<◌, Bool, true, false, List, [], ◌∷◌, refl, sym, ap, subst, ◌∙◌, arith}
+use Rattle.std.proofs.Common.{◌≡◌, ℕ, ◌<◌, Bool, true, false, List, [], ◌∷◌, ◌⊎◌, inl, inr, refl, sym, ap, subst, ◌∙◌, arith}
 use Rattle.std.specs.Prelude.{Option, Some, None, nat_lt, if◌then◌else◌, length, Ok, Err}
 use Rattle.std.specs.List.{All}
 use Rattle.std.proofs.lemmas.List.Elements.{All-head, All-nil, All-weaker}
@@ -10,6 +10,7 @@ use Rattle.reports.specs.Texts.{verdict_of}
 use Rattle.reports.specs.declared.places.Finding.{Finding}
 use Rattle.reports.specs.declared.places.UnjudgedPlace.{UnjudgedPlace}
 use Rattle.reports.specs.declared.places.Place.{Place}
+use Rattle.reports.specs.declared.places.Reason.{Reason}
 use Rattle.heap_check.specs.Pages.{BreaksAlone}
 use Rattle.heap_check.proofs.PageLaws.{lone_page_sound, lone_page_complete}
 use Rattle.heap_check.proofs.Places.{All-each_below, each_below_is_empty}
@@ -21,11 +22,11 @@ use Rattle.heap_check.specs.Files.{refusal_of}
 use Rattle.heap_check.specs.Heap.{doubts_of, findings_of}
 use Rattle.heap_check.proofs.CaseLaws.{case_doubts_sound, case_sound}
 use Rattle.heap_check.proofs.HeldLaws.{case_values}
-use Rattle.heap_check.proofs.QuietLaws.{case_bits, case_chains, case_complete, case_roots, case_states}
+use Rattle.heap_check.proofs.QuietLaws.{case_bits, case_certain, case_chains, case_complete, case_roots, case_states}
 use Rattle.outside.specs.declared.files.Part.TheVariants.{Segment}
 use Rattle.amcheck_cmd.specs.Cases.{BreaksCase, DoubtsCase, IsTrueHeap, accepted, case_by, case_in, heap_lists, lists_by, lists_in, text_limit}
 use Rattle.amcheck_cmd.specs.Forms.{Form, NoForm, Pages, Heap, Show}
-use Rattle.amcheck_cmd.specs.Outcome.{BreaksNothing, DoubtsNothing, FindsOnlyBroken, IsInDoubt, IsTrueWhereClean, Outcome, file_refusal, heap_outcome, outcome_by, outcome_of_files, outcome_of_meaning, outcome_of_text, pages_outcome, refused_or, report_in, reported, too_large, verdict_code}
+use Rattle.amcheck_cmd.specs.Outcome.{BreaksNothing, DoubtsNothing, FindsOnlyBroken, IsInDoubt, IsTrueWhereClean, Meets, Outcome, WritesReport, file_refusal, heap_outcome, outcome_by, outcome_of_files, outcome_of_meaning, outcome_of_text, pages_outcome, refused_or, report_in, reported, too_large, verdict_code}
 use Rattle.amcheck_cmd.specs.Pages.{BreaksFile, block_findings, block_limit, file_findings, pages_report}
 use Rattle.outside.specs.Outside.{Names}
 
@@ -101,6 +102,12 @@ case_report_complete file names lists has none sure rule place broken =
     case_complete has.case names (ap (λ (l : Lists). l.findings) has.shown ∙ none) (ap (λ (l : Lists). l.unjudged) has.shown ∙ sure) rule place
     (subst (λ (c : CaseRecord). Breaks c names rule place) same broken.broken)
 
+case_report_certain : (file : Option (List ℕ)) (names : Names) (lists : Lists) → HasCase file names lists → lists.findings ≡ [] → lists.unjudged ≡ [] → (reason : Reason) (place : Place) → DoubtsCase file names reason place → ⊥
+case_report_certain file names lists has none sure reason place doubted =
+    let same = one_case file doubted.case has.case doubted.meant has.meant in
+    case_certain has.case names (ap (λ (l : Lists). l.findings) has.shown ∙ none) (ap (λ (l : Lists). l.unjudged) has.shown ∙ sure) reason place
+    (subst (λ (c : CaseRecord). Doubts c names reason place) same doubted.doubted)
+
 -- EVERY COMMAND
 
 -- each finding of a report is a broken rule, and each place that it calls unjudged is in doubt
@@ -123,6 +130,13 @@ empty_is_sound NoForm names lists e none sure = cc
 empty_is_sound (Pages name) names lists e none sure = file_complete _ (listed _ lists e ∙ none)
 empty_is_sound (Heap name) names lists e none sure = case_report_complete _ names lists (the_case _ names lists e) none sure
 empty_is_sound (Show kind name block) names lists e none sure = cc
+
+-- and that all can be judged
+pub empty_is_certain : (form : Form) (names : Names) (lists : Lists) → report_in form names ≡ Some lists → lists.findings ≡ [] → lists.unjudged ≡ [] → DoubtsNothing form names
+empty_is_certain NoForm names lists e none sure = cc
+empty_is_certain (Pages name) names lists e none sure = λ reason place doubted. doubted
+empty_is_certain (Heap name) names lists e none sure = case_report_certain _ names lists (the_case _ names lists e) none sure
+empty_is_certain (Show kind name block) names lists e none sure = cc
 
 -- what never comes isn't listed
 none_of : {X : Type 0} {P : X → Type 0} (xs : List X) → All P xs → ((x : X) → P x → ⊥) → xs ≡ []
@@ -180,11 +194,23 @@ clean_code form names o owed lists e nothing sure =
     ap (λ (p : Outcome). p.code) (owed ∙ report_is_outcome form names lists e)
     ∙ none_is_clean lists.findings lists.unjudged (none_of lists.findings sound.findings (λ f. nothing f.rule f.place)) (none_of lists.unjudged sound.unjudged (λ u. sure u.reason u.place))
 
--- the code 0 of a report tells that nothing is broken
-pub sound_code : (form : Form) (names : Names) (o : Outcome) → o ≡ outcome_by form names → o.code ≡ 0 → (lists : Lists) → report_in form names ≡ Some lists → BreaksNothing form names
+-- the code 0 of a report tells that nothing is broken, and nothing in doubt
+pub sound_code : (form : Form) (names : Names) (o : Outcome) → o ≡ outcome_by form names → o.code ≡ 0 → (lists : Lists) → report_in form names ≡ Some lists → BreaksNothing form names × DoubtsNothing form names
 sound_code form names o owed nought lists e =
     let none = clean_has_none lists.findings lists.unjudged (sym (ap (λ (p : Outcome). p.code) (owed ∙ report_is_outcome form names lists e)) ∙ nought) in
-    empty_is_sound form names lists e none.0 none.1
+    (empty_is_sound form names lists e none.0 none.1, empty_is_certain form names lists e none.0 none.1)
+
+-- what is written is the report, where there is one
+pub writes_report : (form : Form) (names : Names) (o : Outcome) → o ≡ outcome_by form names → (old new : Option (List ℕ)) (code : ℕ) → Meets o old new code → WritesReport form names old new code
+writes_report form names o owed old new code meets lists e =
+    subst (λ (p : Outcome). Meets p old new code) (owed ∙ report_is_outcome form names lists e) meets
+
+-- and nothing is owed by a run that gave up before it wrote
+pub gave_up : (form : Form) (names : Names) (old new : Option (List ℕ)) (code : ℕ) → (code ≡ 7) ⊎ (code ≡ 9) → WritesReport form names old new code
+gave_up form names old new code (inl seven) lists e =
+    record { whole = λ not_seven not_eight not_nine. absurd (not_seven seven); prefix = λ eight. absurd (omega (arith, seven, eight)) }
+gave_up form names old new code (inr nine) lists e =
+    record { whole = λ not_seven not_eight not_nine. absurd (not_nine nine); prefix = λ eight. absurd (omega (arith, nine, eight)) }
 
 -- a heap of which nothing is found, and of which everything can be judged
 true_heap : (case : CaseRecord) (names : Names) → findings_of case names ≡ [] → doubts_of case names ≡ [] → IsTrueHeap case names

@@ -75,12 +75,19 @@ pub record DoubtsCase (file : Option (List ℕ)) (names : Names) (reason : Reaso
 abbrev pub heap_page : CaseRecord → Names → ℕ → List ℕ
 heap_page case names block = case_page case names case.heap_file block
 
--- What is true of a heap that is clean, block by block: its items have their states; the page's flag and the map's bits, where they are
--- set, are true; no rule of chains is broken; exactly one root reaches each live tuple; and each value of a live tuple that stands in
--- the TOAST table has its chunks whole there.
+-- What is true of a heap that is clean, block by block: its items have their states; the page's flag and the map's
+-- bits, where they are set, are true; no rule of chains is broken; exactly one root reaches each live tuple; and each
+-- value of a live tuple that stands in the TOAST table has its chunks whole there.
 pub record IsTrueHeap (case : CaseRecord) (names : Names) : Type 0 where
-  pub states : (block : ℕ) → block < heap_blocks case names → HasStates (table_of case names) (heap_page case names block)
-  pub bits : (block : ℕ) → block < heap_blocks case names → AreTrue ((table_of case names).bits block) (is_flagged_visible (heap_page case names block)) (states_of (table_of case names) (heap_page case names block))
-  pub chains : (block : ℕ) → block < heap_blocks case names → KeepsChainRules block (states_of (table_of case names) (heap_page case names block))
-  pub roots : (block : ℕ) → block < heap_blocks case names → (i : ℕ) → IsLiveItem (states_of (table_of case names) (heap_page case names block)) i → HasOneRoot block (states_of (table_of case names) (heap_page case names block)) i
-  pub values : (block : ℕ) → block < heap_blocks case names → (i : ℕ) (pointer : ToastPointer) → HasExternal (table_of case names) (heap_page case names block) i pointer → IsWhole (chunks_of case names) pointer
+  pub states : (block : ℕ) → block < heap_blocks case names
+      → HasStates (table_of case names) (heap_page case names block)
+  pub bits : (block : ℕ) → block < heap_blocks case names
+      → AreTrue ((table_of case names).bits block) (is_flagged_visible (heap_page case names block))
+      (states_of (table_of case names) (heap_page case names block))
+  pub chains : (block : ℕ) → block < heap_blocks case names
+      → KeepsChainRules block (states_of (table_of case names) (heap_page case names block))
+  pub roots : (block : ℕ) → block < heap_blocks case names → (i : ℕ)
+      → IsLiveItem (states_of (table_of case names) (heap_page case names block)) i
+      → HasOneRoot block (states_of (table_of case names) (heap_page case names block)) i
+  pub values : (block : ℕ) → block < heap_blocks case names → (i : ℕ) (pointer : ToastPointer)
+      → HasExternal (table_of case names) (heap_page case names block) i pointer → IsWhole (chunks_of case names) pointer

@@ -1,5 +1,6 @@
 -- What a run writes and answers.
-use Rattle.std.specs.Prelude.{◌≡◌, ◌≢◌, ℕ, ◌≤◌, List, [], ◌++◌, ◌⊎◌, length, take, codes, decimal, nat_lt, if◌then◌else◌, Option, Some, None, All, Bool, Ok, Err}
+use Rattle.std.specs.Prelude.{◌≡◌, ◌≢◌, ℕ, ◌≤◌, List, [], ◌++◌, ◌⊎◌, length, take, codes, decimal, nat_lt}
+use Rattle.std.specs.Prelude.{if◌then◌else◌, Option, Some, None, All, Bool, Ok, Err}
 use Rattle.outside.specs.Outside.{Names, appended}
 use Rattle.outside.specs.declared.files.Part.TheVariants.{Segment}
 use Rattle.page_layout.specs.declared.rules.Rule.{Rule}
@@ -18,7 +19,8 @@ use Rattle.reports.specs.declared.places.Place.{Place}
 use Rattle.reports.specs.declared.places.Verdict.{Verdict}
 use Rattle.reports.specs.declared.places.Verdict.TheVariants.{Clean, Findings, Unjudged}
 use Rattle.amcheck_cmd.specs.Forms.{Form, NoForm, Pages, Heap, Show, form_of}
-use Rattle.amcheck_cmd.specs.Cases.{BreaksCase, DoubtsCase, IsTrueHeap, case_in, file_named, heap_lists, lists_in, text_limit}
+use Rattle.amcheck_cmd.specs.Cases.{BreaksCase, DoubtsCase, IsTrueHeap, case_in, file_named, heap_lists, lists_in}
+use Rattle.amcheck_cmd.specs.Cases.{text_limit}
 use Rattle.amcheck_cmd.specs.Pages.{BreaksFile, block_limit, file_findings, pages_report}
 use Rattle.amcheck_cmd.specs.Show.{shown_text}
 use Rattle.amcheck_cmd.specs.declared.words.Shown.{Shown}
@@ -28,7 +30,7 @@ pub record Outcome : Type 0 where
   pub bytes : List ℕ
   pub code : ℕ
 
--- REFUSALS
+-- Refusals
 
 abbrev pub usage : Outcome
 usage = record { bytes = codes "refused usage\n"; code = 3 }
@@ -38,19 +40,29 @@ no_file name = record { bytes = codes "refused no file " ++ name ++ codes "\n"; 
 
 abbrev pub too_large : List ℕ → ℕ → Outcome
 too_large name blocks =
-    record { bytes = codes "refused too large " ++ name ++ codes " blocks " ++ decimal blocks ++ codes " limit 16384\n"; code = 6 }
+    record {
+      bytes = codes "refused too large " ++ name ++ codes " blocks " ++ decimal blocks ++ codes " limit 16384\n";
+      code = 6;
+    }
 
 -- a case file of so many bytes
 abbrev pub text_too_large : List ℕ → ℕ → Outcome
 text_too_large name bytes =
-    record { bytes = codes "refused too large " ++ name ++ codes " bytes " ++ decimal bytes ++ codes " limit 1048576\n"; code = 6 }
+    record {
+      bytes = codes "refused too large " ++ name ++ codes " bytes " ++ decimal bytes ++ codes " limit 1048576\n";
+      code = 6;
+    }
 
 abbrev pub case_refused : CaseRule → List ℕ → Outcome
-case_refused rule place = record { bytes = codes "refused case " ++ rule_code rule ++ codes " " ++ place ++ codes "\n"; code = 4 }
+case_refused rule place =
+    record { bytes = codes "refused case " ++ rule_code rule ++ codes " " ++ place ++ codes "\n"; code = 4 }
 
 -- a block past the last of a file
 abbrev pub no_block : ℕ → ℕ → Outcome
-no_block block blocks = record { bytes = codes "refused no block " ++ decimal block ++ codes " of " ++ decimal blocks ++ codes "\n"; code = 10 }
+no_block block blocks = record {
+  bytes = codes "refused no block " ++ decimal block ++ codes " of " ++ decimal blocks ++ codes "\n";
+  code = 10;
+}
 
 -- why a file that is read by itself is refused, if it is
 unfoldable pub file_refusal : List ℕ → Option (List ℕ) → Option Outcome
@@ -63,7 +75,7 @@ abbrev pub refused_or : Option Outcome → Outcome → Outcome
 refused_or (Some refusal) owed = refusal
 refused_or None owed = owed
 
--- REPORTS
+-- Reports
 
 abbrev pub verdict_code : Verdict → ℕ
 verdict_code Clean = 0
@@ -76,7 +88,7 @@ reported lists = record {
   code = verdict_code (verdict_of lists.findings lists.unjudged);
 }
 
--- THE COMMANDS
+-- The commands
 
 -- `pages` on a file that is held or not
 unfoldable pub pages_outcome : List ℕ → Option (List ℕ) → Outcome
@@ -91,7 +103,8 @@ page_shown kind block page = record { bytes = shown_text kind block page; code =
 unfoldable pub show_outcome : Shown → List ℕ → ℕ → Option (List ℕ) → Outcome
 show_outcome kind name block file =
     refused_or (file_refusal name file)
-    (if nat_lt block (blocks_in file) then page_shown kind block (block_in file block) else no_block block (blocks_in file))
+    (if nat_lt block (blocks_in file) then page_shown kind block (block_in file block)
+    else no_block block (blocks_in file))
 
 -- a case whose files can't be judged, or else its report; a fault of reading is no refusal
 abbrev pub outcome_of_files : CaseRecord → Names → Option CheckFault → Outcome
@@ -141,7 +154,7 @@ pub record Meets (owed : Outcome) (old new : Option (List ℕ)) (code : ℕ) : T
   pub whole : code ≢ 7 → code ≢ 8 → code ≢ 9 → (code ≡ owed.code) × (new ≡ appended old owed.bytes)
   pub prefix : code ≡ 8 → (n : ℕ) × (new ≡ appended old (take n owed.bytes))
 
--- WHAT A REPORT IS WORTH
+-- What a report is worth
 
 -- the report of a command that makes one, where nothing refuses it
 abbrev pub report_in : Form → Names → Option Lists
@@ -185,11 +198,18 @@ GaveUp code = (code ≡ 7) ⊎ ((code ≡ 8) ⊎ (code ≡ 9))
 -- files that break no rule, and of which everything can be judged, are clean
 abbrev pub IsCleanWhereSound : Form → Names → ℕ → Type 0
 IsCleanWhereSound form names code =
-    (lists : Lists) → report_in form names ≡ Some lists → BreaksNothing form names → DoubtsNothing form names → (code ≡ 0) ⊎ GaveUp code
+    (lists : Lists) → report_in form names ≡ Some lists → BreaksNothing form names → DoubtsNothing form names
+    → (code ≡ 0) ⊎ GaveUp code
 
--- files that are clean break no rule
+-- files that are clean break no rule, and nothing of them is in doubt
 abbrev pub IsSoundWhereClean : Form → Names → ℕ → Type 0
-IsSoundWhereClean form names code = code ≡ 0 → (lists : Lists) → report_in form names ≡ Some lists → BreaksNothing form names
+IsSoundWhereClean form names code =
+    code ≡ 0 → (lists : Lists) → report_in form names ≡ Some lists → BreaksNothing form names × DoubtsNothing form names
+
+-- where a command makes a report, that is what is written and answered, but for faults and want of memory
+abbrev pub WritesReport : Form → Names → (old new : Option (List ℕ)) → ℕ → Type 0
+WritesReport form names old new code =
+    (lists : Lists) → report_in form names ≡ Some lists → Meets (reported lists) old new code
 
 -- a case whose heap is clean: what is said of it is true
 abbrev pub IsTrueWhereClean : Form → Names → ℕ → Type 0
@@ -197,4 +217,5 @@ IsTrueWhereClean NoForm names code = Unit {0}
 IsTrueWhereClean (Pages name) names code = Unit {0}
 IsTrueWhereClean (Show kind name block) names code = Unit {0}
 IsTrueWhereClean (Heap name) names code =
-    code ≡ 0 → (case : CaseRecord) → case_in (names name (Segment 0)) ≡ Some case → refusal_of case names ≡ None → IsTrueHeap case names
+    code ≡ 0 → (case : CaseRecord) → case_in (names name (Segment 0)) ≡ Some case → refusal_of case names ≡ None
+    → IsTrueHeap case names

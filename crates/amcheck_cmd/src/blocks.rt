@@ -1,4 +1,4 @@
-// A file that is read by itself, as one segment: its length, and its blocks one by one.
+//! A file that is read by itself, as one segment: its length, and its blocks one by one.
 ghost use Rattle.std.specs.Prelude.{◌≡◌, ◌+◌, ◌*◌, ◌≤◌, Some, length, IfOk, OnOk};
 ghost use Rattle.outside.specs.declared.files.Part.TheVariants.{Segment};
 ghost use Rattle.outside.specs.Outside.{Asked, IfHeld, IsHeldAnd, Tells};
@@ -52,7 +52,8 @@ pub fn read_block<F: Files>(
     page: &mut [u8; 8192],
 ) -> Result<(), RunFault>
     requires { IsHeldAnd F.seen files.old file.now (Segment 0) (λ bytes. 8192 * block + 8192 ≤ length bytes) }
-    ensures bytes { OnOk result (IfHeld F.seen files.old file.now (Segment 0) (λ bytes. page.new ≡ block_in (Some bytes) block)) }
+    ensures bytes { OnOk result (IfHeld F.seen files.old file.now (Segment 0) (λ bytes.
+        page.new ≡ block_in (Some bytes) block)) }
     ensures asked { Asked F.seen files.old files.new result RunFault.ReadFault }
 {
     let name = FileName {

@@ -1,4 +1,4 @@
-// Why a run gives up.
+//! Why a run gives up.
 ghost use Rattle.std.specs.Prelude.{◌≡◌};
 ghost use Rattle.amcheck_cmd.specs.declared.fault.RunFault.TheVariants as fault;
 

@@ -1,6 +1,7 @@
 //! Runs in which one call on the files or on the sink fails, each call in turn.
 use crate::fixtures::{
-    CLEAN, HeapPage, INT_COLUMN, LIVE, TEXT_IN_TOAST, Tuple, case_files, run_words,
+    CLEAN, CLUSTER, EXTERNAL, INT_COLUMN, Item, LIVE, SUCCESSOR, TEXT_IN_TOAST, Tuple, UPDATED,
+    case_files, chunk_page, page_of, run_words,
 };
 use outside::{MemFiles, MemSink, Part};
 use std::alloc::Global;
@@ -29,63 +30,43 @@ fn words_of(scene: Scene) -> [&'static str; 2] {
     }
 }
 
-fn three_tuples() -> [u8; 8192] {
-    HeapPage::new()
-        .tuple(LIVE)
-        .tuple(Tuple { ctid: 2, ..LIVE })
-        .tuple(Tuple { ctid: 3, ..LIVE })
-        .bytes(0)
-}
-
-fn updated_by_multixact() -> [u8; 8192] {
-    let old = Tuple {
-        xmax: 5,
-        ctid: 2,
-        infomask2: 0x4001,
-        infomask: 0x1100,
-        ..LIVE
-    };
-    let new = Tuple {
-        xmin: 712,
-        ctid: 2,
-        infomask2: 0x8001,
-        infomask: 0x2800,
-        ..LIVE
-    };
-    HeapPage::new().tuple(old).tuple(new).bytes(0)
-}
-
-// One chunk of 1996 bytes, of value 16500.
-fn toast_page() -> [u8; 8192] {
-    let mut body = [0u8; 2008];
-    body[0..4].copy_from_slice(&16500u32.to_le_bytes());
-    body[8..12].copy_from_slice(&(2000u32 * 4).to_le_bytes());
-    let chunk = Tuple {
-        infomask2: 3,
-        infomask: 0x0902,
-        body: &body,
-        ..LIVE
-    };
-    HeapPage::new().tuple(chunk).bytes(0)
+// The heap of a scene.
+fn heap_of(scene: Scene) -> [u8; 8192] {
+    match scene {
+        Scene::Pages | Scene::Heap => {
+            let second = Tuple { item: 2, ..LIVE };
+            let third = Tuple { item: 3, ..LIVE };
+            page_of(
+                0,
+                &[Item::Tuple(LIVE), Item::Tuple(second), Item::Tuple(third)],
+            )
+        }
+        Scene::Multixact => {
+            let old = Tuple {
+                xmax: 5,
+                infomask: 0x1100,
+                ..UPDATED
+            };
+            let new = Tuple {
+                xmin: 712,
+                infomask: 0x2800,
+                ..SUCCESSOR
+            };
+            page_of(0, &[Item::Tuple(old), Item::Tuple(new)])
+        }
+        Scene::Toast => page_of(0, &[Item::Tuple(EXTERNAL)]),
+    }
 }
 
 fn files_of(alloc: Global, scene: Scene) -> Result<MemFiles, Fail> {
-    match scene {
-        Scene::Pages | Scene::Heap => case_files(alloc, INT_COLUMN, &three_tuples()),
-        Scene::Multixact => case_files(alloc, INT_COLUMN, &updated_by_multixact()),
-        Scene::Toast => {
-            let pointer = b"\x01\x12\xd0\x07\0\0\xcc\x07\0\0\x74\x40\0\0\x10\x40\0\0";
-            let tuple = Tuple {
-                infomask: 0x0906,
-                body: pointer,
-                ..LIVE
-            };
-            let heap = HeapPage::new().tuple(tuple).bytes(0);
-            let mut files = case_files(alloc, TEXT_IN_TOAST, &heap)?;
-            files.add("tt", Part::Segment(0), &toast_page())?;
-            Ok(files)
-        }
-    }
+    let rest = match scene {
+        Scene::Toast => TEXT_IN_TOAST,
+        Scene::Pages | Scene::Heap | Scene::Multixact => INT_COLUMN,
+    };
+    let text = format!(in alloc; "{CLUSTER}{rest}")?;
+    let mut files = case_files(alloc, text.as_str(), &heap_of(scene))?;
+    files.add("tt", Part::Segment(0), &chunk_page(0, 1996))?;
+    Ok(files)
 }
 
 // How many runs with one failing call, the first, the second and so on, end with 7 and nothing written
@@ -99,12 +80,12 @@ fn faults_of(rt: &impl Abort, alloc: Global, scene: Scene, in_reads: bool) -> Re
             files.fail_length(n)?;
         }
         let mut sink = MemSink::new(alloc, 16)?;
-        let status = run_words(alloc, &words_of(scene), &mut files, &mut sink)?;
-        if status.code == 0 {
+        let code = run_words(alloc, &words_of(scene), &mut files, &mut sink)?;
+        if code == 0 {
             assert_eq!(rt; sink.bytes(), CLEAN.as_bytes());
             return Ok(n - 1);
         }
-        assert_eq!(rt; status.code, 7);
+        assert_eq!(rt; code, 7);
         assert!(rt; sink.bytes().is_empty());
     }
     Err(Fail::from("a hundred calls"))
@@ -129,12 +110,12 @@ fn each_put_may_fail(rt: HostRuntime) -> Result<(), Fail> {
             let mut files = files_of(alloc, scene)?;
             let mut sink = MemSink::new(alloc, 1)?;
             sink.fail_put(n as u64)?;
-            let status = run_words(alloc, &words_of(scene), &mut files, &mut sink)?;
+            let code = run_words(alloc, &words_of(scene), &mut files, &mut sink)?;
             if n <= text.len() {
-                assert_eq!(rt; status.code, 8);
+                assert_eq!(rt; code, 8);
                 assert_eq!(rt; sink.bytes(), &text[..n - 1]);
             } else {
-                assert_eq!(rt; status.code, 0);
+                assert_eq!(rt; code, 0);
                 assert_eq!(rt; sink.bytes(), text);
             }
         }

@@ -1,5 +1,5 @@
-// The command `heap`: judges the heap of a case, with its visibility map and its TOAST table.
-ghost use Rattle.std.specs.Prelude.{◌≡◌, ◌≤◌, ℕ, List, Some, length, IfOk};
+//! The command `heap`: judges the heap of a case, with its visibility map and its TOAST table.
+ghost use Rattle.std.specs.Prelude.{◌≡◌, ◌≢◌, ◌≤◌, ℕ, List, Some, length, IfOk};
 ghost use Rattle.outside.specs.declared.files.Part.TheVariants.{Segment};
 ghost use Rattle.outside.specs.Outside.{Asked, IfTold, IsHeldAnd, Names, Tells};
 ghost use Rattle.case_file.specs.Case.{case_of};
@@ -55,6 +55,7 @@ fn judged_output<F: Files>(
     requires belong { BelongTo case.now at }
     ensures output { Tells F.seen files.old result (λ o names. outcome_seen o ≡ reported (heap_lists case.now names)) }
     ensures code { IfOk result (λ o. o.code ≤ 6) }
+    ensures formed { IfOk result (λ o. o.code ≢ 3) }
     ensures asked { Asked F.seen files.old files.new result RunFault.ReadFault }
 {
     let mut report = Report::new(alloc);
@@ -67,8 +68,10 @@ fn judged_output<F: Files>(
 
 // The report on a case, or why its files can't be judged.
 fn case_output<F: Files>(alloc: Global, files: &mut F, case: &Case) -> Result<Output, RunFault>
-    ensures output { Tells F.seen files.old result (λ o names. outcome_seen o ≡ outcome_of_files case.now names (refusal_of case.now names)) }
+    ensures output { Tells F.seen files.old result (λ o names.
+        outcome_seen o ≡ outcome_of_files case.now names (refusal_of case.now names)) }
     ensures code { IfOk result (λ o. o.code ≤ 6) }
+    ensures formed { IfOk result (λ o. o.code ≢ 3) }
     ensures asked { Asked F.seen files.old files.new result RunFault.ReadFault }
 {
     match HeapFiles::attach(alloc, files, case) {
@@ -84,8 +87,10 @@ fn case_output<F: Files>(alloc: Global, files: &mut F, case: &Case) -> Result<Ou
 
 // The report on the case that a text means, or why it means none.
 fn text_output<F: Files>(alloc: Global, files: &mut F, text: &[u8]) -> Result<Output, RunFault>
-    ensures output { Tells F.seen files.old result (λ o names. outcome_seen o ≡ outcome_of_meaning names (case_of text.now)) }
+    ensures output { Tells F.seen files.old result (λ o names.
+        outcome_seen o ≡ outcome_of_meaning names (case_of text.now)) }
     ensures code { IfOk result (λ o. o.code ≤ 6) }
+    ensures formed { IfOk result (λ o. o.code ≢ 3) }
     ensures asked { Asked F.seen files.old files.new result RunFault.ReadFault }
 {
     match read_case(alloc, text) {
@@ -106,6 +111,7 @@ fn file_output<F: Files>(
     ensures output { IfOk result (λ o. (names : Names) (bytes : List ℕ) → (F.seen files.old).held ≡ Some names
         → names file.now (Segment 0) ≡ Some bytes → outcome_seen o ≡ outcome_of_meaning names (case_of bytes)) }
     ensures code { IfOk result (λ o. o.code ≤ 6) }
+    ensures formed { IfOk result (λ o. o.code ≢ 3) }
     ensures asked { Asked F.seen files.old files.new result RunFault.ReadFault }
 {
     let text = read_text(alloc, files, file, len as usize)?;
@@ -116,8 +122,10 @@ fn file_output<F: Files>(
 /// first: of the file, of its text, of the heap, or of the TOAST table.
 #[tactic(auto, unfolding(crate::specs::Outcome::heap_outcome))]
 pub fn heap_output<F: Files>(alloc: Global, files: &mut F, file: &str) -> Result<Output, RunFault>
-    ensures output { Tells F.seen files.old result (λ o names. outcome_seen o ≡ heap_outcome file.now names (names file.now (Segment 0))) }
+    ensures output { Tells F.seen files.old result (λ o names.
+        outcome_seen o ≡ heap_outcome file.now names (names file.now (Segment 0))) }
     ensures code { IfOk result (λ o. o.code ≤ 6) }
+    ensures formed { IfOk result (λ o. o.code ≢ 3) }
     ensures asked { Asked F.seen files.old files.new result RunFault.ReadFault }
 {
     let name = FileName {

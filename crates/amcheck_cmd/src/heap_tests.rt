@@ -1,751 +1,552 @@
-// Runs of `heap` on small cases, one for each rule that is asked of tuples, of whole pages and of values.
-use crate::tests::{expect, put};
+//! Runs of `heap` on small cases: each rule of a heap broken and kept, and each reason why a tuple can't be judged.
+use crate::fixtures::{
+    BOOL_AND_TEXT, CLUSTER, DEAD, EXTERNAL, INT_COLUMN, Item, LIVE, NOTHING, POINTER, SUCCESSOR,
+    TEXT_IN_TOAST, Tuple, UNUSED, UPDATED, Want, case_files, chunk_page, expect, expect_heap,
+    normal, page_of, put, redirect,
+};
 use outside::{MemFiles, Part};
 use std::alloc::Global;
 use std::process::Abort;
 use std::test::Fail;
 
-// The bytes that aren't 0 on a page, by the places where they begin.
-type Pieces<'a> = &'a [(u16, &'a [u8])];
-
-// The rest of a case text, the bytes of its heap, byte 24 of its map, the bytes of its TOAST table,
-// and what a run answers and writes.
+// A heap of one page: its flags, its items, and bytes that are put over it; byte 24 of its map, 0 where there is
+// none; and its report.
 #[derive(Clone, Copy)]
-struct HeapRun<'a> {
-    case: &'a str,
-    heap: Pieces<'a>,
+struct Row<'a> {
+    flags: u16,
+    items: &'a [Item<'a>],
+    over: &'a [(u16, &'a [u8])],
     map: u8,
-    toast: Pieces<'a>,
-    code: u8,
-    text: &'a str,
+    want: Want<'a>,
 }
 
-const INT_COLUMN: &str = "[[column]]\nname = \"a\"\ntype = \"int4\"\n";
+const EMPTY: Row<'static> = Row {
+    flags: 0,
+    items: &[],
+    over: &[],
+    map: 0,
+    want: NOTHING,
+};
 
-const BOOL_AND_TEXT: &str =
-    "[[column]]\nname = \"b\"\ntype = \"bool\"\n[[column]]\nname = \"s\"\ntype = \"text\"\n";
-
-const TEXT_IN_TOAST: &str =
-    "toast_file = \"tt\"\ntoast_oid = 16400\n[[column]]\nname = \"a\"\ntype = \"text\"\n";
-
-const TOAST: Pieces<'static> = &[
-    (12, &[0x1c, 0x00, 0x10, 0x18, 0x00, 0x20, 0x04, 0x20]),
-    (24, &[0x10, 0x98, 0xe0, 0x0f]),
-    (
-        6160,
-        &[
-            0xbc, 0x02, 0x00, 0x00, 0x00, 0x00, 0x00, 0x00, 0x00, 0x00, 0x00, 0x00, 0x00, 0x00,
-            0x00, 0x00, 0x01, 0x00, 0x03, 0x00, 0x02, 0x09, 0x18, 0x00, 0x74, 0x40, 0x00, 0x00,
-            0x00, 0x00, 0x00, 0x00, 0x40, 0x1f,
-        ],
-    ),
-];
-
-// A tuple of one int4 that transaction 700 inserted, up to the last byte that isn't 0.
-const INT_TUPLE: &[u8] = &[
-    0xbc, 0x02, 0x00, 0x00, 0x00, 0x00, 0x00, 0x00, 0x00, 0x00, 0x00, 0x00, 0x00, 0x00, 0x00, 0x00,
-    0x01, 0x00, 0x01, 0x00, 0x00, 0x09, 0x18, 0x00, 0x05,
-];
-
-// The case text up to the heap's file.
-const CLUSTER: &str =
-    "[cluster]\nnext_xid = 1000\noldest_xid = 3\nnext_multi = 10\noldest_multi = 1\n\
-next_member = 100\nxact = \"xact\"\noffsets = \"offsets\"\nmembers = \"members\"\n[heap]\nfile = \"t\"\n";
-
-fn page_of(pieces: Pieces<'_>) -> [u8; 8192] {
-    let mut page = [0u8; 8192];
-    for (at, bytes) in pieces {
-        put(&mut page, *at, bytes);
+// One finding, or one doubt.
+const fn found<'a>(findings: &'a [&'a str]) -> Want<'a> {
+    Want {
+        findings,
+        unjudged: &[],
     }
+}
+
+const fn in_doubt<'a>(unjudged: &'a [&'a str]) -> Want<'a> {
+    Want {
+        findings: &[],
+        unjudged,
+    }
+}
+
+// The page of a map whose first byte of bits is this.
+fn map_page(bits: u8) -> [u8; 8192] {
+    let mut page = page_of(0, &[]);
+    put(&mut page, 24, &[bits]);
     page
 }
 
-// Multixact 5 has three members, the last of which, 712, is the updater.
-fn add_logs(files: &mut MemFiles) -> Result<(), Fail> {
-    let mut offsets = [0u8; 8192];
-    put(&mut offsets, 20, &[1, 0, 0, 0, 4]);
-    let mut members = [0u8; 8192];
-    put(&mut members, 3, &[4]);
-    put(&mut members, 8, &[0xc6, 2, 0, 0, 0xc7, 2, 0, 0, 0xc8, 2]);
-    files.add("xact", Part::Slru(0), &[0x55u8; 8192])?;
-    files.add("offsets", Part::Slru(0), &offsets)?;
-    files.add("members", Part::Slru(0), &members)?;
-    Ok(())
-}
-
-fn files_of(alloc: Global, row: &HeapRun<'_>) -> Result<MemFiles, Fail> {
-    let mut files = MemFiles::new(alloc);
-    let text = format!(in alloc; "{CLUSTER}{}", row.case)?;
-    files.add("case.toml", Part::Segment(0), text.as_bytes())?;
-    files.add("t", Part::Segment(0), &page_of(row.heap))?;
+fn files_of(alloc: Global, rest: &str, row: &Row<'_>) -> Result<MemFiles, Fail> {
+    let text = format!(in alloc; "{CLUSTER}{rest}")?;
+    let mut heap = page_of(row.flags, row.items);
+    for (at, bytes) in row.over {
+        put(&mut heap, *at, bytes);
+    }
+    let mut files = case_files(alloc, text.as_str(), &heap)?;
     if row.map != 0 {
-        let mut map = page_of(&[(12, &[24, 0, 0, 0x20, 0, 0x20, 4, 0x20])]);
-        put(&mut map, 24, &[row.map]);
-        files.add("t_vm", Part::Segment(0), &map)?;
+        files.add("t_vm", Part::Segment(0), &map_page(row.map))?;
     }
-    if !row.toast.is_empty() {
-        files.add("tt", Part::Segment(0), &page_of(row.toast))?;
-    }
-    add_logs(&mut files)?;
     Ok(files)
 }
 
-fn expect_run(rt: &impl Abort, alloc: Global, row: &HeapRun<'_>) -> Result<(), Fail> {
-    let mut files = files_of(alloc, row)?;
-    let words = ["heap", "case.toml"];
-    expect(rt, alloc, &words, &mut files, (row.code, row.text))
+fn expect_row(rt: &impl Abort, alloc: Global, rest: &str, row: &Row<'_>) -> Result<(), Fail> {
+    let mut files = files_of(alloc, rest, row)?;
+    expect_heap(rt, alloc, &mut files, row.want)
+}
+
+// Runs `heap` on a page of a table of one number with these items.
+fn expect_items(
+    rt: &impl Abort,
+    alloc: Global,
+    items: &[Item<'_>],
+    want: Want<'_>,
+) -> Result<(), Fail> {
+    let row = Row {
+        items,
+        want,
+        ..EMPTY
+    };
+    expect_row(rt, alloc, INT_COLUMN, &row)
 }
 
 #[test]
-fn items_that_meet(rt: HostRuntime) -> Result<(), Fail> {
+fn headers_of_pages(rt: HostRuntime) -> Result<(), Fail> {
+    let live = [Item::Tuple(LIVE)];
+    let page = Row {
+        items: &live,
+        ..EMPTY
+    };
     let rows = [
-        // In no order, and none meets another.
-        HeapRun {
-            case: INT_COLUMN,
-            heap: &[
-                (12, &[0x28, 0x00, 0x00, 0x1f, 0x00, 0x20, 0x04, 0x20]),
-                (
-                    24,
-                    &[
-                        0xa0, 0x9f, 0x38, 0x00, 0xe0, 0x9f, 0x38, 0x00, 0x80, 0x9f, 0x38, 0x00,
-                        0xc0, 0x9f, 0x38, 0x00,
-                    ],
-                ),
-                (8096, INT_TUPLE),
-                (8160, INT_TUPLE),
-                (8064, INT_TUPLE),
-                (8128, INT_TUPLE),
-            ],
-            map: 0,
-            toast: &[],
-            code: 0,
-            text: "findings 0 unjudged 0\nverdict clean\n",
+        page,
+        Row {
+            over: &[(18, &[5])],
+            want: found(&["P1 heap block 0"]),
+            ..page
         },
-        // In no order: item 3 meets item 1, and item 4 items 2 and 3.
-        HeapRun {
-            case: INT_COLUMN,
-            heap: &[
-                (12, &[0x28, 0x00, 0x00, 0x1f, 0x00, 0x20, 0x04, 0x20]),
-                (
-                    24,
-                    &[
-                        0xa0, 0x9f, 0x38, 0x00, 0xe0, 0x9f, 0x38, 0x00, 0xb0, 0x9f, 0x38, 0x00,
-                        0xc8, 0x9f, 0x38, 0x00,
-                    ],
-                ),
-                (8096, INT_TUPLE),
-                (8160, INT_TUPLE),
-            ],
-            map: 0,
-            toast: &[],
-            code: 1,
-            text: "finding H2 heap block 0 item 3\nfinding H2 heap block 0 item 4\nfindings 2 unjudged 0\nverdict findings\n",
+        Row {
+            flags: 8,
+            want: found(&["P2 heap block 0"]),
+            ..page
         },
-        // Item 2 ends where item 1 begins, and item 3 where item 2 does.
-        HeapRun {
-            case: INT_COLUMN,
-            heap: &[
-                (12, &[0x24, 0x00, 0x00, 0x1f, 0x00, 0x20, 0x04, 0x20]),
-                (
-                    24,
-                    &[
-                        0xe0, 0x9f, 0x38, 0x00, 0xc0, 0x9f, 0x40, 0x00, 0xa0, 0x9f, 0x40, 0x00,
-                    ],
-                ),
-                (8160, INT_TUPLE),
-                (8128, INT_TUPLE),
-                (8096, INT_TUPLE),
-            ],
-            map: 0,
-            toast: &[],
-            code: 0,
-            text: "findings 0 unjudged 0\nverdict clean\n",
+        Row {
+            over: &[(12, &[29])],
+            want: found(&["P3 heap block 0"]),
+            ..page
         },
-        // Each below the one before it, but item 2 meets item 1, and item 3 item 2.
-        HeapRun {
-            case: INT_COLUMN,
-            heap: &[
-                (12, &[0x28, 0x00, 0x00, 0x1f, 0x00, 0x20, 0x04, 0x20]),
-                (
-                    24,
-                    &[
-                        0xe0, 0x9f, 0x38, 0x00, 0xc8, 0x9f, 0x38, 0x00, 0xb8, 0x9f, 0x30, 0x00,
-                        0x98, 0x9f, 0x38, 0x00,
-                    ],
-                ),
-                (8160, INT_TUPLE),
-                (8088, INT_TUPLE),
-            ],
-            map: 0,
-            toast: &[],
-            code: 1,
-            text: "finding H2 heap block 0 item 2\nfinding H2 heap block 0 item 3\nfindings 2 unjudged 0\nverdict findings\n",
-        },
-        // Item 6 lies where items 2, 4 and 5 would, which are unused, dead and misplaced; item 7 meets
-        // items 1 and 6.
-        HeapRun {
-            case: INT_COLUMN,
-            heap: &[
-                (12, &[0x34, 0x00, 0x00, 0x1f, 0x00, 0x20, 0x04, 0x20]),
-                (
-                    24,
-                    &[
-                        0xa0, 0x9f, 0x38, 0x00, 0xc0, 0x1f, 0x38, 0x00, 0x01, 0x00, 0x01, 0x00,
-                        0xc0, 0x9f, 0x39, 0x00, 0xc4, 0x9f, 0x38, 0x00, 0xc0, 0x9f, 0x38, 0x00,
-                        0xa8, 0x9f, 0x38, 0x00,
-                    ],
-                ),
-                (8096, INT_TUPLE),
-                (8128, INT_TUPLE),
-            ],
-            map: 0,
-            toast: &[],
-            code: 1,
-            text: "finding H1 heap block 0 item 5\nfinding H2 heap block 0 item 7\nfindings 2 unjudged 0\nverdict findings\n",
-        },
-        // Item 3 lies below the items before it, which are in no order, and item 4 meets it alone.
-        HeapRun {
-            case: INT_COLUMN,
-            heap: &[
-                (12, &[0x2c, 0x00, 0x00, 0x1f, 0x00, 0x20, 0x04, 0x20]),
-                (
-                    24,
-                    &[
-                        0xa0, 0x9f, 0x38, 0x00, 0xe0, 0x9f, 0x38, 0x00, 0x80, 0x9f, 0x38, 0x00,
-                        0x88, 0x9f, 0x30, 0x00, 0xc0, 0x9f, 0x38, 0x00,
-                    ],
-                ),
-                (8096, INT_TUPLE),
-                (8160, INT_TUPLE),
-                (8064, INT_TUPLE),
-                (8128, INT_TUPLE),
-            ],
-            map: 0,
-            toast: &[],
-            code: 1,
-            text: "finding H2 heap block 0 item 4\nfindings 1 unjudged 0\nverdict findings\n",
+        // A new page that isn't all zeros.
+        Row {
+            over: &[(12, &[0, 0, 0, 0, 0, 0, 0, 0])],
+            want: found(&["P4 heap block 0"]),
+            ..page
         },
     ];
-    for row in &rows {
-        expect_run(&rt, rt.alloc(), row)?;
+    for row in rows {
+        expect_row(&rt, rt.alloc(), INT_COLUMN, &row)?;
     }
     Ok(())
 }
 
 #[test]
-fn values_of_tuples(rt: HostRuntime) -> Result<(), Fail> {
-    let rows = [
-        // Attributes in short and long form, and one after padding.
-        HeapRun {
-            case: BOOL_AND_TEXT,
-            heap: &[
-                (12, &[0x20, 0x00, 0xb8, 0x1f, 0x00, 0x20, 0x04, 0x20]),
-                (24, &[0xe0, 0x9f, 0x38, 0x00, 0xb8, 0x9f, 0x44]),
-                (
-                    8160,
-                    &[
-                        0xbc, 0x02, 0x00, 0x00, 0x00, 0x00, 0x00, 0x00, 0x00, 0x00, 0x00, 0x00,
-                        0x00, 0x00, 0x00, 0x00, 0x01, 0x00, 0x02, 0x00, 0x02, 0x09, 0x18, 0x00,
-                        0x01, 0x07, 0x68, 0x69,
-                    ],
-                ),
-                (
-                    8120,
-                    &[
-                        0xbc, 0x02, 0x00, 0x00, 0x00, 0x00, 0x00, 0x00, 0x00, 0x00, 0x00, 0x00,
-                        0x00, 0x00, 0x00, 0x00, 0x02, 0x00, 0x02, 0x00, 0x02, 0x09, 0x18, 0x00,
-                        0x01, 0x00, 0x00, 0x00, 0x18, 0x00, 0x00, 0x00, 0x68, 0x69,
-                    ],
-                ),
-            ],
-            map: 0,
-            toast: &[],
-            code: 0,
-            text: "findings 0 unjudged 0\nverdict clean\n",
-        },
-        // A value that passes the end of its tuple.
-        HeapRun {
-            case: BOOL_AND_TEXT,
-            heap: &[
-                (12, &[0x1c, 0x00, 0xd8, 0x1f, 0x00, 0x20, 0x04, 0x20]),
-                (24, &[0xd8, 0x9f, 0x42]),
-                (
-                    8152,
-                    &[
-                        0xbc, 0x02, 0x00, 0x00, 0x00, 0x00, 0x00, 0x00, 0x00, 0x00, 0x00, 0x00,
-                        0x00, 0x00, 0x00, 0x00, 0x01, 0x00, 0x02, 0x00, 0x02, 0x09, 0x18, 0x00,
-                        0x01, 0x00, 0x00, 0x00, 0x18, 0x00, 0x00, 0x00, 0x68,
-                    ],
-                ),
-            ],
-            map: 0,
-            toast: &[],
-            code: 1,
-            text: "finding H17 heap block 0 item 1\nfindings 1 unjudged 0\nverdict findings\n",
-        },
-        // A value of another tag than a pointer.
-        HeapRun {
-            case: BOOL_AND_TEXT,
-            heap: &[
-                (12, &[0x1c, 0x00, 0xe0, 0x1f, 0x00, 0x20, 0x04, 0x20]),
-                (24, &[0xe0, 0x9f, 0x36]),
-                (
-                    8160,
-                    &[
-                        0xbc, 0x02, 0x00, 0x00, 0x00, 0x00, 0x00, 0x00, 0x00, 0x00, 0x00, 0x00,
-                        0x00, 0x00, 0x00, 0x00, 0x01, 0x00, 0x02, 0x00, 0x02, 0x09, 0x18, 0x00,
-                        0x01, 0x01, 0x07,
-                    ],
-                ),
-            ],
-            map: 0,
-            toast: &[],
-            code: 1,
-            text: "finding H18 heap block 0 item 1\nfindings 1 unjudged 0\nverdict findings\n",
-        },
-    ];
-    for row in &rows {
-        expect_run(&rt, rt.alloc(), row)?;
+fn places_of_items(rt: HostRuntime) -> Result<(), Fail> {
+    let alloc = rt.alloc();
+    let live = Item::Tuple(LIVE);
+    let first = found(&["H1 heap block 0 item 1"]);
+    let second = found(&["H1 heap block 0 item 2"]);
+    // An offset that is no multiple of 8, storage past the end, and too short for a header.
+    expect_items(&rt, alloc, &[normal(8161, 28)], first)?;
+    expect_items(&rt, alloc, &[live, normal(8168, 28)], second)?;
+    expect_items(&rt, alloc, &[live, normal(8160, 23)], second)?;
+    // Item 4 meets items 1 and 2, and item 5 all.
+    let both = found(&["H2 heap block 0 item 4", "H2 heap block 0 item 5"]);
+    let items = [live, live, live, normal(8136, 28), normal(8112, 64)];
+    expect_items(&rt, alloc, &items, both)?;
+    // Item 2 is item 1 again; a misplaced, a dead and an unused one meet nothing.
+    let mixed = found(&["H2 heap block 0 item 2", "H1 heap block 0 item 3"]);
+    let items = [live, normal(8160, 28), normal(8161, 28), DEAD, UNUSED];
+    expect_items(&rt, alloc, &items, mixed)?;
+    // Each below the one before it, and each ends where that one begins.
+    let close = [normal(8160, 32), normal(8128, 32), normal(8096, 32), live];
+    let want = found(&[
+        "H1 heap block 0 item 2",
+        "H1 heap block 0 item 3",
+        "H2 heap block 0 item 4",
+    ]);
+    expect_items(&rt, alloc, &close, want)
+}
+
+// One tuple of one number, and its report.
+type One<'a> = (Tuple<'a>, Want<'a>);
+
+fn expect_tuples(rt: &impl Abort, alloc: Global, rows: &[One<'_>]) -> Result<(), Fail> {
+    for (tuple, want) in rows {
+        expect_items(rt, alloc, &[Item::Tuple(*tuple)], *want)?;
     }
     Ok(())
 }
 
 #[test]
-fn chains_and_visibility(rt: HostRuntime) -> Result<(), Fail> {
+fn headers_of_tuples(rt: HostRuntime) -> Result<(), Fail> {
+    let multi = Tuple {
+        xmax: 5,
+        infomask: 0x1500,
+        ..LIVE
+    };
     let rows = [
-        // A redirect to an unused item.
-        HeapRun {
-            case: INT_COLUMN,
-            heap: &[
-                (12, &[0x20, 0x00, 0x00, 0x20, 0x00, 0x20, 0x04, 0x20]),
-                (24, &[0x02, 0x00, 0x01]),
-            ],
-            map: 0,
-            toast: &[],
-            code: 1,
-            text: "finding H3 heap block 0 item 1\nfindings 1 unjudged 0\nverdict findings\n",
-        },
-        // Two tuples that lead to one.
-        HeapRun {
-            case: INT_COLUMN,
-            heap: &[
-                (12, &[0x24, 0x00, 0xa0, 0x1f, 0x00, 0x20, 0x04, 0x20]),
-                (
-                    24,
-                    &[
-                        0xe0, 0x9f, 0x38, 0x00, 0xc0, 0x9f, 0x38, 0x00, 0xa0, 0x9f, 0x38,
-                    ],
-                ),
-                (
-                    8160,
-                    &[
-                        0xbc, 0x02, 0x00, 0x00, 0xbd, 0x02, 0x00, 0x00, 0x00, 0x00, 0x00, 0x00,
-                        0x00, 0x00, 0x00, 0x00, 0x03, 0x00, 0x01, 0x40, 0x00, 0x05, 0x18, 0x00,
-                        0x05,
-                    ],
-                ),
-                (
-                    8128,
-                    &[
-                        0xbc, 0x02, 0x00, 0x00, 0xbd, 0x02, 0x00, 0x00, 0x00, 0x00, 0x00, 0x00,
-                        0x00, 0x00, 0x00, 0x00, 0x03, 0x00, 0x01, 0x40, 0x00, 0x05, 0x18, 0x00,
-                        0x05,
-                    ],
-                ),
-                (
-                    8096,
-                    &[
-                        0xbd, 0x02, 0x00, 0x00, 0x00, 0x00, 0x00, 0x00, 0x00, 0x00, 0x00, 0x00,
-                        0x00, 0x00, 0x00, 0x00, 0x03, 0x00, 0x01, 0x80, 0x00, 0x29, 0x18, 0x00,
-                        0x05,
-                    ],
-                ),
-            ],
-            map: 0,
-            toast: &[],
-            code: 1,
-            text: "finding H15 heap block 0 item 2\nfindings 1 unjudged 0\nverdict findings\n",
-        },
-        // A heap-only tuple to which nothing leads.
-        HeapRun {
-            case: INT_COLUMN,
-            heap: &[
-                (12, &[0x1c, 0x00, 0xe0, 0x1f, 0x00, 0x20, 0x04, 0x20]),
-                (24, &[0xe0, 0x9f, 0x38]),
-                (
-                    8160,
-                    &[
-                        0xbc, 0x02, 0x00, 0x00, 0x00, 0x00, 0x00, 0x00, 0x00, 0x00, 0x00, 0x00,
-                        0x00, 0x00, 0x00, 0x00, 0x01, 0x00, 0x01, 0x80, 0x00, 0x29, 0x18, 0x00,
-                        0x05,
-                    ],
-                ),
-            ],
-            map: 0,
-            toast: &[],
-            code: 1,
-            text: "finding H16 heap block 0 item 1\nfindings 1 unjudged 0\nverdict findings\n",
-        },
-        // A pruned chain.
-        HeapRun {
-            case: INT_COLUMN,
-            heap: &[
-                (12, &[0x28, 0x00, 0xe0, 0x1f, 0x00, 0x20, 0x04, 0x20]),
-                (
-                    24,
-                    &[
-                        0x04, 0x00, 0x01, 0x00, 0x00, 0x00, 0x00, 0x00, 0x00, 0x00, 0x00, 0x00,
-                        0xe0, 0x9f, 0x38,
-                    ],
-                ),
-                (
-                    8160,
-                    &[
-                        0xbd, 0x02, 0x00, 0x00, 0x00, 0x00, 0x00, 0x00, 0x00, 0x00, 0x00, 0x00,
-                        0x00, 0x00, 0x00, 0x00, 0x04, 0x00, 0x01, 0x80, 0x00, 0x29, 0x18, 0x00,
-                        0x07,
-                    ],
-                ),
-            ],
-            map: 0,
-            toast: &[],
-            code: 0,
-            text: "findings 0 unjudged 0\nverdict clean\n",
-        },
-        // A chain whose updater is in a multixact.
-        HeapRun {
-            case: INT_COLUMN,
-            heap: &[
-                (12, &[0x20, 0x00, 0xc0, 0x1f, 0x00, 0x20, 0x04, 0x20]),
-                (24, &[0xe0, 0x9f, 0x38, 0x00, 0xc0, 0x9f, 0x38]),
-                (
-                    8160,
-                    &[
-                        0xbc, 0x02, 0x00, 0x00, 0x05, 0x00, 0x00, 0x00, 0x00, 0x00, 0x00, 0x00,
-                        0x00, 0x00, 0x00, 0x00, 0x02, 0x00, 0x01, 0x40, 0x00, 0x11, 0x18, 0x00,
-                        0x07,
-                    ],
-                ),
-                (
-                    8128,
-                    &[
-                        0xc8, 0x02, 0x00, 0x00, 0x00, 0x00, 0x00, 0x00, 0x00, 0x00, 0x00, 0x00,
-                        0x00, 0x00, 0x00, 0x00, 0x02, 0x00, 0x01, 0x80, 0x00, 0x28, 0x18, 0x00,
-                        0x09,
-                    ],
-                ),
-            ],
-            map: 0,
-            toast: &[],
-            code: 0,
-            text: "findings 0 unjudged 0\nverdict clean\n",
-        },
-        // A dead tuple on a page that is called all-visible.
-        HeapRun {
-            case: INT_COLUMN,
-            heap: &[
-                (10, &[0x04]),
-                (12, &[0x1c, 0x00, 0xe0, 0x1f, 0x00, 0x20, 0x04, 0x20]),
-                (24, &[0xe0, 0x9f, 0x38]),
-                (
-                    8160,
-                    &[
-                        0xbc, 0x02, 0x00, 0x00, 0xbd, 0x02, 0x00, 0x00, 0x00, 0x00, 0x00, 0x00,
-                        0x00, 0x00, 0x00, 0x00, 0x01, 0x00, 0x01, 0x00, 0x00, 0x05, 0x18, 0x00,
-                        0x05,
-                    ],
-                ),
-            ],
-            map: 1,
-            toast: &[],
-            code: 1,
-            text: "finding V3 heap block 0\nfindings 1 unjudged 0\nverdict findings\n",
-        },
-        // A block that is frozen and not visible.
-        HeapRun {
-            case: INT_COLUMN,
-            heap: &[
-                (10, &[0x04]),
-                (12, &[0x1c, 0x00, 0xe0, 0x1f, 0x00, 0x20, 0x04, 0x20]),
-                (24, &[0xe0, 0x9f, 0x38]),
-                (
-                    8160,
-                    &[
-                        0xbc, 0x02, 0x00, 0x00, 0x00, 0x00, 0x00, 0x00, 0x00, 0x00, 0x00, 0x00,
-                        0x00, 0x00, 0x00, 0x00, 0x01, 0x00, 0x01, 0x00, 0x00, 0x09, 0x18, 0x00,
-                        0x05,
-                    ],
-                ),
-            ],
+        (LIVE, NOTHING),
+        (
+            Tuple {
+                infomask: 0x4900,
+                ..LIVE
+            },
+            in_doubt(&["U1 heap block 0 item 1"]),
+        ),
+        (
+            Tuple {
+                infomask2: 2,
+                ..LIVE
+            },
+            found(&["H4 heap block 0 item 1"]),
+        ),
+        (
+            Tuple { hoff: 32, ..LIVE },
+            found(&["H5 heap block 0 item 1"]),
+        ),
+        (multi, found(&["H6 heap block 0 item 1"])),
+        (
+            Tuple {
+                infomask2: 0x4001,
+                infomask: 0x0100,
+                ..LIVE
+            },
+            found(&["H7 heap block 0 item 1"]),
+        ),
+        (
+            Tuple {
+                infomask2: 0x8001,
+                ..LIVE
+            },
+            found(&["H8 heap block 0 item 1"]),
+        ),
+    ];
+    expect_tuples(&rt, rt.alloc(), &rows)
+}
+
+#[test]
+fn lives_of_tuples(rt: HostRuntime) -> Result<(), Fail> {
+    let multi = Tuple {
+        infomask: 0x1100,
+        ..LIVE
+    };
+    let rows = [
+        (
+            Tuple { xmin: 1000, ..LIVE },
+            found(&["H9 heap block 0 item 1"]),
+        ),
+        (Tuple { xmin: 999, ..LIVE }, NOTHING),
+        (
+            Tuple { xmax: 10, ..multi },
+            found(&["H10 heap block 0 item 1"]),
+        ),
+        (
+            Tuple {
+                xmax: 1000,
+                infomask: 0x0100,
+                ..LIVE
+            },
+            found(&["H11 heap block 0 item 1"]),
+        ),
+        (
+            Tuple { xmax: 7, ..multi },
+            in_doubt(&["U2 heap block 0 item 1"]),
+        ),
+        (
+            Tuple { xmax: 8, ..multi },
+            in_doubt(&["U3 heap block 0 item 1"]),
+        ),
+        (Tuple { xmax: 5, ..multi }, NOTHING),
+    ];
+    expect_tuples(&rt, rt.alloc(), &rows)
+}
+
+// An updated tuple whose updater stands in multixact 5, and its successor, both without hints.
+fn updated_by_multixact(alloc: Global) -> Result<MemFiles, Fail> {
+    let old = Tuple {
+        xmax: 5,
+        infomask: 0x1100,
+        ..UPDATED
+    };
+    let new = Tuple {
+        xmin: 712,
+        infomask: 0x2800,
+        ..SUCCESSOR
+    };
+    let row = Row {
+        items: &[Item::Tuple(old), Item::Tuple(new)],
+        ..EMPTY
+    };
+    files_of(alloc, INT_COLUMN, &row)
+}
+
+#[test]
+fn logs_that_end_early(rt: HostRuntime) -> Result<(), Fail> {
+    let alloc = rt.alloc();
+    let both = found(&["H12 heap block 0 item 1", "H12 heap block 0 item 2"]);
+    let multixact = found(&["H13 heap block 0 item 1"]);
+    let rows = [
+        ("xact", 8192, NOTHING),
+        ("xact", 178, both),
+        ("offsets", 24, multixact),
+        ("offsets", 20, multixact),
+        ("members", 19, multixact),
+        ("members", 20, NOTHING),
+    ];
+    for (log, len, want) in rows {
+        let mut files = updated_by_multixact(alloc)?;
+        assert!(rt; files.cut(log, Part::Slru(0), len));
+        expect_heap(&rt, alloc, &mut files, want)?;
+    }
+    Ok(())
+}
+
+#[test]
+fn chains(rt: HostRuntime) -> Result<(), Fail> {
+    let alloc = rt.alloc();
+    let old = Item::Tuple(UPDATED);
+    let new = Item::Tuple(SUCCESSOR);
+    let first = found(&["H3 heap block 0 item 1"]);
+    expect_items(&rt, alloc, &[redirect(2), UNUSED], first)?;
+    expect_items(&rt, alloc, &[redirect(2), new], NOTHING)?;
+    let circle = found(&["H3 heap block 0 item 1", "H3 heap block 0 item 2"]);
+    expect_items(&rt, alloc, &[redirect(2), redirect(1)], circle)?;
+    expect_items(&rt, alloc, &[old, new], NOTHING)?;
+    expect_heap(&rt, alloc, &mut updated_by_multixact(alloc)?, NOTHING)?;
+    // A successor that an index may name.
+    let lone = Item::Tuple(Tuple {
+        infomask2: 1,
+        ..SUCCESSOR
+    });
+    expect_items(
+        &rt,
+        alloc,
+        &[old, lone],
+        found(&["H14 heap block 0 item 1"]),
+    )?;
+    // Two that lead to one.
+    let old = Item::Tuple(Tuple { item: 3, ..UPDATED });
+    let new = Item::Tuple(Tuple {
+        item: 3,
+        ..SUCCESSOR
+    });
+    expect_items(
+        &rt,
+        alloc,
+        &[old, old, new],
+        found(&["H15 heap block 0 item 2"]),
+    )?;
+    // One to which nothing leads.
+    let lost = Item::Tuple(Tuple {
+        xmin: 700,
+        item: 1,
+        ..SUCCESSOR
+    });
+    expect_items(&rt, alloc, &[lost], found(&["H16 heap block 0 item 1"]))?;
+    // Two dead ones that lead to one another, and no root to them.
+    let dead = Tuple {
+        xmin: 701,
+        infomask2: 0xc001,
+        infomask: 0x2500,
+        ..UPDATED
+    };
+    let items = [Item::Tuple(dead), Item::Tuple(Tuple { item: 1, ..dead })];
+    expect_items(&rt, alloc, &items, NOTHING)
+}
+
+#[test]
+fn visibility(rt: HostRuntime) -> Result<(), Fail> {
+    let live = [Item::Tuple(LIVE)];
+    let gone = [Item::Tuple(Tuple {
+        xmax: 701,
+        infomask: 0x0500,
+        ..LIVE
+    })];
+    let frozen = [Item::Tuple(Tuple {
+        infomask: 0x0b00,
+        ..LIVE
+    })];
+    let visible = Row {
+        flags: 4,
+        items: &live,
+        map: 1,
+        ..EMPTY
+    };
+    let rows = [
+        visible,
+        Row {
             map: 2,
-            toast: &[],
-            code: 1,
-            text: "finding V1 heap block 0\nfindings 1 unjudged 0\nverdict findings\n",
+            want: found(&["V1 heap block 0"]),
+            ..visible
         },
-        // A block that is called frozen, with a tuple that needs freezing.
-        HeapRun {
-            case: INT_COLUMN,
-            heap: &[
-                (10, &[0x04]),
-                (12, &[0x1c, 0x00, 0xe0, 0x1f, 0x00, 0x20, 0x04, 0x20]),
-                (24, &[0xe0, 0x9f, 0x38]),
-                (
-                    8160,
-                    &[
-                        0xbc, 0x02, 0x00, 0x00, 0x00, 0x00, 0x00, 0x00, 0x00, 0x00, 0x00, 0x00,
-                        0x00, 0x00, 0x00, 0x00, 0x01, 0x00, 0x01, 0x00, 0x00, 0x09, 0x18, 0x00,
-                        0x05,
-                    ],
-                ),
-            ],
+        Row {
+            flags: 0,
+            want: found(&["V2 heap block 0"]),
+            ..visible
+        },
+        Row {
+            items: &gone,
+            want: found(&["V3 heap block 0"]),
+            ..visible
+        },
+        Row {
+            items: &[DEAD],
+            map: 0,
+            want: found(&["V3 heap block 0"]),
+            ..visible
+        },
+        Row {
             map: 3,
-            toast: &[],
-            code: 1,
-            text: "finding V4 heap block 0\nfindings 1 unjudged 0\nverdict findings\n",
+            want: found(&["V4 heap block 0"]),
+            ..visible
         },
-        // A visible block.
-        HeapRun {
-            case: INT_COLUMN,
-            heap: &[
-                (10, &[0x04]),
-                (12, &[0x1c, 0x00, 0xe0, 0x1f, 0x00, 0x20, 0x04, 0x20]),
-                (24, &[0xe0, 0x9f, 0x38]),
-                (
-                    8160,
-                    &[
-                        0xbc, 0x02, 0x00, 0x00, 0x00, 0x00, 0x00, 0x00, 0x00, 0x00, 0x00, 0x00,
-                        0x00, 0x00, 0x00, 0x00, 0x01, 0x00, 0x01, 0x00, 0x00, 0x09, 0x18, 0x00,
-                        0x05,
-                    ],
-                ),
-            ],
-            map: 1,
-            toast: &[],
-            code: 0,
-            text: "findings 0 unjudged 0\nverdict clean\n",
-        },
-        // A bit without the flag of the page.
-        HeapRun {
-            case: INT_COLUMN,
-            heap: &[
-                (12, &[0x1c, 0x00, 0xe0, 0x1f, 0x00, 0x20, 0x04, 0x20]),
-                (24, &[0xe0, 0x9f, 0x38]),
-                (
-                    8160,
-                    &[
-                        0xbc, 0x02, 0x00, 0x00, 0x00, 0x00, 0x00, 0x00, 0x00, 0x00, 0x00, 0x00,
-                        0x00, 0x00, 0x00, 0x00, 0x01, 0x00, 0x01, 0x00, 0x00, 0x09, 0x18, 0x00,
-                        0x05,
-                    ],
-                ),
-            ],
-            map: 1,
-            toast: &[],
-            code: 1,
-            text: "finding V2 heap block 0\nfindings 1 unjudged 0\nverdict findings\n",
+        Row {
+            items: &frozen,
+            map: 3,
+            ..visible
         },
     ];
-    for row in &rows {
-        expect_run(&rt, rt.alloc(), row)?;
+    for row in rows {
+        expect_row(&rt, rt.alloc(), INT_COLUMN, &row)?;
     }
     Ok(())
+}
+
+#[test]
+fn values(rt: HostRuntime) -> Result<(), Fail> {
+    let bodies: [(&[u8], Want<'_>); 4] = [
+        (b"\x01\x07hi", NOTHING),
+        (b"\x01\0\0\0\x18\0\0\0hi", NOTHING),
+        (
+            b"\x01\0\0\0\x18\0\0\0h",
+            found(&["H17 heap block 0 item 1"]),
+        ),
+        (b"\x01\x01\x07", found(&["H18 heap block 0 item 1"])),
+    ];
+    for (body, want) in bodies {
+        let tuple = Tuple {
+            infomask2: 2,
+            infomask: 0x0902,
+            body,
+            ..LIVE
+        };
+        let row = Row {
+            items: &[Item::Tuple(tuple)],
+            want,
+            ..EMPTY
+        };
+        expect_row(&rt, rt.alloc(), BOOL_AND_TEXT, &row)?;
+    }
+    Ok(())
+}
+
+// A pointer of these sizes, before compression and stored.
+fn pointer_of(raw: u32, stored: u32) -> [u8; 18] {
+    let mut pointer = [0u8; 18];
+    pointer.copy_from_slice(POINTER);
+    pointer[2..6].copy_from_slice(&raw.to_le_bytes());
+    pointer[6..10].copy_from_slice(&stored.to_le_bytes());
+    pointer
 }
 
 #[test]
 fn values_in_the_toast_table(rt: HostRuntime) -> Result<(), Fail> {
+    let alloc = rt.alloc();
     let rows = [
-        // A value of two chunks, one of which is there.
-        HeapRun {
-            case: TEXT_IN_TOAST,
-            heap: &[
-                (12, &[0x1c, 0x00, 0xd0, 0x1f, 0x00, 0x20, 0x04, 0x20]),
-                (24, &[0xd0, 0x9f, 0x54]),
-                (
-                    8144,
-                    &[
-                        0xbc, 0x02, 0x00, 0x00, 0x00, 0x00, 0x00, 0x00, 0x00, 0x00, 0x00, 0x00,
-                        0x00, 0x00, 0x00, 0x00, 0x01, 0x00, 0x01, 0x00, 0x06, 0x09, 0x18, 0x00,
-                        0x01, 0x12, 0xd1, 0x07, 0x00, 0x00, 0xcd, 0x07, 0x00, 0x00, 0x74, 0x40,
-                        0x00, 0x00, 0x10, 0x40,
-                    ],
-                ),
-            ],
-            map: 0,
-            toast: TOAST,
-            code: 1,
-            text: "finding H21 heap block 0 item 1 column 1\nfindings 1 unjudged 0\nverdict findings\n",
-        },
-        // A value of one chunk.
-        HeapRun {
-            case: TEXT_IN_TOAST,
-            heap: &[
-                (12, &[0x1c, 0x00, 0xd0, 0x1f, 0x00, 0x20, 0x04, 0x20]),
-                (24, &[0xd0, 0x9f, 0x54]),
-                (
-                    8144,
-                    &[
-                        0xbc, 0x02, 0x00, 0x00, 0x00, 0x00, 0x00, 0x00, 0x00, 0x00, 0x00, 0x00,
-                        0x00, 0x00, 0x00, 0x00, 0x01, 0x00, 0x01, 0x00, 0x06, 0x09, 0x18, 0x00,
-                        0x01, 0x12, 0xd0, 0x07, 0x00, 0x00, 0xcc, 0x07, 0x00, 0x00, 0x74, 0x40,
-                        0x00, 0x00, 0x10, 0x40,
-                    ],
-                ),
-            ],
-            map: 0,
-            toast: TOAST,
-            code: 0,
-            text: "findings 0 unjudged 0\nverdict clean\n",
-        },
-        // A value of which the header tells nothing.
-        HeapRun {
-            case: TEXT_IN_TOAST,
-            heap: &[
-                (12, &[0x1c, 0x00, 0xd0, 0x1f, 0x00, 0x20, 0x04, 0x20]),
-                (24, &[0xd0, 0x9f, 0x54]),
-                (
-                    8144,
-                    &[
-                        0xbc, 0x02, 0x00, 0x00, 0x00, 0x00, 0x00, 0x00, 0x00, 0x00, 0x00, 0x00,
-                        0x00, 0x00, 0x00, 0x00, 0x01, 0x00, 0x01, 0x00, 0x02, 0x09, 0x18, 0x00,
-                        0x01, 0x12, 0xd0, 0x07, 0x00, 0x00, 0xcc, 0x07, 0x00, 0x00, 0x74, 0x40,
-                        0x00, 0x00, 0x10, 0x40,
-                    ],
-                ),
-            ],
-            map: 0,
-            toast: TOAST,
-            code: 1,
-            text: "finding H19 heap block 0 item 1\nfindings 1 unjudged 0\nverdict findings\n",
-        },
-        // A value of fewer bytes than a header has.
-        HeapRun {
-            case: TEXT_IN_TOAST,
-            heap: &[
-                (12, &[0x1c, 0x00, 0xd0, 0x1f, 0x00, 0x20, 0x04, 0x20]),
-                (24, &[0xd0, 0x9f, 0x54]),
-                (
-                    8144,
-                    &[
-                        0xbc, 0x02, 0x00, 0x00, 0x00, 0x00, 0x00, 0x00, 0x00, 0x00, 0x00, 0x00,
-                        0x00, 0x00, 0x00, 0x00, 0x01, 0x00, 0x01, 0x00, 0x06, 0x09, 0x18, 0x00,
-                        0x01, 0x12, 0x03, 0x00, 0x00, 0x00, 0xcc, 0x07, 0x00, 0x00, 0x74, 0x40,
-                        0x00, 0x00, 0x10, 0x40,
-                    ],
-                ),
-            ],
-            map: 0,
-            toast: TOAST,
-            code: 1,
-            text: "finding H20 heap block 0 item 1\nfindings 1 unjudged 0\nverdict findings\n",
-        },
-        // A value whose TOAST table is not there.
-        HeapRun {
-            case: TEXT_IN_TOAST,
-            heap: &[
-                (12, &[0x1c, 0x00, 0xd0, 0x1f, 0x00, 0x20, 0x04, 0x20]),
-                (24, &[0xd0, 0x9f, 0x54]),
-                (
-                    8144,
-                    &[
-                        0xbc, 0x02, 0x00, 0x00, 0x00, 0x00, 0x00, 0x00, 0x00, 0x00, 0x00, 0x00,
-                        0x00, 0x00, 0x00, 0x00, 0x01, 0x00, 0x01, 0x00, 0x06, 0x09, 0x18, 0x00,
-                        0x01, 0x12, 0xd0, 0x07, 0x00, 0x00, 0xcc, 0x07, 0x00, 0x00, 0x74, 0x40,
-                        0x00, 0x00, 0x10, 0x40,
-                    ],
-                ),
-            ],
-            map: 0,
-            toast: &[],
-            code: 5,
-            text: "refused no file tt\n",
-        },
+        (EXTERNAL.infomask, 2000, 1996, NOTHING),
+        (
+            EXTERNAL.infomask,
+            2001,
+            1997,
+            found(&["H21 heap block 0 item 1 column 1"]),
+        ),
+        (0x0902, 2000, 1996, found(&["H19 heap block 0 item 1"])),
+        (
+            EXTERNAL.infomask,
+            3,
+            1996,
+            found(&["H20 heap block 0 item 1"]),
+        ),
     ];
-    for row in &rows {
-        expect_run(&rt, rt.alloc(), row)?;
+    for (infomask, raw, stored, want) in rows {
+        let pointer = pointer_of(raw, stored);
+        let tuple = Tuple {
+            infomask,
+            body: &pointer,
+            ..LIVE
+        };
+        let row = Row {
+            items: &[Item::Tuple(tuple)],
+            want,
+            ..EMPTY
+        };
+        let mut files = files_of(alloc, TEXT_IN_TOAST, &row)?;
+        files.add("tt", Part::Segment(0), &chunk_page(0, 1996))?;
+        expect_heap(&rt, alloc, &mut files, want)?;
+        assert!(rt; files.forget("tt", Part::Segment(0)));
+        let words = ["heap", "case.toml"];
+        expect(&rt, alloc, &words, &mut files, (5, "refused no file tt\n"))?;
     }
     Ok(())
 }
 
-// A heap of three blocks in segments of two: the chain on the last names that block.
 #[test]
-fn chains_in_a_later_segment(rt: HostRuntime) -> Result<(), Fail> {
+fn toast_tables_are_judged(rt: HostRuntime) -> Result<(), Fail> {
     let alloc = rt.alloc();
-    let mut files = MemFiles::new(alloc);
+    let mut files = files_of(alloc, TEXT_IN_TOAST, &EMPTY)?;
+    let late = Tuple {
+        xmin: 1000,
+        infomask2: 3,
+        ..LIVE
+    };
+    files.add("tt", Part::Segment(0), &page_of(0, &[Item::Tuple(late)]))?;
+    expect_heap(&rt, alloc, &mut files, found(&["H9 toast block 0 item 1"]))
+}
+
+// A case with segments of two blocks, and so many pages of one live tuple each in its first segment.
+fn in_segments(alloc: Global, pages: u8, more: &[u8]) -> Result<MemFiles, Fail> {
+    let mut heap = Vec::new(alloc);
+    for block in 0..pages {
+        let tuple = Tuple {
+            block: u16::from(block),
+            ..LIVE
+        };
+        heap.extend_from_slice(&page_of(0, &[Item::Tuple(tuple)]))?;
+    }
+    heap.extend_from_slice(more)?;
     let text = format!(in alloc; "segment_blocks = 2\n{CLUSTER}{INT_COLUMN}")?;
-    files.add("case.toml", Part::Segment(0), text.as_bytes())?;
-    let mut first = vec![in alloc; 0u8; 16384]?;
-    first[..8192].copy_from_slice(&page_of(&[
-        (12, &[0x1c, 0x00, 0xe0, 0x1f, 0x00, 0x20, 0x04, 0x20]),
-        (24, &[0xe0, 0x9f, 0x38]),
-        (
-            8160,
-            &[
-                0xbc, 0x02, 0x00, 0x00, 0x00, 0x00, 0x00, 0x00, 0x00, 0x00, 0x00, 0x00, 0x00, 0x00,
-                0x00, 0x00, 0x01, 0x00, 0x01, 0x00, 0x00, 0x09, 0x18, 0x00, 0x05,
-            ],
-        ),
-    ]));
-    first[8192..].copy_from_slice(&page_of(&[
-        (12, &[0x1c, 0x00, 0xe0, 0x1f, 0x00, 0x20, 0x04, 0x20]),
-        (24, &[0xe0, 0x9f, 0x38]),
-        (
-            8160,
-            &[
-                0xbc, 0x02, 0x00, 0x00, 0x00, 0x00, 0x00, 0x00, 0x00, 0x00, 0x00, 0x00, 0x00, 0x00,
-                0x01, 0x00, 0x01, 0x00, 0x01, 0x00, 0x00, 0x09, 0x18, 0x00, 0x05,
-            ],
-        ),
-    ]));
-    let last = page_of(&[
-        (12, &[0x20, 0x00, 0xc0, 0x1f, 0x00, 0x20, 0x04, 0x20]),
-        (24, &[0xe0, 0x9f, 0x38, 0x00, 0xc0, 0x9f, 0x38]),
-        (
-            8160,
-            &[
-                0xbc, 0x02, 0x00, 0x00, 0xbd, 0x02, 0x00, 0x00, 0x00, 0x00, 0x00, 0x00, 0x00, 0x00,
-                0x02, 0x00, 0x02, 0x00, 0x01, 0x40, 0x00, 0x05, 0x18, 0x00, 0x05,
-            ],
-        ),
-        (
-            8128,
-            &[
-                0xbd, 0x02, 0x00, 0x00, 0x00, 0x00, 0x00, 0x00, 0x00, 0x00, 0x00, 0x00, 0x00, 0x00,
-                0x02, 0x00, 0x02, 0x00, 0x01, 0x80, 0x00, 0x29, 0x18, 0x00, 0x05,
-            ],
-        ),
-    ]);
-    files.add("t", Part::Segment(0), &first)?;
-    files.add("t", Part::Segment(1), &last)?;
-    add_logs(&mut files)?;
-    let clean = (0, "findings 0 unjudged 0\nverdict clean\n");
-    expect(&rt, alloc, &["heap", "case.toml"], &mut files, clean)
+    case_files(alloc, text.as_str(), &heap)
 }
 
-// Runs `heap` on a new page with a map of these bytes.
-fn expect_map(
-    rt: &impl Abort,
-    alloc: Global,
-    segment_blocks: u32,
-    map: &[u8],
-    want: (u8, &str),
-) -> Result<(), Fail> {
-    let mut files = MemFiles::new(alloc);
-    let text = format!(in alloc; "segment_blocks = {segment_blocks}\n{CLUSTER}{INT_COLUMN}")?;
-    files.add("case.toml", Part::Segment(0), text.as_bytes())?;
-    files.add("t", Part::Segment(0), &[0u8; 8192])?;
-    files.add("t_vm", Part::Segment(0), map)?;
-    expect(rt, alloc, &["heap", "case.toml"], &mut files, want)
-}
-
-// Of a map of two pages the second has no bits of the heap's blocks and isn't read; a part of a page is none.
 #[test]
-fn maps_of_other_sizes(rt: HostRuntime) -> Result<(), Fail> {
+fn segments(rt: HostRuntime) -> Result<(), Fail> {
     let alloc = rt.alloc();
-    let clean = (0, "findings 0 unjudged 0\nverdict clean\n");
-    let bad_page = "finding P1 map block 0\nfindings 1 unjudged 0\nverdict findings\n";
-    let long = "finding S1 map segment 0\nfindings 1 unjudged 0\nverdict findings\n";
-    expect_map(&rt, alloc, 131072, &[1u8; 16384], (1, bad_page))?;
-    expect_map(&rt, alloc, 131072, &[1u8; 8191], clean)?;
-    expect_map(&rt, alloc, 1, &[0u8; 8192], clean)?;
-    expect_map(&rt, alloc, 1, &[0u8; 16384], (1, long))
+    let mut files = in_segments(alloc, 2, &[0; 100])?;
+    expect_heap(&rt, alloc, &mut files, NOTHING)?;
+    let mut files = in_segments(alloc, 3, &[])?;
+    expect_heap(&rt, alloc, &mut files, found(&["S1 heap segment 0"]))?;
+    // A chain in the second segment names that block.
+    let mut files = in_segments(alloc, 2, &[])?;
+    let old = Tuple {
+        block: 2,
+        ..UPDATED
+    };
+    let new = Tuple {
+        block: 2,
+        ..SUCCESSOR
+    };
+    files.add(
+        "t",
+        Part::Segment(1),
+        &page_of(0, &[Item::Tuple(old), Item::Tuple(new)]),
+    )?;
+    expect_heap(&rt, alloc, &mut files, NOTHING)?;
+    // The first segment is cut in its second block, and then the second segment is none of the heap's.
+    assert!(rt; files.cut("t", Part::Segment(0), 12288));
+    expect_heap(&rt, alloc, &mut files, NOTHING)
+}
+
+// A table on a new page with a map of these bytes.
+fn expect_map(rt: &impl Abort, alloc: Global, map: &[u8], want: Want<'_>) -> Result<(), Fail> {
+    let text = format!(in alloc; "{CLUSTER}{INT_COLUMN}")?;
+    let mut files = case_files(alloc, text.as_str(), &[0u8; 8192])?;
+    files.add("t_vm", Part::Segment(0), map)?;
+    expect_heap(rt, alloc, &mut files, want)
+}
+
+// Of a map of two pages the second has no bits of the heap's blocks and isn't read; a part of a page is none. A page
+// that breaks a rule gives no bits.
+#[test]
+fn maps(rt: HostRuntime) -> Result<(), Fail> {
+    let alloc = rt.alloc();
+    expect_map(&rt, alloc, &map_page(0), NOTHING)?;
+    expect_map(&rt, alloc, &map_page(1), found(&["V2 heap block 0"]))?;
+    expect_map(&rt, alloc, &[1; 8191], NOTHING)?;
+    let mut two = Vec::from_slice(alloc, &map_page(0))?;
+    two.extend_from_slice(&[1u8; 8192])?;
+    expect_map(&rt, alloc, &two, NOTHING)?;
+    let mut bad = map_page(1);
+    put(&mut bad, 18, &[5]);
+    expect_map(&rt, alloc, &bad, found(&["P1 map block 0"]))
 }

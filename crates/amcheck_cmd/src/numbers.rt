@@ -1,4 +1,4 @@
-// The numbers that words write.
+//! The numbers that words write.
 ghost use Rattle.std.specs.Prelude.{◌≡◌, ◌↔◌, ℕ, Some};
 ghost use Rattle.amcheck_cmd.specs.Numbers.{WritesBlock, block_written};
 

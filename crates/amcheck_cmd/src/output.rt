@@ -1,6 +1,7 @@
-// What a run is to write, and the code that it answers.
+//! What a run is to write, and the code that it answers.
 ghost use Rattle.std.specs.Prelude.{◌≡◌, IfOk};
-ghost use Rattle.amcheck_cmd.specs.Outcome.{case_refused, no_block, no_file, reported, text_too_large, too_large, usage, verdict_code};
+ghost use Rattle.amcheck_cmd.specs.Outcome.{case_refused, no_block, no_file, reported, text_too_large, too_large};
+ghost use Rattle.amcheck_cmd.specs.Outcome.{usage, verdict_code};
 ghost use Rattle.amcheck_cmd.specs.Seen.{outcome_seen};
 
 use case_file::CaseRule;

@@ -1,5 +1,5 @@
-// The command `pages`: judges the pages of one heap file.
-ghost use Rattle.std.specs.Prelude.{◌≡◌, ◌+◌, ◌*◌, ◌/◌, ◌≤◌, ◌++◌, [], Some, length, IfOk, OnOk};
+//! The command `pages`: judges the pages of one heap file.
+ghost use Rattle.std.specs.Prelude.{◌≡◌, ◌≢◌, ◌+◌, ◌*◌, ◌/◌, ◌≤◌, ◌++◌, [], Some, length, IfOk, OnOk};
 ghost use Rattle.outside.specs.declared.files.Part.TheVariants.{Segment};
 ghost use Rattle.outside.specs.Outside.{Asked, IfHeld, IsHeldAnd, Tells};
 ghost use Rattle.heap_check.specs.Below.{each_below};
@@ -67,6 +67,7 @@ fn judged_output<F: Files>(
     ensures output { IfOk result (λ o. IfHeld F.seen files.old file.now (Segment 0)
         (λ bytes. outcome_seen o ≡ reported (record { findings = file_findings (Some bytes); unjudged = [] }))) }
     ensures code { IfOk result (λ o. o.code ≤ 6) }
+    ensures formed { IfOk result (λ o. o.code ≢ 3) }
     ensures asked { Asked F.seen files.old files.new result RunFault.ReadFault }
 {
     let mut report = Report::new(alloc);
@@ -77,8 +78,10 @@ fn judged_output<F: Files>(
 /// The output of `pages`: the report on the file's whole blocks of 8192 bytes, or why there is none.
 #[tactic(auto, unfolding(crate::specs::Outcome::pages_outcome))]
 pub fn pages_output<F: Files>(alloc: Global, files: &mut F, file: &str) -> Result<Output, RunFault>
-    ensures output { Tells F.seen files.old result (λ o names. outcome_seen o ≡ pages_outcome file.now (names file.now (Segment 0))) }
+    ensures output { Tells F.seen files.old result (λ o names.
+        outcome_seen o ≡ pages_outcome file.now (names file.now (Segment 0))) }
     ensures code { IfOk result (λ o. o.code ≤ 6) }
+    ensures formed { IfOk result (λ o. o.code ≢ 3) }
     ensures asked { Asked F.seen files.old files.new result RunFault.ReadFault }
 {
     match open_file(alloc, files, file)? {

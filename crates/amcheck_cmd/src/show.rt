@@ -1,5 +1,5 @@
-// The command `show`: prints one page of one file.
-ghost use Rattle.std.specs.Prelude.{◌≡◌, ◌+◌, ◌*◌, ◌≤◌, Some, length, IfOk};
+//! The command `show`: prints one page of one file.
+ghost use Rattle.std.specs.Prelude.{◌≡◌, ◌≢◌, ◌+◌, ◌*◌, ◌≤◌, Some, length, IfOk};
 ghost use Rattle.outside.specs.declared.files.Part.TheVariants.{Segment};
 ghost use Rattle.outside.specs.Outside.{Asked, IfHeld, IsHeldAnd, Tells};
 ghost use Rattle.page_layout.specs.View.{page_bytes};
@@ -57,8 +57,10 @@ pub fn show_output<F: Files>(
     file: &str,
     block: u32,
 ) -> Result<Output, RunFault>
-    ensures output { Tells F.seen files.old result (λ o names. outcome_seen o ≡ show_outcome of file.now block (names file.now (Segment 0))) }
+    ensures output { Tells F.seen files.old result (λ o names.
+        outcome_seen o ≡ show_outcome of file.now block (names file.now (Segment 0))) }
     ensures code { IfOk result (λ o. IsOutcomeCode o.code) }
+    ensures formed { IfOk result (λ o. o.code ≢ 3) }
     ensures asked { Asked F.seen files.old files.new result RunFault.ReadFault }
 {
     match open_file(alloc, files, file)? {

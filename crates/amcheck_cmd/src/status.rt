@@ -1,4 +1,4 @@
-// The answer of a run.
+//! The answer of a run.
 
 /// How a run ended. The codes: 0 clean, or the page is shown, 1 findings, 2 unjudged, 3 usage, 4 the
 /// case is refused, 5 no such file, 6 a file is too large, 7 a file could not be read, 8 the output

@@ -1,36 +1,20 @@
-// What a run writes and answers, over files and a sink in memory.
-use crate::run::run;
+//! Words, files and cases that are refused; single pages; and calls that fail.
+use crate::fixtures::{
+    CLEAN, CLUSTER, INT_COLUMN, Item, LIVE, NOTHING, Tuple, case_files, expect, expect_heap,
+    page_of, run_words,
+};
 use outside::{MemFiles, MemSink, Part};
 use std::alloc::Global;
-use std::process::Abort;
 use std::test::Fail;
 
-const CLEAN: &str = "findings 0 unjudged 0\nverdict clean\n";
-
-const CASE: &str = "[cluster]\nnext_xid = 1000\noldest_xid = 3\nnext_multi = 10\noldest_multi = 1\n\
-next_member = 100\nxact = \"xact\"\noffsets = \"offsets\"\nmembers = \"members\"\n[heap]\nfile = \"t\"\n\
-[[column]]\nname = \"a\"\ntype = \"int4\"\n";
-
-// A heap page whose three line pointers point to three tuples of 28 bytes, which are all zeros.
-fn three_items() -> [u8; 8192] {
-    let mut page = [0u8; 8192];
-    let header = [
-        0x24, 0, 0xa0, 0x1f, 0, 0x20, 4, 0x20, 0, 0, 0, 0, 0xe0, 0x9f, 0x38, 0, 0xc0, 0x9f, 0x38,
-        0, 0xa0, 0x9f, 0x38, 0,
-    ];
-    page[12..36].copy_from_slice(&header);
-    page
-}
-
-// The same page with a tuple of one attribute at each item, inserted by transaction 700.
+// A heap page with three live tuples.
 fn three_tuples() -> [u8; 8192] {
-    let mut page = three_items();
-    for (place, item) in [(8160usize, 1u8), (8128, 2), (8096, 3)] {
-        page[place..place + 2].copy_from_slice(&[0xbc, 0x02]);
-        page[place + 16] = item;
-        page[place + 18..place + 23].copy_from_slice(&[1, 0, 0, 9, 24]);
-    }
-    page
+    let second = Tuple { item: 2, ..LIVE };
+    let third = Tuple { item: 3, ..LIVE };
+    page_of(
+        0,
+        &[Item::Tuple(LIVE), Item::Tuple(second), Item::Tuple(third)],
+    )
 }
 
 // A page of zeros but for one byte.
@@ -40,39 +24,10 @@ fn written_new_page() -> [u8; 8192] {
     page
 }
 
-// Writes bytes at a place of a page.
-pub(crate) fn put(page: &mut [u8; 8192], at: u16, bytes: &[u8]) {
-    for (k, byte) in bytes.iter().enumerate() {
-        let place = at as usize + k;
-        if place < 8192 {
-            page[place] = *byte;
-        }
-    }
-}
-
-// Runs the words over the files, and compares what is written and answered.
-pub(crate) fn expect(
-    rt: &impl Abort,
-    alloc: Global,
-    words: &[&str],
-    files: &mut MemFiles,
-    want: (u8, &str),
-) -> Result<(), Fail> {
-    let mut owned = Vec::new(alloc);
-    for word in words {
-        owned.push(String::from_str(alloc, word)?)?;
-    }
-    let mut sink = MemSink::new(alloc, 16)?;
-    let status = run(alloc, &owned, files, &mut sink);
-    assert_eq!(rt; sink.bytes(), want.1.as_bytes());
-    assert_eq!(rt; status.code, want.0);
-    Ok(())
-}
-
 #[test]
 fn pages_of_a_file(rt: HostRuntime) -> Result<(), Fail> {
     let alloc = rt.alloc();
-    let mut astray = three_items();
+    let mut astray = three_tuples();
     astray[28] = 0xc1;
     let mut files = MemFiles::new(alloc);
     files.add("t", Part::Segment(0), &three_tuples())?;
@@ -125,142 +80,133 @@ fn words_and_sizes_are_refused(rt: HostRuntime) -> Result<(), Fail> {
 }
 
 #[test]
-fn a_read_that_fails_writes_nothing(rt: HostRuntime) -> Result<(), Fail> {
-    let alloc = rt.alloc();
-    let mut files = MemFiles::new(alloc);
-    files.add("t", Part::Segment(0), &three_tuples())?;
-    files.fail_read(1)?;
-    expect(&rt, alloc, &["pages", "t"], &mut files, (7, ""))?;
-    files.fail_length(1)?;
-    expect(&rt, alloc, &["pages", "t"], &mut files, (7, ""))
-}
-
-#[test]
 fn a_put_that_fails_leaves_a_first_part(rt: HostRuntime) -> Result<(), Fail> {
     let alloc = rt.alloc();
     let mut files = MemFiles::new(alloc);
     files.add("t", Part::Segment(0), &three_tuples())?;
     let mut sink = MemSink::new(alloc, 16)?;
     sink.fail_put(2)?;
-    let mut words = Vec::new(alloc);
-    words.push(String::from_str(alloc, "pages")?)?;
-    words.push(String::from_str(alloc, "t")?)?;
-    let status = run(alloc, &words, &mut files, &mut sink);
+    let code = run_words(alloc, &["pages", "t"], &mut files, &mut sink)?;
     assert_eq!(rt; sink.bytes(), b"findings 0 unjud".as_slice());
-    assert_eq!(rt; status.code, 8);
+    assert_eq!(rt; code, 8);
     Ok(())
 }
 
-// A case file over one heap file, with pg_xact of committed transactions alone.
-fn case_files(alloc: Global, case: &str, heap: &[u8]) -> Result<MemFiles, Fail> {
-    let mut files = MemFiles::new(alloc);
-    files.add("case.toml", Part::Segment(0), case.as_bytes())?;
-    files.add("t", Part::Segment(0), heap)?;
-    files.add("xact", Part::Slru(0), &[0x55u8; 8192])?;
-    files.add("offsets", Part::Slru(0), &[0u8; 8192])?;
-    files.add("members", Part::Slru(0), &[0u8; 8192])?;
-    Ok(files)
-}
-
-// Runs `heap` on a case with this heap.
-fn expect_heap(
-    rt: &impl Abort,
+// A whole case text.
+fn case_text(
     alloc: Global,
-    heap: &[u8; 8192],
-    want: (u8, &str),
-) -> Result<(), Fail> {
-    let mut files = case_files(alloc, CASE, heap)?;
-    expect(rt, alloc, &["heap", "case.toml"], &mut files, want)
-}
-
-// The first tuple's inserter is the next transaction, which isn't given out yet.
-fn late_tuple() -> [u8; 8192] {
-    let mut page = three_tuples();
-    page[8160] = 0xe8;
-    page[8161] = 0x03;
-    page
-}
-
-// The first tuple's header has the bit of a move.
-fn old_tuple() -> [u8; 8192] {
-    let mut page = three_tuples();
-    page[8181] = 0x49;
-    page
-}
-
-// The second line pointer is that of the first tuple.
-fn one_tuple_twice() -> [u8; 8192] {
-    let mut page = three_tuples();
-    page[28] = 0xe0;
-    page
-}
-
-#[test]
-fn heaps_of_a_case(rt: HostRuntime) -> Result<(), Fail> {
-    let alloc = rt.alloc();
-    expect_heap(&rt, alloc, &three_tuples(), (0, CLEAN))?;
-    expect_heap(
-        &rt,
-        alloc,
-        &late_tuple(),
-        (
-            1,
-            "finding H9 heap block 0 item 1\nfindings 1 unjudged 0\nverdict findings\n",
-        ),
+    front: &str,
+    cluster: &str,
+    heap: &str,
+    column: &str,
+) -> Result<String, Fail> {
+    let text = format!(in alloc;
+        "{front}[cluster]\nnext_xid = 1000\n{cluster}next_multi = 10\noldest_multi = 1\n\
+next_member = 100\nxact = \"xact\"\noffsets = \"offsets\"\nmembers = \"members\"\n[heap]\nfile = \"t\"\n{heap}\
+[[column]]\nname = \"a\"\n{column}"
     )?;
-    expect_heap(
-        &rt,
-        alloc,
-        &old_tuple(),
-        (
-            2,
-            "unjudged U1 heap block 0 item 1\nfindings 0 unjudged 1\nverdict unjudged\n",
-        ),
-    )?;
-    expect_heap(
-        &rt,
-        alloc,
-        &one_tuple_twice(),
-        (
-            1,
-            "finding H2 heap block 0 item 2\nfindings 1 unjudged 0\nverdict findings\n",
-        ),
-    )
+    Ok(text)
 }
 
 #[test]
 fn cases_are_refused(rt: HostRuntime) -> Result<(), Fail> {
     let alloc = rt.alloc();
-    let words = ["heap", "case.toml"];
-    let mut files = case_files(alloc, "a = ", &[])?;
-    expect(
-        &rt,
-        alloc,
-        &words,
-        &mut files,
-        (4, "refused case C1 text\n"),
+    let oldest = "oldest_xid = 3\n";
+    let int = "type = \"int4\"\n";
+    // What stands at the top, of the oldest transaction, of the heap and of the column, and the refusal.
+    let rows = [
+        ("a = ", oldest, "", int, "C1 text"),
+        ("", "", "", int, "C2 cluster.oldest_xid"),
+        ("", oldest, "toast_oid = 1\n", int, "C2 heap.toast_file"),
+        ("", oldest, "", "", "C2 column[0].type"),
+        (
+            "segment_blocks = true\n",
+            oldest,
+            "",
+            int,
+            "C3 segment_blocks",
+        ),
+        ("index = 1\n", oldest, "", int, "C3 index"),
+        ("segment_blocks = 0\n", oldest, "", int, "C4 segment_blocks"),
+        (
+            "segment_blocks = 131073\n",
+            oldest,
+            "",
+            int,
+            "C4 segment_blocks",
+        ),
+        ("", "oldest_xid = 2\n", "", int, "C4 cluster.oldest_xid"),
+        (
+            "",
+            oldest,
+            "",
+            "type = \"int4\"\nmissing = \"0g\"\n",
+            "C4 column[0].missing",
+        ),
+        ("", oldest, "", "type = \"real\"\n", "C5 column[0].type"),
+        ("", oldest, "", "type = \"oid\"\n", "C5 column[0].type"),
+        ("colour = 1\n", oldest, "", int, "C6 top"),
+        ("", oldest, "colour = 1\n", int, "C6 heap"),
+        ("", oldest, "", "type = \"int4\"\nlen = 4\n", "C6 column[0]"),
+        ("", "oldest_xid = 2000\n", "", int, "C7 cluster"),
+    ];
+    for (front, cluster, heap, column, want) in rows {
+        let text = case_text(alloc, front, cluster, heap, column)?;
+        let mut files = case_files(alloc, text.as_str(), &[])?;
+        let refusal = format!(in alloc; "refused case {want}\n")?;
+        expect(
+            &rt,
+            alloc,
+            &["heap", "case.toml"],
+            &mut files,
+            (4, refusal.as_str()),
+        )?;
+    }
+    Ok(())
+}
+
+#[test]
+fn numbers_of_a_cluster_go_round(rt: HostRuntime) -> Result<(), Fail> {
+    let alloc = rt.alloc();
+    let text = format!(in alloc;
+        "[cluster]\nnext_xid = 10\noldest_xid = 4294967000\nnext_multi = 10\n\
+oldest_multi = 1\nnext_member = 100\nxact = \"xact\"\noffsets = \"offsets\"\nmembers = \"members\"\n\
+[heap]\nfile = \"t\"\n{INT_COLUMN}"
     )?;
+    let heap = page_of(0, &[Item::Tuple(Tuple { xmin: 9, ..LIVE })]);
+    let mut files = case_files(alloc, text.as_str(), &heap)?;
+    expect_heap(&rt, alloc, &mut files, NOTHING)
+}
+
+#[test]
+fn files_of_a_case_are_refused(rt: HostRuntime) -> Result<(), Fail> {
+    let alloc = rt.alloc();
+    let words = ["heap", "case.toml"];
+    let text = format!(in alloc; "{CLUSTER}{INT_COLUMN}")?;
     let mut files = MemFiles::new(alloc);
-    files.add("case.toml", Part::Segment(0), CASE.as_bytes())?;
+    files.add("case.toml", Part::Segment(0), text.as_bytes())?;
     expect(&rt, alloc, &words, &mut files, (5, "refused no file t\n"))?;
+    let absent = ["heap", "none.toml"];
     expect(
         &rt,
         alloc,
-        &["heap", "none.toml"],
+        &absent,
         &mut files,
         (5, "refused no file none.toml\n"),
     )?;
+    let many = vec![in alloc; 0u8; 16385 * 8192]?;
+    files.add("t", Part::Segment(0), &many)?;
+    let too_large = "refused too large t blocks 16385 limit 16384\n";
+    expect(&rt, alloc, &words, &mut files, (6, too_large))?;
     let long = vec![in alloc; b'#'; 1_048_577]?;
     files.add("long.toml", Part::Segment(0), &long)?;
+    let too_long = "refused too large long.toml bytes 1048577 limit 1048576\n";
     expect(
         &rt,
         alloc,
         &["heap", "long.toml"],
         &mut files,
-        (
-            6,
-            "refused too large long.toml bytes 1048577 limit 1048576\n",
-        ),
+        (6, too_long),
     )
 }
 

@@ -1,4 +1,4 @@
-// Reads the text of a case file.
+//! Reads the text of a case file.
 ghost use Rattle.std.specs.Prelude.{◌≡◌, ◌+◌, ◌≤◌, length, take, drop, IfOk, OnOk};
 ghost use Rattle.outside.specs.declared.files.Part.TheVariants.{Segment};
 ghost use Rattle.outside.specs.Outside.{Asked, IfHeld, IsHeldAnd};

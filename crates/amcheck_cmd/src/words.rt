@@ -1,4 +1,4 @@
-// The forms of a command line.
+//! The forms of a command line.
 ghost use Rattle.std.specs.Prelude.{◌≡◌, map, string_bytes};
 ghost use Rattle.amcheck_cmd.specs.Forms.{form_of, four_form, pair_form, shown_by};
 ghost use Rattle.amcheck_cmd.specs.Seen.{form_seen};

@@ -1,4 +1,4 @@
-// Writes the whole output.
+//! Writes the whole output.
 ghost use Rattle.std.specs.Prelude.{◌≡◌, ◌⊎◌, ℕ, take, OnOk, OnErr};
 ghost use Rattle.outside.specs.Outside.{HasCause, Rose, appended};
 ghost use Rattle.amcheck_cmd.specs.Outcome.{IsOutcomeCode, Meets};

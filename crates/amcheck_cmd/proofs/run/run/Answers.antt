@@ -1,5 +1,5 @@
-use Rattle.std.proofs.Common.{◌≡◌, ℕ, ◌⊎◌, inl, inr, ◌∙◌, sym, arith}
-use Rattle.amcheck_cmd.proofs.FileLaws.{clean_code, finds_only_broken, sound_code, true_code}
+use Rattle.std.proofs.Common.{◌≡◌, ℕ, ◌⊎◌, inl, inr, ◌∙◌, refl, sym, arith}
+use Rattle.amcheck_cmd.proofs.FileLaws.{clean_code, finds_only_broken, gave_up, sound_code, true_code, writes_report}
 use Rattle.amcheck_cmd.proofs.run.run.Goals as goal
 
 pub returns-in-Ok-clause-found : goal.returns-in-Ok-clause-found
@@ -36,3 +36,17 @@ pub returns-in-Ok-clause-heap : goal.returns-in-Ok-clause-heap
 returns-in-Ok-clause-heap g c names told =
     let owed = rw c.command_of.ensures at (c.in-Ok.ensures.output names told) in
     true_code _ names _ owed _ (λ nought. not_eight _ _ nought c.write_output.ensures.codes)
+
+pub returns-in-Ok-clause-reported : goal.returns-in-Ok-clause-reported
+returns-in-Ok-clause-reported g c names told =
+    let owed = rw c.command_of.ensures at (c.in-Ok.ensures.output names told) in
+    writes_report _ names _ owed _ _ _ c.write_output.ensures.meets
+
+pub returns-in-Err-NoMemory-clause-reported : goal.returns-in-Err-NoMemory-clause-reported
+returns-in-Err-NoMemory-clause-reported g c names told = gave_up _ names _ _ 9 (inr refl)
+
+pub returns-then-refused_memory-clause-reported : goal.returns-then-refused_memory-clause-reported
+returns-then-refused_memory-clause-reported g c names told = gave_up _ names _ _ 9 (inr refl)
+
+pub returns-else-refused_memory-clause-reported : goal.returns-else-refused_memory-clause-reported
+returns-else-refused_memory-clause-reported g c names told = gave_up _ names _ _ 7 (inl refl)
