@@ -1,5 +1,5 @@
 # Read by the benches: it makes files, and takes times and peak memory of commands.
-# A command is a text for `bash -c`, and must end with status 0.
+# A command is a text for `bash -c`, and must end with status 0 for its time to be taken.
 
 export LC_ALL=C
 
@@ -33,7 +33,7 @@ peak_memory() {
     else
         python3 - "$1" <<'PYTHON'
 import resource, subprocess, sys
-subprocess.run(["bash", "-c", "exec " + sys.argv[1]], stdout=subprocess.DEVNULL, check=True)
+subprocess.run(["bash", "-c", "exec " + sys.argv[1]], stdout=subprocess.DEVNULL)
 print(resource.getrusage(resource.RUSAGE_CHILDREN).ru_maxrss)
 PYTHON
     fi

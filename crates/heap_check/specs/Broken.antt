@@ -29,7 +29,9 @@ use Rattle.reports.specs.declared.places.Reason.TheVariants.{U1}
 use Rattle.reports.specs.declared.places.Rel.TheVariants.{Heap as heap, Map as vis_map, Toast as toast}
 use Rattle.heap_check.specs.declared.kept.ExternalValue.{ExternalValue}
 use Rattle.heap_check.specs.declared.verdict.ItemVerdict.TheVariants.{Passes}
-use Rattle.heap_check.specs.Heap.{chunks_of, doubts_of, externals_of, file_findings, heap_blocks, heap_long_segment, is_flagged_visible, map_blocks, map_long_segment, table_of, toast_blocks, toast_long_segment, toast_table_of}
+use Rattle.heap_check.specs.Heap.{chunks_of, doubts_of, externals_of, file_findings, heap_blocks, heap_long_segment}
+use Rattle.heap_check.specs.Heap.{is_flagged_visible, map_blocks, map_long_segment, table_of, toast_blocks}
+use Rattle.heap_check.specs.Heap.{toast_long_segment, toast_table_of}
 use Rattle.heap_check.specs.Kept.{states_of}
 use Rattle.heap_check.specs.Map.{map_name}
 use Rattle.heap_check.specs.Pages.{BreaksHeader}
@@ -37,7 +39,7 @@ use Rattle.heap_check.specs.Storage.{overlaps_lower_item}
 use Rattle.heap_check.specs.Values.{is_stray_pointer}
 use Rattle.heap_check.specs.Verdicts.{Table, head_at, item_verdict, reason_of}
 
--- AN ITEM
+-- An item
 
 -- item i is a normal line pointer of the page
 pub record IsNormalItem (page : List ℕ) (i : ℕ) : Type 0 where
@@ -74,7 +76,7 @@ pub data DoubtsItem (table : Table) (block : ℕ) (page : List ℕ) : Reason →
   old_form : (i : ℕ) → IsNormalItem page i → is_old_form (head_at page i) ≡ true → DoubtsItem table block page U1 (Item table.rel block i)
   by_logs : (i : ℕ) (u : Doubt) → IsNormalItem page i → (judged_of table.logs (head_at page i)).life ≡ Unjudged u → DoubtsItem table block page (reason_of u) (Item table.rel block i)
 
--- A PAGE
+-- A page
 
 -- no item breaks a rule by itself, and all can be judged
 pub record AllPass (table : Table) (page : List ℕ) : Type 0 where
@@ -88,7 +90,7 @@ pub data BreaksPage (table : Table) (block : ℕ) (page : List ℕ) : Rule → P
   in_visibility : (rule : Rule) → AllPass table page → IsMapRuleBroken (table.bits block) (is_flagged_visible page) (states_of table page) rule → BreaksPage table block page rule (Block table.rel block)
   in_chain : (i : ℕ) (rule : Rule) → AllPass table page → 1 ≤ i → i ≤ count_of page → IsChainRuleBroken block (states_of table page) i rule → BreaksPage table block page rule (Item table.rel block i)
 
--- A CASE
+-- A case
 
 -- a block of a file of a case
 abbrev pub case_page : CaseRecord → Names → List ℕ → ℕ → List ℕ

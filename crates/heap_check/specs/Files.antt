@@ -17,7 +17,7 @@ use Rattle.heap_check.specs.declared.files.SoundHeap.{SoundHeap}
 use Rattle.heap_check.specs.Heap.{block_limit, chunks_of, heap_blocks}
 use Rattle.heap_check.specs.Map.{map_name}
 
--- REFUSALS
+-- Refusals
 
 -- a file of so many blocks is too large
 abbrev pub large_by : Which → Bool → ℕ → Option CheckFault
@@ -48,7 +48,7 @@ TellsRefusal refusal (Err NoMemory) = Unit {0}
 TellsRefusal refusal (Err (NoFile which)) = refusal ≡ Some (NoFile which)
 TellsRefusal refusal (Err (TooLarge which blocks limit)) = refusal ≡ Some (TooLarge which blocks limit)
 
--- THE FILES OF A CASE
+-- The files of a case
 
 -- the TOAST table is attached where the case has one
 abbrev pub IsToastIn : Names → ℕ → Option (List ℕ × ℕ) → Option Relation → Type 0

@@ -33,7 +33,7 @@ use Rattle.heap_check.specs.Verdicts.{Table, item_doubts, item_findings}
 abbrev pub block_limit : ℕ
 block_limit = 16384
 
--- A PAGE
+-- A page
 
 -- what the items break, each by itself, and why they can't be judged
 unfoldable pub items_findings : Table → ℕ → List ℕ → List Finding
@@ -91,7 +91,7 @@ page_externals table block page = kept_by_rule (page_rule_of Heap page) (each_up
 unfoldable pub page_chunks : Table → ℕ → List ℕ → List Chunk
 page_chunks table block page = kept_by_rule (page_rule_of Heap page) (each_upto (item_chunks table block page) (count_of page))
 
--- A RELATION
+-- A relation
 
 -- the segment of a relation that is too long
 abbrev pub segment_findings : Rel → Option ℕ → List Finding
@@ -110,7 +110,7 @@ block_externals table names base size block = page_externals table block (block_
 unfoldable pub block_chunks : Table → Names → List ℕ → ℕ → ℕ → List Chunk
 block_chunks table names base size block = page_chunks table block (block_of names base size block)
 
--- A CASE
+-- A case
 
 -- where the logs of a case stand, and the numbers of its cluster
 abbrev pub log_files_in : CaseRecord → LogFiles

@@ -23,7 +23,7 @@ use Rattle.heap_check.specs.declared.verdict.ItemVerdict.TheVariants.{Passes, Br
 use Rattle.heap_check.specs.Below.{each_below, each_upto}
 use Rattle.heap_check.specs.Verdicts.{Table, item_verdict}
 
--- STATES
+-- States
 
 abbrev pub state_in : ItemVerdict → List ItemState
 state_in (Passes state) = state ∷ []
@@ -37,7 +37,7 @@ item_state table page i = state_in (item_verdict table page i)
 unfoldable pub states_of : Table → List ℕ → List ItemState
 states_of table page = each_upto (item_state table page) (count_of page)
 
--- VALUES
+-- Values
 
 -- the attributes of a live tuple that breaks no rule, and none of any other item
 abbrev pub attributes_read : Outcome → List Attribute
@@ -73,7 +73,7 @@ keeps_nothing map outcome = are_inline outcome
 keeps_nothing toast outcome = false
 keeps_nothing (index n) outcome = are_inline outcome
 
--- EXTERNAL VALUES
+-- External values
 
 -- the value of a column, counted from 1, if it stands in a TOAST table
 abbrev pub external_in : ℕ → ℕ → ℕ → Option Attribute → List ExternalValue
@@ -102,7 +102,7 @@ externals_by (index n) block item list = []
 unfoldable pub item_externals : Table → ℕ → List ℕ → ℕ → List ExternalValue
 item_externals table block page i = externals_by table.rel block i (live_attributes table page i)
 
--- CHUNKS
+-- Chunks
 
 abbrev pub chunk_by : ℕ → ℕ → Option ChunkRow → List Chunk
 chunk_by block item None = []

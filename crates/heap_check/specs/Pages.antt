@@ -1,7 +1,8 @@
 -- What is judged of a heap page alone: its header and where its items lie.
 use Rattle.std.specs.Prelude.{◌≡◌, ℕ, ◌≤◌, true, if◌then◌else◌, List, [], ◌∷◌, Option, Some, None}
 use Rattle.page_layout.specs.Items.{is_misplaced_heap_item}
-use Rattle.page_layout.specs.Page.{has_other_version, has_unknown_page_flag, has_bad_places, is_new_but_written, count_of, item_of, page_rule_of, upper_of}
+use Rattle.page_layout.specs.Page.{has_other_version, has_unknown_page_flag, has_bad_places, is_new_but_written}
+use Rattle.page_layout.specs.Page.{count_of, item_of, page_rule_of, upper_of}
 use Rattle.page_layout.specs.declared.rules.Rule.{Rule}
 use Rattle.page_layout.specs.declared.rules.Rule.TheVariants.{P1, P2, P3, P4, H1}
 use Rattle.page_layout.specs.declared.page.PageKind.{PageKind}

@@ -32,7 +32,7 @@ use Rattle.heap_check.specs.Kept.{states_of}
 use Rattle.heap_check.specs.Map.{map_name}
 use Rattle.heap_check.specs.Verdicts.{Table, head_at, item_verdict}
 
--- THE STATES OF A PAGE
+-- The states of a page
 
 -- the state of item i: what the flag of its line pointer says, and of a tuple its header with what the logs say of it
 pub data IsStateOf (table : Table) (page : List ℕ) (i : ℕ) : ItemState → Type 0 where
@@ -47,7 +47,7 @@ pub record HasStates (table : Table) (page : List ℕ) : Type 0 where
   pub passes : (i : ℕ) → 1 ≤ i → i ≤ count_of page → item_verdict table page i ≡ Passes (item_at (states_of table page) i)
   pub each : (i : ℕ) → 1 ≤ i → i ≤ count_of page → IsStateOf table page i (item_at (states_of table page) i)
 
--- THE PAGES OF A CASE
+-- The pages of a case
 
 -- what the visibility map says of a heap block: the bits on the map's page for it; nothing where that page breaks a rule of its
 -- header, or where there is none
@@ -65,7 +65,7 @@ pub record IsTruePage (table : Table) (block : ℕ) (page : List ℕ) : Type 0 w
   pub chains : KeepsChainRules block (states_of table page)
   pub roots : (i : ℕ) → IsLiveItem (states_of table page) i → HasOneRoot block (states_of table page) i
 
--- THE VALUES AND THE CHUNKS OF A CASE
+-- The values and the chunks of a case
 
 -- a value of a live tuple of the heap, whose attributes can be read, stands in the TOAST table, where this pointer finds it; its
 -- columns are counted from 1
@@ -92,7 +92,7 @@ pub record IsChunkRow (case : CaseRecord) (names : Names) (c : Chunk) : Type 0 w
 abbrev pub AreApart : List Chunk → Type 0
 AreApart chunks = AllPairs (λ c d. ¬ (c.tid ≡ d.tid)) chunks
 
--- WHAT IS LISTED
+-- What is listed
 
 -- the place is among those of the findings, or among those that can't be judged
 pub data IsListed (findings : List Finding) (doubts : List UnjudgedPlace) (place : Place) : Type 0 where

@@ -1,5 +1,6 @@
 -- The page of a heap from which rows are taken.
-use Rattle.std.specs.Prelude.{◌≡◌, ℕ, ◌+◌, ◌-◌, ◌≤◌, true, false, List, [], ◌∷◌, All, length, map, Option, Some, None, Ok, Err}
+use Rattle.std.specs.Prelude.{◌≡◌, ℕ, ◌+◌, ◌-◌, ◌≤◌, true, false, List, [], ◌∷◌, All, length, map, Option, Some, None}
+use Rattle.std.specs.Prelude.{Ok, Err}
 use Rattle.std.specs.Option.{option_copied}
 use Rattle.outside.specs.Outside.{Names}
 use Rattle.page_layout.specs.Page.{item_of, page_rule_of}
@@ -47,14 +48,14 @@ abbrev pub IsRead : List ColType → List ℕ → Option (List ℕ) → Type 0
 IsRead columns tuple (Some body) = Unit {0}
 IsRead columns tuple None = (list : List Attribute) → IsReadAs (attributes_in columns tuple) list → ⊥
 
--- STATES
+-- States
 
 -- where nothing is found of a page's items and all can be judged, these are their states
 abbrev pub AreStates : Table → ℕ → List ℕ → List ItemState → Type 0
 AreStates table block page states =
     page_rule_of Heap page ≡ None → items_findings table block page ≡ [] → items_doubts table block page ≡ [] → states ≡ states_of table page
 
--- THE PAGE IN HAND
+-- The page in hand
 
 -- what is known of item i of the page in hand: its state, its chain, and if it is live its values
 pub record IsKnown (case : CaseRecord) (names : Names) (toast : Option Relation) (chunks : List Chunk) (page : RowPage) (i : ℕ) : Type 0 where

@@ -13,7 +13,7 @@ use Rattle.toast_chunks.specs.Stored.{AllStand}
 use Rattle.toast_chunks.specs.declared.map.Chunk.{Chunk}
 use Rattle.heap_check.specs.Rows.{joined_bytes}
 
--- THE TOAST TABLE
+-- The TOAST table
 
 -- the chunks stand in the TOAST table, where there is one
 abbrev pub IsReadable : Names → Option Relation → List Chunk → Type 0
@@ -38,7 +38,7 @@ IsThere toast chunks (Plain content) = Unit {0}
 IsThere toast chunks (Packed piece) = Unit {0}
 IsThere toast chunks (External p) = IsWholeIn toast chunks p
 
--- ATTRIBUTES AND TYPES
+-- Attributes and types
 
 -- a stored value of fixed length has that length, and only varlenas are compressed or stand in a TOAST table
 abbrev pub FitsType : ColType → Attribute → Type 0

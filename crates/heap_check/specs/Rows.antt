@@ -1,5 +1,6 @@
 -- The live rows of a heap: each live tuple with the root of its chain and a cell for each column.
-use Rattle.std.specs.Prelude.{ℕ, zero, suc, pos, if◌then◌else◌, List, [], ◌∷◌, ◌++◌, length, find, slice_get, unwrap_or, Option, Some, None}
+use Rattle.std.specs.Prelude.{ℕ, zero, suc, pos, if◌then◌else◌, List, [], ◌∷◌, ◌++◌, length, find, slice_get, unwrap_or}
+use Rattle.std.specs.Prelude.{Option, Some, None}
 use Rattle.std.specs.Option.{option_map_or}
 use Rattle.outside.specs.Outside.{Names}
 use Rattle.page_layout.specs.Page.{count_of, page_rule_of}
@@ -27,7 +28,7 @@ use Rattle.heap_check.specs.Heap.{chunks_of, heap_blocks, kept_by_rule, table_of
 use Rattle.heap_check.specs.Kept.{live_attributes, states_of}
 use Rattle.heap_check.specs.Verdicts.{item_verdict}
 
--- VALUES IN A TOAST TABLE
+-- Values in a TOAST table
 
 -- the bytes of a chunk at its place in a file, whose full segments have so many blocks
 abbrev pub chunk_bytes : Names → List ℕ → ℕ → Chunk → List ℕ
@@ -49,7 +50,7 @@ bytes_in_toast names size chunks (Some t) p = joined_bytes names t.0 size chunks
 unfoldable pub toast_bytes : CaseRecord → Names → ToastPointer → List ℕ
 toast_bytes case names p = bytes_in_toast names case.segment_blocks (chunks_of case names) case.toast p
 
--- CELLS
+-- Cells
 
 -- the cell of a value in a TOAST table, of which these are the bytes
 abbrev pub external_cell : List ℕ → ToastPointer → Cell
@@ -76,7 +77,7 @@ cell_at bytes columns list k = cell_by bytes (slice_get columns k) (slice_get li
 unfoldable pub cells_of : (ToastPointer → List ℕ) → List Column → List Attribute → List Cell
 cells_of bytes columns list = each_below (cell_at bytes columns list) (length columns)
 
--- ROWS
+-- Rows
 
 -- the lowest root from which the item is found. In a heap without findings each live tuple has one
 abbrev pub root_item : ℕ → List ItemState → ℕ → ℕ
@@ -110,7 +111,7 @@ block_rows case names block = page_rows case names block (block_of names case.he
 unfoldable pub rows_of : CaseRecord → Names → List LiveRow
 rows_of case names = each_below (block_rows case names) (heap_blocks case names)
 
--- WHAT IS LEFT
+-- What is left
 
 -- what the n places from k on give, in their order
 unfoldable pub each_from : {X : Type 0} → (ℕ → List X) → ℕ → ℕ → List X

@@ -1,5 +1,6 @@
 -- The storage of the items of a heap page: the bytes to which their line pointers point.
-use Rattle.std.specs.Prelude.{◌≡◌, ℕ, zero, suc, ◌+◌, ◌-◌, ◌*◌, ◌≤◌, ◌<◌, Bool, true, false, not, ◌&&◌, ◌||◌, nat_le, nat_lt, List, length, get_or}
+use Rattle.std.specs.Prelude.{◌≡◌, ℕ, zero, suc, ◌+◌, ◌-◌, ◌*◌, ◌≤◌, ◌<◌, Bool, true, false, not, ◌&&◌, ◌||◌, nat_le}
+use Rattle.std.specs.Prelude.{nat_lt, List, length, get_or}
 use Rattle.page_layout.specs.Items.{is_misplaced_heap_item, is_normal}
 use Rattle.page_layout.specs.Page.{item_of, upper_of}
 use Rattle.page_layout.specs.declared.page.LinePtr.{LinePtr}

@@ -1,11 +1,13 @@
-// Judges a whole case but for its indexes: its visibility map, its heap and its TOAST table.
+//! Judges a whole case but for its indexes: its visibility map, its heap and its TOAST table.
 ghost use Rattle.std.specs.Prelude.{◌≡◌, ◌↔◌, ◌⊎◌, None, [], IfErr, IfOk, IfSome, IsSome, OnOk};
 ghost use Rattle.outside.specs.Adds.{Adds};
 ghost use Rattle.outside.specs.Outside.{Asked, IfTold, Tells};
 ghost use Rattle.liveness.specs.LogFiles.{log_files_of};
 ghost use Rattle.heap_check.specs.CaseLogs.{log_files_kept};
 ghost use Rattle.heap_check.specs.Files.{AreFilesOf, BelongTo, IsSoundHeapOf, files_of};
-ghost use Rattle.heap_check.specs.Heap.{IsQuiet, chunks_of, doubts_of, external_findings, externals_of, file_findings, findings_of, heap_doubts, heap_findings, log_files_in, map_findings, toast_doubts, toast_findings, value_findings};
+ghost use Rattle.heap_check.specs.Heap.{IsQuiet, chunks_of, doubts_of, external_findings, externals_of, file_findings};
+ghost use Rattle.heap_check.specs.Heap.{findings_of, heap_doubts, heap_findings, log_files_in, map_findings};
+ghost use Rattle.heap_check.specs.Heap.{toast_doubts, toast_findings, value_findings};
 ghost use Rattle.heap_check.specs.MapPage.{IsOptionalMapInHand};
 
 use crate::fault::RowFault;

@@ -1,4 +1,4 @@
-// Why the pages or the rows of a table can't be read.
+//! Why the pages or the rows of a table can't be read.
 ghost use Rattle.std.specs.Prelude.{◌≡◌};
 ghost use Rattle.heap_check.specs.declared.fault.RowFault.TheVariants as row;
 ghost use Rattle.heap_check.specs.Faults.{check_fault_of};

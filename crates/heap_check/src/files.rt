@@ -1,4 +1,4 @@
-// The files of a table that are judged.
+//! The files of a table that are judged.
 ghost use Rattle.std.specs.Prelude.{◌≡◌, ◌≤◌, ◌⊎◌, IfErr, IfOk, IfSome, string_bytes};
 ghost use Rattle.outside.specs.Outside.{Asked, IfTold, Tells};
 ghost use Rattle.rel_files.specs.Relation.{FindsFront, IsRelationOf};

@@ -1,4 +1,4 @@
-// Judges the blocks of a table.
+//! Judges the blocks of a table.
 ghost use Rattle.std.specs.Prelude.{◌≡◌, ◌++◌, ◌<◌, ◌≤◌, All, OnOk, length};
 ghost use Rattle.std.specs.Option.{option_copied};
 ghost use Rattle.outside.specs.Adds.{Adds};

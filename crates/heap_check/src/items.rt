@@ -1,4 +1,4 @@
-// Judges the items of a heap page, each by itself.
+//! Judges the items of a heap page, each by itself.
 ghost use Rattle.std.specs.Prelude.{◌≡◌, ◌++◌, ◌+◌, ◌-◌, ◌≤◌, ℕ, List, All, length, true, IfOk, OnOk};
 ghost use Rattle.outside.specs.Adds.{Adds};
 ghost use Rattle.outside.specs.Outside.{Asked, IfTold, Tells};
@@ -10,7 +10,8 @@ ghost use Rattle.key_orders.specs.Types.{HasAlignment};
 ghost use Rattle.heap_tuples.specs.Tuples.{attributes_in};
 ghost use Rattle.heap_check.specs.Below.{each_upto};
 ghost use Rattle.heap_check.specs.Heap.{items_doubts, items_findings};
-ghost use Rattle.heap_check.specs.Kept.{attributes_by, chunks_by, externals_by, item_chunks, item_externals, item_state, state_in};
+ghost use Rattle.heap_check.specs.Kept.{attributes_by, chunks_by, externals_by, item_chunks, item_externals};
+ghost use Rattle.heap_check.specs.Kept.{item_state, state_in};
 ghost use Rattle.heap_check.specs.Storage.{AreCells};
 ghost use Rattle.heap_check.specs.Tables.{table_seen};
 ghost use Rattle.heap_check.specs.Verdicts.{item_doubts, item_findings, item_verdict, normal_verdict};

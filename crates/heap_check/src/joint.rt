@@ -1,4 +1,4 @@
-// Judges all items of a heap page together: how visible the block is, and its chains.
+//! Judges all items of a heap page together: how visible the block is, and its chains.
 ghost use Rattle.std.specs.Prelude.{◌≡◌, ◌≤◌, length};
 ghost use Rattle.outside.specs.Adds.{Adds};
 ghost use Rattle.heap_check.specs.Below.{each_upto};

@@ -1,4 +1,4 @@
-// What of a table's live tuples is kept for the rules that come last.
+//! What of a table's live tuples is kept for the rules that come last.
 ghost use Rattle.std.specs.Prelude.{◌≡◌, ◌++◌, ◌<◌, ◌≤◌, ℕ, List, [], Some, All, OnOk, length};
 ghost use Rattle.heap_check.specs.Kept.{chunk_by, chunks_by, external_in, externals_by, externals_in};
 ghost use Rattle.toast_chunks.specs.Rows.{row_of};

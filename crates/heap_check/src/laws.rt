@@ -1,4 +1,4 @@
-// What the lists of a report say of a case's files.
+//! What the lists of a report say of a case's files.
 ghost use Rattle.std.specs.Prelude.{◌≡◌, ◌↔◌, ℕ, ◌<◌, List, [], All, Contains, Some};
 ghost use Rattle.outside.specs.Outside.{Names};
 ghost use Rattle.page_layout.specs.declared.rules.Rule.{Rule};
@@ -12,7 +12,8 @@ ghost use Rattle.reports.specs.declared.places.Place.{Place};
 ghost use Rattle.reports.specs.declared.places.Reason.{Reason};
 ghost use Rattle.heap_check.specs.declared.kept.ExternalValue.{ExternalValue};
 ghost use Rattle.heap_check.specs.Broken.{AllPass, Breaks, Doubts, HasExternal, case_page};
-ghost use Rattle.heap_check.specs.Heap.{chunks_of, doubts_of, externals_of, file_findings, findings_of, heap_blocks, is_flagged_visible, table_of, toast_blocks, toast_table_of};
+ghost use Rattle.heap_check.specs.Heap.{chunks_of, doubts_of, externals_of, file_findings, findings_of, heap_blocks};
+ghost use Rattle.heap_check.specs.Heap.{is_flagged_visible, table_of, toast_blocks, toast_table_of};
 ghost use Rattle.heap_check.specs.Kept.{states_of};
 ghost use Rattle.heap_check.specs.Quiet.{AreApart, AreBitsOf, HasStates, IsChunkRow, IsHeapValue, IsListed, IsTruePage};
 ghost use Rattle.heap_check.specs.Verdicts.{Table};

@@ -1,4 +1,4 @@
-// The logs of a case's transactions.
+//! The logs of a case's transactions.
 ghost use Rattle.std.specs.Prelude.{◌≡◌, IfOk};
 ghost use Rattle.liveness.specs.LogFiles.{log_files_of};
 ghost use Rattle.heap_check.specs.Heap.{log_files_in};

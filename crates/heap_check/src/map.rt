@@ -1,4 +1,4 @@
-// The visibility map of a heap: judges its pages, and reads what it says of heap blocks.
+//! The visibility map of a heap: judges its pages, and reads what it says of heap blocks.
 ghost use Rattle.std.specs.Prelude.{◌≡◌, ◌<◌, None, Some, IfOk, OnOk};
 ghost use Rattle.std.specs.Option.{option_copied};
 ghost use Rattle.outside.specs.Adds.{Adds};

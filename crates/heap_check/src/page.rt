@@ -1,4 +1,4 @@
-// Judges one heap page by itself.
+//! Judges one heap page by itself.
 ghost use Rattle.std.specs.Prelude.{◌≡◌, ◌≤◌, ℕ, List, [], All};
 ghost use Rattle.outside.specs.Adds.{Adds};
 ghost use Rattle.page_layout.specs.Page.{HasItems, count_of};

@@ -1,4 +1,4 @@
-// The cells of a row.
+//! The cells of a row.
 ghost use Rattle.std.specs.Prelude.{◌≡◌, ◌∷◌, [], ◌++◌, OnErr, OnOk};
 
 use key_orders::Value;

@@ -1,4 +1,4 @@
-// What the rows of a heap are.
+//! What the rows of a heap are.
 ghost use Rattle.outside.specs.Outside.{Names};
 ghost use Rattle.case_file.specs.Record.{CaseRecord};
 ghost use Rattle.heap_check.specs.RowLaws.{RowsAreLive};

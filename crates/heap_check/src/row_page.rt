@@ -1,5 +1,6 @@
-// The page of a heap from which rows are taken.
-ghost use Rattle.std.specs.Prelude.{◌≡◌, ◌<◌, ◌≤◌, [], List, ℕ, All, false, length, map, Ok, Some, IfOk, IfSome, OnErr, OnOk};
+//! The page of a heap from which rows are taken.
+ghost use Rattle.std.specs.Prelude.{◌≡◌, ◌<◌, ◌≤◌, [], List, ℕ, All, false, length, map, Ok, Some, IfOk, IfSome, OnErr};
+ghost use Rattle.std.specs.Prelude.{OnOk};
 ghost use Rattle.std.specs.Option.{option_copied};
 ghost use Rattle.outside.specs.Outside.{Asked, IfTold, Tells};
 ghost use Rattle.rel_files.specs.Relation.{IsAttached, base_of, count_of, size_of};

@@ -1,4 +1,4 @@
-// The live rows of a heap, one after the other.
+//! The live rows of a heap, one after the other.
 ghost use Rattle.std.specs.Prelude.{◌≡◌, ◌++◌, ◌+◌, ◌<◌, length, map, None, IfOk, IfSome, OnErr, OnOk};
 ghost use Rattle.std.specs.Option.{option_map};
 ghost use Rattle.liveness.specs.LogFiles.{log_files_of};
@@ -72,7 +72,8 @@ fn heap_rules<'p>(
 }
 
 impl<'a> LiveRows<'a> {
-    ghost use Rattle.heap_check.specs.RowCursor.{AreRowsOf, IsPageDone, IsPageDoneBy, IsSameHeap, case_of, heap_of, rows_left};
+    ghost use Rattle.heap_check.specs.RowCursor.{AreRowsOf, IsPageDone, IsPageDoneBy, IsSameHeap, case_of, heap_of};
+    ghost use Rattle.heap_check.specs.RowCursor.{rows_left};
 
     /// A cursor before the first row. No block is read yet.
     pub fn new(alloc: Global, case: &'a Case, heap: &'a SoundHeap) -> Result<LiveRows<'a>, NoMemory>

@@ -1,8 +1,9 @@
-// Which bytes of a heap page belong to its items, in cells of 8 bytes.
+//! Which bytes of a heap page belong to its items, in cells of 8 bytes.
 ghost use Rattle.std.specs.Prelude.{◌≡◌, ◌+◌, ◌-◌, ◌≤◌, ◌<◌, ℕ, List, true, false, length, get_or, IfOk};
 ghost use Rattle.page_layout.specs.Page.{HasItems, count_of, item_of, upper_of};
 ghost use Rattle.page_layout.specs.View.{page_bytes};
-ghost use Rattle.heap_check.specs.Storage.{AreCells, AreMarked, IsTakenBetween, has_storage, meets_item_below, taken_with};
+ghost use Rattle.heap_check.specs.Storage.{AreCells, AreMarked, IsTakenBetween, has_storage, meets_item_below};
+ghost use Rattle.heap_check.specs.Storage.{taken_with};
 
 use outside::NoMemory;
 use page_layout::{LinePtr, PageView};

@@ -1,4 +1,4 @@
-// What the rules of a heap need to know of its table.
+//! What the rules of a heap need to know of its table.
 ghost use Rattle.std.specs.Prelude.{◌≡◌};
 ghost use Rattle.std.specs.Option.{option_map};
 

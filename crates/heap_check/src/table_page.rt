@@ -1,4 +1,4 @@
-// Judges one page of a table.
+//! Judges one page of a table.
 ghost use Rattle.std.specs.Prelude.{◌≡◌, ◌++◌, ◌≤◌, None, All, OnOk, length};
 ghost use Rattle.std.specs.Option.{option_copied};
 ghost use Rattle.outside.specs.Adds.{Adds};
@@ -7,7 +7,8 @@ ghost use Rattle.page_layout.specs.Page.{HasItems, count_of};
 ghost use Rattle.page_layout.specs.View.{page_bytes};
 ghost use Rattle.key_orders.specs.Types.{HasAlignment};
 ghost use Rattle.heap_check.specs.Below.{each_upto};
-ghost use Rattle.heap_check.specs.Heap.{findings_by_rule, is_flagged_visible, items_doubts, page_chunks, page_doubts, page_externals, page_findings};
+ghost use Rattle.heap_check.specs.Heap.{findings_by_rule, is_flagged_visible, items_doubts, page_chunks, page_doubts};
+ghost use Rattle.heap_check.specs.Heap.{page_externals, page_findings};
 ghost use Rattle.heap_check.specs.Kept.{item_chunks, item_externals};
 ghost use Rattle.heap_check.specs.Tables.{bits_seen, table_seen};
 

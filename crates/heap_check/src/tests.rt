@@ -1,4 +1,4 @@
-// The live rows of files in memory.
+//! The live rows of files in memory.
 ghost use Rattle.std.specs.Prelude.{◌+◌, ◌≤◌, length};
 
 use crate::{Cell, HeapFiles, LiveRow, LiveRows, check_heap};

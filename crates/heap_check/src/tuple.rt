@@ -1,4 +1,4 @@
-// Judges a tuple: its header, whether it is live, and the values of a live one.
+//! Judges a tuple: its header, whether it is live, and the values of a live one.
 ghost use Rattle.std.specs.Prelude.{◌≡◌, ◌++◌, ◌≤◌, ◌<◌, All, length, false, IfOk};
 ghost use Rattle.outside.specs.Outside.{Asked, Tells};
 ghost use Rattle.tuple_head.specs.Head.{tuple_head_of};

@@ -1,11 +1,12 @@
-// The values of a live tuple.
+//! The values of a live tuple.
 ghost use Rattle.std.specs.Prelude.{◌≡◌, ◌++◌, ◌≤◌, ℕ, List, All, length, IfOk};
 ghost use Rattle.tuple_head.specs.Head.{tuple_head_of};
 ghost use Rattle.key_orders.specs.Types.{HasAlignment};
 ghost use Rattle.varlena_attrs.specs.Shown.{IsWithin, shown_at, shown_in};
 ghost use Rattle.heap_tuples.specs.Tuples.{attributes_in};
 ghost use Rattle.heap_check.specs.Kept.{chunks_by, externals_by, keeps_nothing, kept_by_values};
-ghost use Rattle.heap_check.specs.Values.{first_value_rule, has_externals, is_other_relation, is_stray_pointer, pointer_rule_of, value_rule, values_rule};
+ghost use Rattle.heap_check.specs.Values.{first_value_rule, has_externals, is_other_relation, is_stray_pointer};
+ghost use Rattle.heap_check.specs.Values.{pointer_rule_of, value_rule, values_rule};
 
 use crate::kept::Kept;
 use crate::table::TableRules;

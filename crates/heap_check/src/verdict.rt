@@ -1,4 +1,4 @@
-// What is found of a line pointer and of its tuple, and how a report says it.
+//! What is found of a line pointer and of its tuple, and how a report says it.
 ghost use Rattle.std.specs.Prelude.{◌≡◌};
 ghost use Rattle.outside.specs.Adds.{Adds};
 ghost use Rattle.heap_check.specs.Pages.{finding_at};

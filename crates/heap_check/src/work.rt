@@ -1,4 +1,4 @@
-// What is kept in hand from one page to the next, so that a page takes no memory of its own.
+//! What is kept in hand from one page to the next, so that a page takes no memory of its own.
 ghost use Rattle.std.specs.Prelude.{◌≡◌, [], IfOk};
 
 use crate::storage::PageCells;

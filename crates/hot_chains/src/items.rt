@@ -1,4 +1,4 @@
-// Single items of a page, and the step from one to another.
+//! Single items of a page, and the step from one to another.
 ghost use Rattle.std.specs.Prelude.{◌≡◌};
 ghost use Rattle.hot_chains.specs.Chains.{is_dead, is_heap_only_tuple, is_live_tuple, is_root, is_root_at, is_tuple};
 ghost use Rattle.hot_chains.specs.Chains.{is_tuple_of, item_at, may_step, pointer, step_of, steps};

@@ -1,4 +1,4 @@
-// The first chain rule that each item breaks.
+//! The first chain rule that each item breaks.
 ghost use Rattle.std.specs.Prelude.{◌≡◌, ◌+◌, ◌-◌, ◌<◌, ◌≤◌, false, length, replicate};
 ghost use Rattle.hot_chains.specs.Chains.{chain_rule, is_stepped_to, points_astray, root_number, step_of};
 ghost use Rattle.hot_chains.specs.Table.{AreMarked, ArePlaces, AreTaken};

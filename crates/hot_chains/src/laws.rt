@@ -1,4 +1,4 @@
-// What holds of the chains of any page.
+//! What holds of the chains of any page.
 ghost use Rattle.std.specs.Prelude.{◌≡◌, ◌↔◌, ◌≤◌, ◌||◌, ℕ, List, true, if◌then◌else◌, IfSome, IsTrue, None, Some};
 ghost use Rattle.page_layout.specs.declared.rules.Rule.{Rule};
 ghost use Rattle.liveness.specs.declared.states.ItemState.{ItemState};

@@ -1,4 +1,4 @@
-// What is known of one item.
+//! What is known of one item.
 use page_layout::Rule;
 
 #[derive(Clone, Copy)]

@@ -1,4 +1,4 @@
-// The table of a page's chains, whose memory serves one page after another.
+//! The table of a page's chains, whose memory serves one page after another.
 ghost use Rattle.std.specs.Prelude.{◌≡◌, ◌↔◌, ◌≤◌, length, IsTrue, OnErr, OnOk};
 ghost use Rattle.hot_chains.specs.Table.{AreChains, IsBlank, count_in, root_in, rule_in};
 

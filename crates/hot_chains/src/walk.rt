@@ -1,5 +1,5 @@
-// The lowest root of each item: roots in rising order mark what they reach. A walk along the steps
-// ends at an item that has a mark, so all walks together are as long as the page has items.
+//! The lowest root of each item: roots in rising order mark what they reach. A walk along the steps
+//! ends at an item that has a mark, so all walks together are as long as the page has items.
 ghost use Rattle.std.specs.Prelude.{◌≡◌, ◌+◌, ◌≤◌, true, length, replicate};
 ghost use Rattle.hot_chains.specs.Chains.{is_root_at};
 ghost use Rattle.hot_chains.specs.Table.{AreMarked};

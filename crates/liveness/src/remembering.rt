@@ -47,8 +47,10 @@ impl<F: Files> Files for Remembering<'_, F> {
 }
 
 // From memory where it is there, and else looked up and kept; logs of other folders than those of the
-// memory are looked up anew each time.
+// memory are looked up anew each time. Both stay calls: most tuples have hint bits and ask for neither, and
+// written into the loop over a page's tuples they make it slower by a twentieth.
 impl<F: Files> Transactions for Remembering<'_, F> {
+    #[inline(never)]
     fn status(&mut self, logs: &Status3<'_>, xid: u32) -> Result<XidState, ReadFault> {
         if let Some(kept) = &mut self.memory.kept {
             if kept.states.are_of(logs.xact) {
@@ -58,6 +60,7 @@ impl<F: Files> Transactions for Remembering<'_, F> {
         status(self.files, logs.xact, xid)
     }
 
+    #[inline(never)]
     fn updater(&mut self, logs: &Status3<'_>, multi: u32) -> Result<MultiState, ReadFault> {
         if let Some(kept) = &mut self.memory.kept {
             if kept

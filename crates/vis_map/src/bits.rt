@@ -1,4 +1,4 @@
-// The bits of heap blocks, as map pages hold them.
+//! The bits of heap blocks, as map pages hold them.
 ghost use Rattle.std.specs.Prelude.{◌≡◌, ℕ, ◌+◌, ◌*◌, ◌<◌, ◌≤◌, true, length, None};
 ghost use Rattle.page_layout.specs.Page.{is_new, page_rule_of};
 ghost use Rattle.page_layout.specs.View.{page_bytes};

@@ -1,4 +1,4 @@
-// Whether what the map and the page's flag say of a heap block is true.
+//! Whether what the map and the page's flag say of a heap block is true.
 ghost use Rattle.std.specs.Prelude.{◌≡◌, ◌↔◌, IfSome, IsNone};
 ghost use Rattle.std.specs.List.{list_all};
 ghost use Rattle.page_layout.specs.declared.rules.Rule.{Rule};
