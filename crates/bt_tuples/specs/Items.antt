@@ -19,8 +19,8 @@ use Rattle.bt_meta.specs.Heads.{tree_head_of}
 use Rattle.bt_tuples.specs.declared.items.ItemFault.{ItemFault}
 use Rattle.bt_tuples.specs.declared.items.ItemFault.TheVariants.{Broken, Packed}
 use Rattle.bt_tuples.specs.declared.items.Spot3.{Spot3}
-use Rattle.bt_tuples.specs.Rules.{begins_past_end, breaks_form, breaks_item_rule, breaks_place, breaks_size, breaks_tids}
-use Rattle.bt_tuples.specs.Rules.{includes_some, is_packed, is_unread, tuple_of}
+use Rattle.bt_tuples.specs.Rules.{begins_past_end, breaks_form, breaks_item_rule, breaks_place, breaks_size}
+use Rattle.bt_tuples.specs.Rules.{breaks_tids, includes_some, is_packed, is_unread, tuple_of}
 use Rattle.bt_tuples.specs.Tuples.{kept_tid, plain_tid, tids_in, values_in}
 
 -- a separator with its downlink; an entry of a leaf with its TID; entries of a leaf with one key and several TIDs

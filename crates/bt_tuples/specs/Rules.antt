@@ -48,8 +48,8 @@ keeps_wrong columns head =
     number_of head == 0 || nat_lt columns (number_of head) || (keeps_tid head && nat_lt (number_of head) columns)
 
 -- B7: the tuple isn't of the form that its place asks for, in an index of so many key columns that includes others or
--- not. A high key and an item of an internal page are pivots, and the first data item of an internal page keeps nothing.
--- A leaf's data item is no pivot, and where columns are included no posting tuple.
+-- not. A high key and an item of an internal page are pivots, and the first data item of an internal page keeps
+-- nothing. A leaf's data item is no pivot, and where columns are included no posting tuple.
 abbrev pub breaks_form : Spot3 → (columns : ℕ) → (includes : Bool) → TreeHead → Bool
 breaks_form HighKey columns includes head = not (is_pivot head.kind) || keeps_wrong columns head
 breaks_form FirstInner columns includes head = not (is_pivot head.kind) || not (number_of head == 0) || keeps_tid head

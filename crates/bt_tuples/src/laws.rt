@@ -26,7 +26,8 @@ pub fn item_rules_are_exact()
         → IfSome (item_rule_of specs more spot page i) (λ rule. breaks_item_rule specs more spot page i rule ≡ true) }
     ensures meaning { (specs : List Spec) (more : List More) (spot : Spot) (page : List ℕ) (i : ℕ)
         → KeepsItemRules specs more spot page i → has_packed specs more (tuple_of page i) ≡ false
-        → item_outcome specs more spot page i ≡ Ok (meaning_of specs more (tuple_of page i) (is_dead (item_of page i).flag)) }
+        → item_outcome specs more spot page i
+        ≡ Ok (meaning_of specs more (tuple_of page i) (is_dead (item_of page i).flag)) }
     ensures read { (specs : List Spec) (more : List More) (spot : Spot) (page : List ℕ) (i : ℕ) (item : Item)
         → item_outcome specs more spot page i ≡ Ok item
         → KeepsItemRules specs more spot page i × (has_packed specs more (tuple_of page i) ≡ false)
