@@ -90,4 +90,5 @@ pub record IsTrueHeap (case : CaseRecord) (names : Names) : Type 0 where
       → IsLiveItem (states_of (table_of case names) (heap_page case names block)) i
       → HasOneRoot block (states_of (table_of case names) (heap_page case names block)) i
   pub values : (block : ℕ) → block < heap_blocks case names → (i : ℕ) (pointer : ToastPointer)
-      → HasExternal (table_of case names) (heap_page case names block) i pointer → IsWhole (chunks_of case names) pointer
+      → HasExternal (table_of case names) (heap_page case names block) i pointer
+      → IsWhole (chunks_of case names) pointer

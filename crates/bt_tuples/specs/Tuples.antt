@@ -13,7 +13,7 @@ use Rattle.bt_meta.specs.declared.records.HeadKind.TheVariants.{Pivot, Plain, Po
 use Rattle.bt_meta.specs.declared.records.TreeHead.{TreeHead}
 use Rattle.bt_meta.specs.Heads.{tree_head_of}
 
--- THE HEAD
+-- The head
 
 -- the size that the info word states
 abbrev pub size_of : TreeHead → ℕ
@@ -31,7 +31,7 @@ number_of head = head.item % 0x1000
 unfoldable pub keeps_tid : TreeHead → Bool
 keeps_tid head = has_bit head.item 0x1000
 
--- THE BODY
+-- The body
 
 -- the values begin after the head, or, where there are null bits, after these and their padding
 abbrev pub body_begin : TreeHead → ℕ
@@ -66,7 +66,7 @@ columns_in specs more tuple = columns_by (tree_head_of tuple).kind (tree_head_of
 unfoldable pub values_in : List KeySpec → List MoreSpec → List ℕ → KeyValues
 values_in specs more tuple = key_values (columns_in specs more tuple) (body_in tuple) (null_bits_in tuple)
 
--- TIDS
+-- TIDs
 
 -- the TID in the 6 bytes at a place: the block, in two halves of which the high one is first, and the item
 unfoldable pub tid_at : List ℕ → ℕ → Tid
