@@ -4,8 +4,8 @@ use Rattle.std.specs.Prelude.{ℤ, pos, negsuc, ◌==◌, ◌&&◌, nat_lt, coun
 use Rattle.std.specs.List.{remove}
 use Rattle.std.specs.Ordering.{int_eq}
 use Rattle.std.proofs.lemmas.Bool.Decides.{Decides-int_eq, nat_tests}
-use Rattle.std.proofs.lemmas.Bool.{and_from, and_right, cases_eq, eq-eqb}
-use Rattle.std.proofs.lemmas.List.Sums.{get_or-le-sum_by, sum_by-cons, sum_by-le-sum_by, sum_by-remove}
+use Rattle.std.proofs.lemmas.Bool.{and_right, cases_eq, eq-eqb}
+use Rattle.std.proofs.lemmas.List.Sums.{sum_by-cons, sum_by-le-sum_by, sum_by-remove}
 use Rattle.toast_chunks.specs.declared.map.Chunk.{Chunk}
 use Rattle.toast_chunks.specs.Chunks.{has_size, is_fit, is_numbered, is_of}
 
@@ -18,11 +18,11 @@ abbrev pub below : (ℕ → ℕ) → ℕ → ℕ
 below f zero = 0
 below f (suc n) = f n + below f n
 
-below-zero : (f : ℕ → ℕ) → ((k : ℕ) → f k ≡ 0) → (n : ℕ) → below f n ≡ 0
+pub below-zero : (f : ℕ → ℕ) → ((k : ℕ) → f k ≡ 0) → (n : ℕ) → below f n ≡ 0
 below-zero f h zero = refl
 below-zero f h (suc n) = omega (arith, h n, below-zero f h n)
 
-below-add : (f g h : ℕ → ℕ) → ((k : ℕ) → f k ≡ g k + h k) → (n : ℕ) → below f n ≡ below g n + below h n
+pub below-add : (f g h : ℕ → ℕ) → ((k : ℕ) → f k ≡ g k + h k) → (n : ℕ) → below f n ≡ below g n + below h n
 below-add f g h e zero = refl
 below-add f g h e (suc n) = omega (arith, e n, below-add f g h e n)
 
@@ -30,7 +30,7 @@ pub below-le : (f g : ℕ → ℕ) → ((k : ℕ) → f k ≤ g k) → (n : ℕ)
 below-le f g h zero = omega arith
 below-le f g h (suc n) = omega (arith, h n, below-le f g h n)
 
-le-below : (f : ℕ → ℕ) (n : ℕ) → ((k : ℕ) → k < n → 1 ≤ f k) → n ≤ below f n
+pub le-below : (f : ℕ → ℕ) (n : ℕ) → ((k : ℕ) → k < n → 1 ≤ f k) → n ≤ below f n
 le-below f zero h = omega arith
 le-below f (suc n) h = omega (arith, h n (omega arith), le-below f n (λ k lt. h k (omega arith)))
 
@@ -46,11 +46,11 @@ each_is_one f (suc n) h le k lt =
     ]
 
 -- a number below n is one of those below n, once
-one-below : (m n : ℕ) → below (λ k. one (m == k)) n ≡ one (nat_lt m n)
+pub one-below : (m n : ℕ) → below (λ k. one (m == k)) n ≡ one (nat_lt m n)
 one-below m zero = grind (arith, nat_tests)
 one-below m (suc n) = grind (arith, nat_tests, one-below m n)
 
-int_eq-same : (x y : ℤ) → x ≡ y → int_eq x y ≡ true
+pub int_eq-same : (x y : ℤ) → x ≡ y → int_eq x y ≡ true
 int_eq-same x y e = (Decides-int_eq x y).1 e
 
 -- at most one number below n is that of a chunk
@@ -117,10 +117,3 @@ unfit-lt-numbered id k size chunks i c lt at numbered unfit =
     let none : fit (get_or chunks i c) ≡ 0 = ap fit at ∙ ap one (and_right (is_numbered id (pos k) c) _ unfit) in
     let some : num (get_or chunks i c) ≡ 1 = ap num at ∙ ap one numbered in
     omega (arith, sum_by-remove fit chunks i c lt, sum_by-remove num chunks i c lt, none, some, sum_by-le-sum_by fit num (remove chunks i) (fit_is_numbered id k size))
-
--- one that fits is counted
-pub fit-some : (id k size : ℕ) (chunks : List Chunk) (i : ℕ) (c : Chunk) → i < length chunks → get_or chunks i c ≡ c → is_numbered id (pos k) c ≡ true → has_size c.size size ≡ true → 1 ≤ count_by (is_fit id k size) chunks
-fit-some id k size chunks i c lt at numbered fits =
-    let fit : Chunk → ℕ = λ d. one (is_fit id k size d) in
-    let some : fit (get_or chunks i c) ≡ 1 = ap fit at ∙ ap one (and_from (is_numbered id (pos k) c) _ numbered fits) in
-    omega (arith, get_or-le-sum_by fit chunks i c lt, some)

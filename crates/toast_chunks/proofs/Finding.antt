@@ -1,30 +1,24 @@
 -- What the chunks that are found by their numbers tell of a value.
-use Rattle.std.proofs.Common.{◌≡◌, ℕ, zero, suc, ◌<◌, ◌≤◌, Bool, true, false, List, [], ◌∷◌, length, get_or, refl, ap, sym, subst, ◌∙◌, inl, inr, arith}
+use Rattle.std.proofs.Common.{◌≡◌, ℕ, zero, suc, ◌<◌, Bool, true, false, List, [], ◌∷◌, length, get_or, refl, ap, sym, subst, ◌∙◌, inl, inr, arith}
 use Rattle.std.specs.Prelude.{ℤ, pos, ◌==◌, count_by, Option, Some, None, slice_get}
 use Rattle.std.specs.Option.{option_map_or}
-use Rattle.std.proofs.lemmas.Bool.{and_from, and_parts, cases_Bool, eq-eqb, eqb-true, false≢true}
+use Rattle.std.proofs.lemmas.Bool.{and_from, and_parts, cases_Bool, eq-eqb, eqb-true}
 use Rattle.std.proofs.lemmas.Bool.Decides.{Decides-below_and}
 use Rattle.std.specs.BTreeMap.{BTreeMap, get}
 use Rattle.std.proofs.lemmas.Option.{get_or_from_slice_get, slice_get-get_or}
 use Rattle.varlena_attrs.specs.declared.places.ToastPointer.{ToastPointer}
 use Rattle.toast_chunks.specs.declared.map.Chunk.{Chunk}
-use Rattle.toast_chunks.specs.Chunks.{IsWhole, all_below, is_whole, has_size, is_fit, is_numbered, is_of}
+use Rattle.toast_chunks.specs.Chunks.{IsWhole, all_below, is_whole, has_size, is_fit, is_numbered}
 use Rattle.toast_chunks.specs.declared.map.ChunkNumber.{ChunkNumber}
 use Rattle.toast_chunks.specs.Index.{FindsChunk, FindsPlace, number_cmp}
 use Rattle.toast_chunks.specs.Pointer.{chunk_count, chunk_size, stored_size}
 use Rattle.toast_chunks.specs.Laws.{WholeIsTested}
-use Rattle.toast_chunks.proofs.Counts.{below-le, each_is_one, fit-le-numbered, fit-some, numbered-le-of, unfit-lt-numbered}
+use Rattle.toast_chunks.proofs.Counts.{each_is_one, fit-le-numbered, numbered-le-of, unfit-lt-numbered}
 
 pub in_list : (chunks : List Chunk) (i : ℕ) (c : Chunk) → slice_get chunks i ≡ Some c → i < length chunks
 in_list [] i c e = absurd cc
 in_list (d ∷ ds) zero c e = omega arith
 in_list (d ∷ ds) (suc i) c e = omega (arith, in_list ds i c e)
-
--- a chunk that is found and has the size
-pub fit_found : (chunks : List Chunk) (id k size : ℕ) (o : Option Chunk) → FindsChunk chunks id (pos k) o → option_map_or (λ c. has_size c.size size) o false ≡ true → 1 ≤ count_by (is_fit id k size) chunks
-fit_found chunks id k size None finds fits = absurd (false≢true fits)
-fit_found chunks id k size (Some c) finds fits =
-    fit-some id k size chunks finds.0 c (in_list chunks finds.0 c finds.1) (get_or_from_slice_get chunks finds.0 c c finds.1) finds.2 fits
 
 -- a whole value has one chunk of each number
 pub numbered_once : (chunks : List Chunk) (p : ToastPointer) → IsWhole chunks p → (k : ℕ) → k < chunk_count (stored_size p) → count_by (is_numbered p.value_id (pos k)) chunks ≡ 1
@@ -37,13 +31,6 @@ unfit_found chunks p k None lt finds unfit w =
     absurd (omega (arith, finds, w.each k lt, fit-le-numbered p.value_id k (chunk_size (stored_size p) k) chunks))
 unfit_found chunks p k (Some c) lt finds unfit w =
     absurd (omega (arith, w.each k lt, numbered_once chunks p w k lt, unfit-lt-numbered p.value_id k (chunk_size (stored_size p) k) chunks finds.0 c (in_list chunks finds.0 c finds.1) (get_or_from_slice_get chunks finds.0 c c finds.1) finds.2 unfit))
-
--- the value has as many chunks as it should, and at least one of each number fits
-pub whole_found : (chunks : List Chunk) (p : ToastPointer) → count_by (is_of p.value_id) chunks ≡ chunk_count (stored_size p) → ((k : ℕ) → k < chunk_count (stored_size p) → 1 ≤ count_by (is_fit p.value_id k (chunk_size (stored_size p) k)) chunks) → IsWhole chunks p
-whole_found chunks p count each = record {
-  count = count;
-  each = each_is_one (λ k. count_by (is_fit p.value_id k (chunk_size (stored_size p) k)) chunks) _ each (omega (arith, below-le (λ k. count_by (is_fit p.value_id k (chunk_size (stored_size p) k)) chunks) (λ k. count_by (is_numbered p.value_id (pos k)) chunks) (λ k. fit-le-numbered p.value_id k (chunk_size (stored_size p) k) chunks) (chunk_count (stored_size p)), numbered-le-of p.value_id chunks (chunk_count (stored_size p)), count));
-}
 
 -- what a look-up of a number gave
 pub place_found : (chunks : List Chunk) (places : BTreeMap ChunkNumber ℕ) (id k : ℕ) (seq : ℤ) (o : Option ℕ) → ((id : ℕ) (seq : ℤ) → FindsPlace chunks id seq (get number_cmp places (record { id = id; seq = seq }))) → o ≡ get number_cmp places (record { id = id; seq = seq }) → seq ≡ pos k → FindsPlace chunks id (pos k) o

@@ -1,5 +1,9 @@
 pub mod Counts
 pub mod Finding
+pub mod Wholes
+pub mod Fitting
+pub mod OneMore
+pub mod Unfit
 pub mod Adding
 pub mod Placed
 pub mod InHand

@@ -1,12 +1,16 @@
 -- How a map finds the chunks of a value.
-use Rattle.std.specs.Prelude.{◌≡◌, ℕ, ℤ, ◌<◌, true, List, length, Option, Some, None, unwrap_or, count_by, slice_get}
+use Rattle.std.specs.Prelude.{◌≡◌, ℕ, ℤ, ◌<◌, true, List, length, Option, Some, None, unwrap_or}
+use Rattle.std.specs.Prelude.{count_by, slice_get}
 use Rattle.std.specs.declared.cmp.Ordering.{Ordering}
 use Rattle.std.specs.Ordering.{int_cmp, nat_cmp, ordering_then}
 use Rattle.std.specs.List.{HoldsAt}
 use Rattle.std.specs.BTreeMap.{BTreeMap, get}
 use Rattle.toast_chunks.specs.declared.map.Chunk.{Chunk}
 use Rattle.toast_chunks.specs.declared.map.ChunkNumber.{ChunkNumber}
-use Rattle.toast_chunks.specs.Chunks.{is_numbered, is_of}
+use Rattle.toast_chunks.specs.declared.value_chunks.ValueChunks.{ValueChunks}
+use Rattle.toast_chunks.specs.declared.value_chunks.ValueChunks.TheVariants.{Empty}
+use Rattle.toast_chunks.specs.Chunks.{is_numbered}
+use Rattle.toast_chunks.specs.ValueChunks.{Describes}
 
 -- numbers of chunks go by value, then by number
 abbrev pub number_cmp : ChunkNumber → ChunkNumber → Ordering
@@ -22,7 +26,8 @@ abbrev pub FindsChunk : List Chunk → ℕ → ℤ → Option Chunk → Type 0
 FindsChunk chunks id seq None = count_by (is_numbered id seq) chunks ≡ 0
 FindsChunk chunks id seq (Some c) = (i : ℕ) × (slice_get chunks i ≡ Some c) × (is_numbered id seq c ≡ true)
 
--- the map counts each value's chunks, and finds them by their numbers
-pub record IsIndexed (chunks : List Chunk) (counts : BTreeMap ℕ ℕ) (places : BTreeMap ChunkNumber ℕ) : Type 0 where
-  pub counted : (id : ℕ) → unwrap_or (get nat_cmp counts id) 0 ≡ count_by (is_of id) chunks
-  pub found : (id : ℕ) (seq : ℤ) → FindsPlace chunks id seq (get number_cmp places (record { id = id; seq = seq }))
+-- The map knows of each value's chunks whether they are whole, and finds them by their numbers.
+pub record IsIndexed (chunks : List Chunk) (values : BTreeMap ℕ ValueChunks) (places : BTreeMap ChunkNumber ℕ) : Type 0
+  where
+    pub described : (id : ℕ) → Describes chunks id (unwrap_or (get nat_cmp values id) Empty)
+    pub found : (id : ℕ) (seq : ℤ) → FindsPlace chunks id seq (get number_cmp places (record { id = id; seq = seq }))

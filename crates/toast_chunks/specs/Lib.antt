@@ -1,5 +1,6 @@
 pub mod Pointer
 pub mod Chunks
+pub mod ValueChunks
 pub mod Index
 pub mod Rows
 pub mod Stored

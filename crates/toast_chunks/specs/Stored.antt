@@ -1,5 +1,5 @@
 -- What stands at an item of a page of a TOAST table.
-use Rattle.std.specs.Prelude.{◌≡◌, ℕ, ◌<◌, ◌≤◌, true, false, List, [], ◌∷◌, Option, Some, None, Ok, Err, IsSome, All}
+use Rattle.std.specs.Prelude.{◌≡◌, ℕ, ◌<◌, false, List, [], ◌∷◌, Option, Some, None, Ok, Err, IsSome, All}
 use Rattle.outside.specs.Outside.{Names}
 use Rattle.page_layout.specs.Page.{item_of}
 use Rattle.rel_files.specs.Blocks.{block_of}

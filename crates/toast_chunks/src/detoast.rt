@@ -1,4 +1,4 @@
-// The value of a pointer.
+//! The value of a pointer.
 ghost use Rattle.std.specs.Prelude.{◌≡◌, ◌≤◌, true, IfOk};
 ghost use Rattle.outside.specs.Outside.{Asked, IfTold, Tells};
 ghost use Rattle.rel_files.specs.Relation.{IsAttached};

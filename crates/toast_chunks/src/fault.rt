@@ -1,4 +1,4 @@
-// Why a value can't be read.
+//! Why a value can't be read.
 ghost use Rattle.std.specs.Prelude.{◌≡◌};
 ghost use Rattle.toast_chunks.specs.declared.fault.ToastFault.TheVariants as fault;
 

@@ -1,4 +1,4 @@
-// What holds of the definitions.
+//! What holds of the definitions.
 ghost use Rattle.std.specs.Prelude.{List};
 ghost use Rattle.varlena_attrs.specs.declared.places.ToastPointer.{ToastPointer};
 ghost use Rattle.toast_chunks.specs.declared.map.Chunk.{Chunk};

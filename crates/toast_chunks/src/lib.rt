@@ -15,6 +15,7 @@ mod rows;
 mod stored;
 #[cfg(test)]
 mod tests;
+mod value_chunks;
 
 pub use detoast::{ToastState, value};
 pub use fault::ToastFault;

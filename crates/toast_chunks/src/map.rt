@@ -1,13 +1,15 @@
-// The chunks of a TOAST table, found by their value and number.
-ghost use Rattle.std.specs.Prelude.{◌≡◌, ◌↔◌, ◌∷◌, [], ◌++◌, ◌+◌, ◌<◌, ◌≤◌, ◌^◌, ℕ, Some, false, pos, vec_capacity};
-ghost use Rattle.std.specs.Prelude.{vec_len, IfOk, IsSome, IsTrue, OnErr, OnOk, count_by, unwrap_or};
+//! The chunks of a TOAST table, found by their value and number.
+ghost use Rattle.std.specs.Prelude.{◌≡◌, ◌↔◌, ◌∷◌, [], ◌++◌, ◌+◌, ◌<◌, ◌≤◌, ◌^◌, ℕ, Some, pos, unwrap_or};
+ghost use Rattle.std.specs.Prelude.{vec_capacity, vec_len, IfOk, IsSome, IsTrue, OnErr, OnOk};
 ghost use Rattle.std.specs.BTreeMap.{Updates, get};
-ghost use Rattle.std.specs.Option.{option_map_or};
 ghost use Rattle.std.specs.Ordering.{nat_cmp};
-ghost use Rattle.toast_chunks.specs.Chunks.{IsWhole, has_size, is_of, is_whole};
+ghost use Rattle.toast_chunks.specs.declared.value_chunks.ValueChunks.TheVariants.{Empty};
+ghost use Rattle.toast_chunks.specs.Chunks.{IsWhole, is_whole};
 ghost use Rattle.toast_chunks.specs.Index.{FindsChunk};
+ghost use Rattle.toast_chunks.specs.ValueChunks.{Describes};
 
-use crate::pointer::{chunk_count, chunk_size, stored_size};
+use crate::pointer::stored_size;
+use crate::value_chunks::ValueChunks;
 use key_orders::Tid;
 use outside::NoMemory;
 use std::alloc::Global;
@@ -40,8 +42,8 @@ pub(crate) struct ChunkNumber {
 #[derive(Drop)]
 pub struct ToastMap {
     chunks: Vec<Chunk>,
-    // How many chunks each value has.
-    counts: BTreeMap<u32, usize>,
+    // What tells whether the chunks of a value are whole.
+    values: BTreeMap<u32, ValueChunks>,
     // A place in `chunks` of the chunk of each number.
     places: BTreeMap<ChunkNumber, usize>,
 }
@@ -55,7 +57,7 @@ impl Model for ToastMap {
 
     ghost view = { λ m. m.chunks.items };
 
-    ghost invariant = { λ m. IsIndexed m.chunks.items m.counts m.places };
+    ghost invariant = { λ m. IsIndexed m.chunks.items m.values m.places };
 }
 
 impl ToastMap {
@@ -65,7 +67,7 @@ impl ToastMap {
     {
         ToastMap {
             chunks: Vec::new(alloc),
-            counts: BTreeMap::new(alloc),
+            values: BTreeMap::new(alloc),
             places: BTreeMap::new(alloc),
         }
     }
@@ -77,20 +79,22 @@ impl ToastMap {
         ensures ok { OnOk result (self.new ≡ self.old ++ record { id = id; seq = seq; tid = tid; size = size } ∷ []) }
         ensures err { OnErr result (self.new ≡ self.old) }
     {
-        let count = count_with_room(&mut self.counts, id)?;
+        let value = value_with_room(&mut self.values, id)?;
         self.chunks.reserve(1)?;
-        self.places
-            .insert(ChunkNumber { id, seq }, self.chunks.len())?;
-        set_count(&mut self.counts, id, count + 1);
+        let again = self
+            .places
+            .insert(ChunkNumber { id, seq }, self.chunks.len())?
+            .is_some();
+        set_value(&mut self.values, id, value.with(seq, size, again));
         push_with_room(&mut self.chunks, Chunk { id, seq, tid, size });
         Ok(())
     }
 
-    // How many chunks a value has.
-    fn count_of(&self, id: u32) -> usize
-        ensures { result ≡ count_by (is_of id) self.now }
+    // The chunks of a value.
+    fn value(&self, id: u32) -> ValueChunks
+        ensures { Describes self.now id result }
     {
-        self.counts.get(&id).copied().unwrap_or(0)
+        self.values.get(&id).copied().unwrap_or(ValueChunks::Empty)
     }
 
     // A chunk of number k of a value.
@@ -106,52 +110,35 @@ impl ToastMap {
     }
 
     /// Whether the chunks of the pointer's value are those that it should have, each once: true exactly
-    /// where the pointer keeps H21. The value's chunks are looked at, and no others.
+    /// where the pointer keeps H21. It takes one look-up, however many chunks the value has.
     pub fn whole(&self, p: ToastPointer) -> bool
         ensures whole { IsTrue result ↔ IsWhole self.now p }
         ensures value { result ≡ is_whole self.now p }
     {
-        let stored = stored_size(p);
-        let count = chunk_count(stored);
-        if self.count_of(p.value_id) != count as usize {
-            return false;
-        }
-        for k in 0..count {
-            if !has_chunk(self.find(p.value_id, k), chunk_size(stored, k)) {
-                return false;
-            }
-        }
-        true
+        self.value(p.value_id).is_whole(stored_size(p))
     }
 }
 
-// Whether a chunk was found that has this size.
-fn has_chunk(chunk: Option<Chunk>, size: u32) -> bool
-    ensures { result ≡ option_map_or (λ c. has_size c.size size) chunk false }
+// The chunks of a value, with room for what they are next.
+fn value_with_room(
+    values: &mut BTreeMap<u32, ValueChunks>,
+    id: u32,
+) -> Result<ValueChunks, NoMemory>
+    ensures value { IfOk result (λ v. v ≡ unwrap_or (get nat_cmp values.old id) Empty) }
+    ensures room { OnOk result (IsSome (get nat_cmp values.new id)) }
+    ensures same { (q : ℕ) → unwrap_or (get nat_cmp values.new q) Empty ≡ unwrap_or (get nat_cmp values.old q) Empty }
 {
-    match chunk {
-        Some(Chunk { size: Some(n), .. }) => n == size,
-        _ => false,
-    }
+    let value = values.get(&id).copied().unwrap_or(ValueChunks::Empty);
+    values.insert(id, value)?;
+    Ok(value)
 }
 
-// How many chunks a value has, with room for the next count.
-fn count_with_room(counts: &mut BTreeMap<u32, usize>, id: u32) -> Result<usize, NoMemory>
-    ensures count { IfOk result (λ n. n ≡ unwrap_or (get nat_cmp counts.old id) 0) }
-    ensures room { OnOk result (IsSome (get nat_cmp counts.new id)) }
-    ensures same { (q : ℕ) → unwrap_or (get nat_cmp counts.new q) 0 ≡ unwrap_or (get nat_cmp counts.old q) 0 }
+// Sets the chunks of a value that has room, which can't fail.
+fn set_value(values: &mut BTreeMap<u32, ValueChunks>, id: u32, value: ValueChunks)
+    requires { IsSome (get nat_cmp values.old id) }
+    ensures { Updates nat_cmp values.old values.new id (Some value) }
 {
-    let count = counts.get(&id).copied().unwrap_or(0);
-    counts.insert(id, count)?;
-    Ok(count)
-}
-
-// Sets a count that there is, which can't fail.
-fn set_count(counts: &mut BTreeMap<u32, usize>, id: u32, count: usize)
-    requires { IsSome (get nat_cmp counts.old id) }
-    ensures { Updates nat_cmp counts.old counts.new id (Some count) }
-{
-    let _ = counts.insert(id, count);
+    let _ = values.insert(id, value);
 }
 
 // Adds a chunk where there is room, which can't fail.

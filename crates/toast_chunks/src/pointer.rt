@@ -1,4 +1,4 @@
-// What a pointer to a TOAST value says of it.
+//! What a pointer to a TOAST value says of it.
 ghost use Rattle.std.specs.Prelude.{◌≡◌, ◌↔◌, ◌+◌, ◌<◌, ◌≤◌, ◌^◌, IsTrue};
 ghost use Rattle.toast_chunks.specs.Pointer.{KeepsPointerRule, chunk_count, chunk_size, is_compressed};
 ghost use Rattle.toast_chunks.specs.Pointer.{keeps_pointer_rule, method_of, raw_size, stored_size};

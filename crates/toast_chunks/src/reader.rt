@@ -1,4 +1,4 @@
-// Reads chunks from the pages of a relation.
+//! Reads chunks from the pages of a relation.
 ghost use Rattle.std.specs.Prelude.{◌≡◌, ◌<◌, OnOk, Some};
 ghost use Rattle.outside.specs.Outside.{Asked, IfTold};
 ghost use Rattle.rel_files.specs.Relation.{IsAttached, count_of};

@@ -1,4 +1,4 @@
-// The rows of a TOAST table.
+//! The rows of a TOAST table.
 ghost use Rattle.std.specs.Prelude.{◌≡◌, ◌≤◌, All, length};
 ghost use Rattle.std.specs.Option.{option_copied};
 ghost use Rattle.toast_chunks.specs.Rows.{content_in, number_in, row_of};

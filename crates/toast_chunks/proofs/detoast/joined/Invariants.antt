@@ -1,4 +1,4 @@
-use Rattle.std.proofs.Common.{◌≡◌, ◌≤◌}
+use Rattle.std.proofs.Common.{◌≡◌}
 use Rattle.outside.specs.Outside.{IfTold, Passed}
 use Rattle.toast_chunks.specs.InHand.{IsInHand}
 use Rattle.toast_chunks.specs.Value.{joined_below}
