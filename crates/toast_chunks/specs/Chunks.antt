@@ -22,11 +22,12 @@ has_size (Some n) size = n == size
 abbrev pub is_fit : ℕ → ℕ → ℕ → Chunk → Bool
 is_fit id k size c = is_numbered id (pos k) c && has_size c.size size
 
--- The chunks of a pointer's value are those that it should have, each once: there are as many as there should be, and of each
--- number one with its size.
+-- The chunks of a pointer's value are those that it should have, each once: there are as many as there should be, and
+-- of each number one with its size.
 pub record IsWhole (chunks : List Chunk) (p : ToastPointer) : Type 0 where
   pub count : count_by (is_of p.value_id) chunks ≡ chunk_count (stored_size p)
-  pub each : (k : ℕ) → k < chunk_count (stored_size p) → count_by (is_fit p.value_id k (chunk_size (stored_size p) k)) chunks ≡ 1
+  pub each : (k : ℕ) → k < chunk_count (stored_size p)
+      → count_by (is_fit p.value_id k (chunk_size (stored_size p) k)) chunks ≡ 1
 
 abbrev pub all_below : (ℕ → Bool) → ℕ → Bool
 all_below test zero = true
@@ -36,4 +37,6 @@ all_below test (suc n) = test n && all_below test n
 unfoldable pub is_whole : List Chunk → ToastPointer → Bool
 is_whole chunks p =
     count_by (is_of p.value_id) chunks == chunk_count (stored_size p)
-    && all_below (λ k. count_by (is_fit p.value_id k (chunk_size (stored_size p) k)) chunks == 1) (chunk_count (stored_size p))
+    && all_below
+    (λ k. count_by (is_fit p.value_id k (chunk_size (stored_size p) k)) chunks == 1)
+    (chunk_count (stored_size p))

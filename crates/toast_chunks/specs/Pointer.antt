@@ -36,7 +36,8 @@ keeps_pointer_rule p =
     nat_le 4 (raw_size p) && nat_le (raw_size p) 1073741823 && nat_le (stored_size p + 4) (raw_size p)
     && (not (is_compressed p) || nat_le (method_of p) 1)
 
--- a value of so many stored bytes is cut into this many chunks, numbered from 0: each has 1996 bytes, and the last the rest
+-- A value of so many stored bytes is cut into this many chunks, numbered from 0. Each has 1996 bytes, and the last the
+-- rest.
 unfoldable pub chunk_count : ℕ → ℕ
 chunk_count stored = (stored + 1995) / 1996
 

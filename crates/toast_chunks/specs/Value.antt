@@ -15,7 +15,8 @@ use Rattle.toast_chunks.specs.Stored.{content_at}
 
 -- the bytes of a chunk at its place in the relation
 abbrev pub bytes_of : Names → Relation → Chunk → List ℕ
-bytes_of names toast c = unwrap_or (content_at (block_of names (base_of toast) (size_of toast) c.tid.block) c.tid.item) []
+bytes_of names toast c =
+    unwrap_or (content_at (block_of names (base_of toast) (size_of toast) c.tid.block) c.tid.item) []
 
 -- the bytes of chunk k of a value
 abbrev pub bytes_at : Names → Relation → List Chunk → ℕ → ℕ → List ℕ

@@ -16,8 +16,8 @@ is_below (negsuc k) n = false
 abbrev pub is_full_below : ℕ → ℕ → Chunk → Bool
 is_full_below id n c = c.id == id && is_below c.seq n && has_size c.size 1996
 
--- The value has so many chunks, each number at most once: one of the last number with this size, and the others below it
--- and full.
+-- The value has so many chunks, and each number at most once. One of them is the last, with this size, and the others
+-- are full, with lower numbers.
 pub record IsFit (chunks : List Chunk) (id count last size : ℕ) : Type 0 where
   pub counted : count_by (is_of id) chunks ≡ count
   pub once : (k : ℕ) → count_by (is_numbered id (pos k)) chunks ≤ 1

@@ -79,7 +79,8 @@ pub fn value<F: Files>(
     requires attached { IfTold F.seen files.old (λ names. IsAttached names toast.now) }
     requires stand { IfTold F.seen files.old (λ names. AllStand names toast.now map.now) }
     ensures state { IfOk result (IsState map.now p) }
-    ensures bytes { Tells F.seen files.old result (λ state names. HasBytes state (value_of_pointer names toast.now map.now p)) }
+    ensures bytes { Tells F.seen files.old result (λ state names.
+        HasBytes state (value_of_pointer names toast.now map.now p)) }
     ensures asked { Asked F.seen files.old files.new result ToastFault.ReadFault }
 {
     if !map.whole(p) {

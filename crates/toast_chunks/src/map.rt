@@ -91,7 +91,7 @@ impl ToastMap {
     }
 
     // The chunks of a value.
-    fn value(&self, id: u32) -> ValueChunks
+    fn chunks_of(&self, id: u32) -> ValueChunks
         ensures { Describes self.now id result }
     {
         self.values.get(&id).copied().unwrap_or(ValueChunks::Empty)
@@ -115,7 +115,7 @@ impl ToastMap {
         ensures whole { IsTrue result ↔ IsWhole self.now p }
         ensures value { result ≡ is_whole self.now p }
     {
-        self.value(p.value_id).is_whole(stored_size(p))
+        self.chunks_of(p.value_id).is_whole(stored_size(p))
     }
 }
 

@@ -48,7 +48,8 @@ pub(crate) fn push_chunk<F: Files>(
     requires attached { IfTold F.seen files.old (λ names. IsAttached names toast.now) }
     requires hand { IfTold F.seen files.old (λ names. IsInHand names toast.now in_hand.old page.old) }
     ensures hand { IfTold F.seen files.old (λ names. IsInHand names toast.now in_hand.new page.new) }
-    ensures bytes { OnOk result (IfTold F.seen files.old (λ names. PushesChunk names toast.now tid bytes.old bytes.new)) }
+    ensures bytes { OnOk result (IfTold F.seen files.old (λ names.
+        PushesChunk names toast.now tid bytes.old bytes.new)) }
     ensures asked { Asked F.seen files.old files.new result ToastFault.ReadFault }
 {
     if toast.blocks() <= tid.block {

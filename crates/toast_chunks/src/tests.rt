@@ -1,3 +1,4 @@
+//! Worked rows, pages and values.
 ghost use Rattle.std.specs.Prelude.{◌≤◌, [], None, false, length};
 
 use crate::detoast::{ToastState, value};
@@ -67,39 +68,73 @@ fn is_whole(alloc: Global, stored: u32, chunks: &[(i32, Option<u32>)]) -> Result
     Ok(map.whole(pointer(stored as i32 + 4, stored)))
 }
 
+// The chunks of a value of 4000 bytes.
+const FIRST: (i32, Option<u32>) = (0, Some(1996));
+
+const SECOND: (i32, Option<u32>) = (1, Some(1996));
+
+const LAST: (i32, Option<u32>) = (2, Some(8));
+
 #[test]
 fn whole_values(rt: HostRuntime) -> Result<(), Fail> {
-    let alloc = rt.alloc();
-    let full = (0, Some(1996));
-    assert!(rt; is_whole(alloc, 0, &[])?);
-    assert!(rt; is_whole(alloc, 1, &[(0, Some(1))])?);
-    assert!(rt; is_whole(alloc, 1996, &[full])?);
-    assert!(rt; is_whole(alloc, 1997, &[full, (1, Some(1))])?);
-    // Three chunks in any order.
-    assert!(rt; is_whole(alloc, 4000, &[(2, Some(8)), full, (1, Some(1996))])?);
+    let cases: [(u32, &[(i32, Option<u32>)]); 11] = [
+        (0, &[]),
+        (1, &[(0, Some(1))]),
+        (1996, &[FIRST]),
+        (1997, &[FIRST, (1, Some(1))]),
+        (3992, &[SECOND, FIRST]),
+        // Three chunks in any order.
+        (4000, &[FIRST, SECOND, LAST]),
+        (4000, &[FIRST, LAST, SECOND]),
+        (4000, &[SECOND, FIRST, LAST]),
+        (4000, &[SECOND, LAST, FIRST]),
+        (4000, &[LAST, FIRST, SECOND]),
+        (4000, &[LAST, SECOND, FIRST]),
+    ];
+    for (stored, chunks) in cases {
+        assert!(rt; stored <= 1000000);
+        assert!(rt;
+            is_whole(rt.alloc(), stored, chunks)?,
+            "at {stored} {chunks:?}"
+        );
+    }
     Ok(())
 }
 
 #[test]
 fn broken_values(rt: HostRuntime) -> Result<(), Fail> {
-    let full = (0, Some(1996));
-    let cases: [(u32, &[(i32, Option<u32>)]); 13] = [
-        // A chunk where there should be none, none, another number, no number or size.
+    let cases: [(u32, &[(i32, Option<u32>)]); 25] = [
+        // A chunk where there should be none, and none, or another one, where there should be one.
         (0, &[(0, Some(0))]),
+        (0, &[(0, None)]),
         (1, &[]),
         (1, &[(1, Some(1))]),
-        (1, &[(-1, Some(1))]),
+        (1, &[(i32::MAX, Some(1))]),
         (1, &[(0, None)]),
-        // Another size: of the only chunk, of the first and of the last.
+        // A negative number.
+        (0, &[(-1, Some(0))]),
+        (1, &[(-1, Some(1))]),
+        (1, &[(i32::MIN, Some(1)), (0, Some(1))]),
+        (4000, &[FIRST, SECOND, LAST, (-1, Some(1996))]),
+        // Another size: of the only chunk, of the first, of a middle one and of the last.
         (1, &[(0, Some(2))]),
         (1997, &[(0, Some(1995)), (1, Some(1))]),
-        (1997, &[full, (1, Some(2))]),
-        // A chunk too few, too many, and twice.
-        (1997, &[full]),
-        (1997, &[full, (1, Some(1)), (2, Some(1))]),
-        (1997, &[full, (1, Some(1)), (1, Some(1))]),
-        (1997, &[full, full]),
-        (1997, &[full, (1, Some(1)), (0, None)]),
+        (4000, &[FIRST, (1, Some(1995)), LAST]),
+        (4000, &[LAST, (1, Some(1997)), FIRST]),
+        (4000, &[(2, Some(9)), SECOND, FIRST]),
+        // A chunk too few: the first, a middle one and the last.
+        (4000, &[LAST, SECOND]),
+        (4000, &[FIRST, LAST]),
+        (4000, &[SECOND, FIRST]),
+        // Another one in place of the last.
+        (4000, &[FIRST, SECOND, (3, Some(8))]),
+        // A chunk too many, and a number twice, in place of another one or besides.
+        (1996, &[FIRST, (1, Some(0))]),
+        (4000, &[LAST, (3, Some(8)), FIRST, SECOND]),
+        (3992, &[FIRST, FIRST]),
+        (4000, &[FIRST, LAST, LAST]),
+        (4000, &[LAST, FIRST, SECOND, SECOND]),
+        (4000, &[FIRST, SECOND, LAST, (0, None)]),
     ];
     for (stored, chunks) in cases {
         assert!(rt; stored <= 1000000);

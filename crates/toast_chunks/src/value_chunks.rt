@@ -1,4 +1,5 @@
-//! What a map keeps of the chunks of one value, from which it tells whether they are whole.
+//! What a map keeps of the chunks of one value, from which it tells whether they are whole: enough to add
+//! one more chunk, in whatever order they come, and not the chunks themselves.
 ghost use Rattle.std.specs.Prelude.{◌≡◌, ◌↔◌, ◌∷◌, [], ◌++◌, ◌<◌, ◌≤◌, ◌^◌, IsTrue, List, Some, count_by, pos};
 ghost use Rattle.varlena_attrs.specs.declared.places.ToastPointer.{ToastPointer};
 ghost use Rattle.toast_chunks.specs.declared.map.Chunk.{Chunk};
@@ -8,12 +9,13 @@ ghost use Rattle.toast_chunks.specs.ValueChunks.{Describes};
 
 use crate::pointer::{CHUNK, chunk_count, chunk_size};
 
-/// The chunks of one value, in whatever order they were added.
+/// The chunks of one value, whatever the order in which they were added, in 16 bytes.
 #[derive(Clone, Copy, Debug)]
 pub(crate) enum ValueChunks {
     /// There is none.
     Empty,
-    /// They have different numbers from 0 on, and all but that of the greatest number are full.
+    /// Each has a number of its own from 0 on, and all but that of the greatest number are full. Such
+    /// chunks are a whole value's by how many there are, their greatest number and the size of its chunk.
     Fit {
         /// How many there are.
         count: u32,
@@ -67,6 +69,7 @@ impl ValueChunks {
                     (size, last, last_size)
                 };
                 if lower_size == CHUNK {
+                    // There are no more of them than numbers, which are below 2 ^ 31.
                     ValueChunks::Fit {
                         count: count.saturating_add(1),
                         last,
