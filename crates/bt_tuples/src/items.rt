@@ -1,12 +1,13 @@
 //! An item of a tree page, read where it lies.
-ghost use Rattle.std.specs.Prelude.{◌≡◌, ◌<◌, ◌≤◌, ◌+◌, ◌*◌, Bool, List, length, true, false, All, IfOk, None, Err};
+ghost use Rattle.std.specs.Prelude.{◌≡◌, ◌<◌, ◌≤◌, ◌+◌, ◌*◌, Bool, List, [], length, true, false, All, IfOk, None, Err};
 ghost use Rattle.key_orders.specs.declared.more.MoreSpec.{MoreSpec as More};
+ghost use Rattle.key_orders.specs.Keys.{fits_columns};
 ghost use Rattle.key_orders.specs.Types.{HasAlignment};
 ghost use Rattle.page_layout.specs.Page.{count_of, page_rule_of};
 ghost use Rattle.page_layout.specs.View.{page_bytes};
 ghost use Rattle.varlena_attrs.specs.Keyed.{key_types, more_types};
 ghost use Rattle.bt_meta.specs.Heads.{tree_head_of};
-ghost use Rattle.bt_tuples.specs.Rules.{breaks_tids, breaks_tids_by};
+ghost use Rattle.bt_tuples.specs.Rules.{breaks_tids, breaks_tids_by, is_pivot};
 ghost use Rattle.bt_tuples.specs.Items.{Item, ItemFits, item_outcome, meaning_of, outcome_by, tuple_outcome};
 ghost use Rattle.bt_tuples.specs.Shown.{item_shown, outcome_shown};
 ghost use Rattle.bt_tuples.specs.Tuples.{body_begin, body_end, keeps_tid, kept_tid, number_of, values_in};
@@ -141,9 +142,77 @@ fn pivot_item<'p>(
     }
 }
 
-// A tuple of a leaf with one TID.
-#[tactic(auto, unfolding(crate::specs::Tuples::values_in, crate::specs::Items::meaning_of))]
+// The values of a leaf's tuple in an index without included columns: those of the whole key.
+#[inline(always)]
+#[tactic(auto, unfolding(crate::specs::Tuples::values_in))]
+fn whole_key<'p>(
+    specs: &[KeySpec],
+    tuple: &'p [u8],
+    head: TreeHead,
+) -> Result<KeyRefs<'p>, KeyFault>
+    requires few { length specs.now ≤ 8 }
+    requires aligned { All HasAlignment (key_types specs.now) }
+    requires long { 8 ≤ length tuple.now }
+    requires head { head ≡ tree_head_of tuple.now }
+    requires kind { is_pivot head.kind ≡ false }
+    requires begins { body_begin head ≤ body_end head (length tuple.now) }
+    ensures value { result ≡ values_in specs.now [] tuple.now }
+    ensures count { IfOk result (λ key. length key ≡ length specs.now) }
+    ensures fits { IfOk result (λ key. fits_columns specs.now key ≡ true) }
+{
+    let count = specs.len() as u16;
+    key_attributes(
+        specs,
+        body_of(tuple, head),
+        null_bits_of(tuple, head),
+        count,
+    )
+}
+
+// A tuple of a leaf with one TID, in an index without included columns. Most items of most indexes are
+// such, so that no place for included values is written twice and no key is copied.
+#[inline(always)]
+#[tactic(auto, unfolding(crate::specs::Items::meaning_of))]
 fn plain_item<'p>(
+    specs: &[KeySpec],
+    tuple: &'p [u8],
+    head: TreeHead,
+    killed: bool,
+) -> Result<TreeItem<'p>, ItemFault>
+    requires few { length specs.now ≤ 8 }
+    requires aligned { All HasAlignment (key_types specs.now) }
+    requires long { 8 ≤ length tuple.now }
+    requires head { head ≡ tree_head_of tuple.now }
+    requires kind { head.kind ≡ HeadKind.Plain }
+    requires begins { body_begin head ≤ body_end head (length tuple.now) }
+    ensures fits { IfOk result (λ item. ItemFits specs.now (item_shown item)) }
+    ensures outcome { outcome_shown result
+        ≡ outcome_by (values_in specs.now [] tuple.now) (breaks_tids tuple.now)
+        (meaning_of specs.now [] tuple.now killed) }
+{
+    let broken = head.item == 0;
+    match whole_key(specs, tuple, head) {
+        Ok(key) => {
+            if broken {
+                return Err(ItemFault::Broken(Rule::B9));
+            }
+            Ok(TreeItem::Plain {
+                key,
+                more: MoreRefs::new(),
+                tid: Tid {
+                    block: head.block,
+                    item: head.item,
+                },
+                killed,
+            })
+        }
+        Err(fault) => Err(without_values(fault, broken)),
+    }
+}
+
+// A tuple of a leaf with one TID, with the values of included columns.
+#[tactic(auto, unfolding(crate::specs::Tuples::values_in, crate::specs::Items::meaning_of))]
+fn covering_item<'p>(
     specs: &[KeySpec],
     more: &[MoreSpec],
     tuple: &'p [u8],
@@ -201,32 +270,28 @@ fn breaks_list(tuple: &[u8], head: TreeHead) -> bool
         || are_not_rising(tuple, at, number)
 }
 
-// A tuple of a leaf with a list of TIDs.
-#[tactic(auto, unfolding(crate::specs::Tuples::values_in, crate::specs::Items::meaning_of))]
+// A tuple of a leaf with a list of TIDs, which there is only in an index without included columns.
+#[tactic(auto, unfolding(crate::specs::Items::meaning_of))]
 fn posting_item<'p>(
     specs: &[KeySpec],
-    more: &[MoreSpec],
     tuple: &'p [u8],
     head: TreeHead,
     killed: bool,
 ) -> Result<TreeItem<'p>, ItemFault>
     requires few { length specs.now ≤ 8 }
-    requires few_more { length more.now ≤ 24 }
     requires aligned { All HasAlignment (key_types specs.now) }
-    requires aligned_more { All HasAlignment (more_types more.now) }
     requires long { 8 ≤ length tuple.now }
     requires head { head ≡ tree_head_of tuple.now }
     requires kind { head.kind ≡ HeadKind.Posting }
     requires begins { body_begin head ≤ body_end head (length tuple.now) }
     ensures fits { IfOk result (λ item. ItemFits specs.now (item_shown item)) }
     ensures outcome { outcome_shown result
-        ≡ outcome_by (values_in specs.now more.now tuple.now) (breaks_tids tuple.now)
-        (meaning_of specs.now more.now tuple.now killed) }
+        ≡ outcome_by (values_in specs.now [] tuple.now) (breaks_tids tuple.now)
+        (meaning_of specs.now [] tuple.now killed) }
 {
     let broken = breaks_list(tuple, head);
-    let values = entry_attributes(specs, more, body_of(tuple, head), null_bits_of(tuple, head));
-    match values {
-        Ok((key, _)) => {
+    match whole_key(specs, tuple, head) {
+        Ok(key) => {
             if broken {
                 return Err(ItemFault::Broken(Rule::B9));
             }
@@ -269,8 +334,14 @@ fn tuple_item<'p>(
     }
     match head.kind {
         HeadKind::Pivot => pivot_item(specs, tuple, head),
-        HeadKind::Plain => plain_item(specs, more, tuple, head, killed),
-        HeadKind::Posting => posting_item(specs, more, tuple, head, killed),
+        HeadKind::Plain => {
+            if more.is_empty() {
+                plain_item(specs, tuple, head, killed)
+            } else {
+                covering_item(specs, more, tuple, head, killed)
+            }
+        }
+        HeadKind::Posting => posting_item(specs, tuple, head, killed),
     }
 }
 

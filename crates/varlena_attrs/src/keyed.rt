@@ -107,6 +107,8 @@ fn unless_external(found: Found, column: u16) -> Result<Found, KeyFault>
     }
 }
 
+// A key is written once and copied as little as can be: a copy of one that was just written has to wait
+// for the writes. So what a tree's items are read by is always inline.
 impl<'p> IndexColumns<'p> {
     // A tuple of so many columns, of which none is read.
     #[inline]
@@ -127,7 +129,7 @@ impl<'p> IndexColumns<'p> {
     }
 
     // The attribute of the next column.
-    #[inline]
+    #[inline(always)]
     fn attribute(&self, ctype: ColType) -> Result<Found, KeyFault>
         requires known { HasAlignment ctype }
         requires within { self.now.place ≤ length self.now.body.now }
@@ -148,7 +150,7 @@ impl<'p> IndexColumns<'p> {
     }
 
     // The value of the next column; Null where it is compressed.
-    #[inline]
+    #[inline(always)]
     fn read(&mut self, ctype: ColType) -> Result<ValueRef<'p>, KeyFault>
         requires known { HasAlignment ctype }
         requires within { self.old.place ≤ length self.old.body.now }
@@ -169,6 +171,7 @@ impl<'p> IndexColumns<'p> {
     }
 
     // The values of the next columns, which are those of a key.
+    #[inline(always)]
     fn read_key(&mut self, specs: &[KeySpec]) -> Result<KeyRefs<'p>, KeyFault>
         requires few { length specs.now ≤ 8 }
         requires aligned { All HasAlignment (key_types specs.now) }
@@ -216,6 +219,7 @@ impl<'p> IndexColumns<'p> {
 /// A fault other than `Packed` comes exactly where one of these columns can't be read in the tuple,
 /// and names the first such column and the first cause there. `Packed` comes exactly where all can be
 /// read and one is compressed, and names the first such column.
+#[inline(always)]
 #[tactic(auto, unfolding(crate::specs::Keyed::key_values))]
 pub fn key_attributes<'p>(
     specs: &[KeySpec],
