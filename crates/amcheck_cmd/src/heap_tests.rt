@@ -68,19 +68,21 @@ fn expect_row(rt: &impl Abort, alloc: Global, rest: &str, row: &Row<'_>) -> Resu
     expect_heap(rt, alloc, &mut files, row.want)
 }
 
+// The files of a case with these columns, whose heap is one page with these items.
+fn files_with<'a>(alloc: Global, rest: &str, items: &'a [Item<'a>]) -> Result<MemFiles, Fail> {
+    let row = Row { items, ..EMPTY };
+    files_of(alloc, rest, &row)
+}
+
 // Runs `heap` on a page of a table of one number with these items.
-fn expect_items(
+fn expect_items<'a>(
     rt: &impl Abort,
     alloc: Global,
-    items: &[Item<'_>],
+    items: &'a [Item<'a>],
     want: Want<'_>,
 ) -> Result<(), Fail> {
-    let row = Row {
-        items,
-        want,
-        ..EMPTY
-    };
-    expect_row(rt, alloc, INT_COLUMN, &row)
+    let mut files = files_with(alloc, INT_COLUMN, items)?;
+    expect_heap(rt, alloc, &mut files, want)
 }
 
 #[test]
@@ -430,45 +432,40 @@ fn pointer_of(raw: u32, stored: u32) -> [u8; 18] {
     pointer
 }
 
+// Runs `heap` on a tuple with these flags, whose value has so many bytes before compression and so many
+// stored ones by its pointer, over a TOAST table with a chunk of 1996 bytes, and then without that table.
+fn expect_external(
+    rt: &impl Abort,
+    alloc: Global,
+    infomask: u16,
+    sizes: (u32, u32),
+    want: Want<'_>,
+) -> Result<(), Fail> {
+    let pointer = pointer_of(sizes.0, sizes.1);
+    let tuple = Tuple {
+        infomask,
+        body: &pointer,
+        ..LIVE
+    };
+    let mut files = files_with(alloc, TEXT_IN_TOAST, &[Item::Tuple(tuple)])?;
+    files.add("tt", Part::Segment(0), &chunk_page(0, 1996))?;
+    expect_heap(rt, alloc, &mut files, want)?;
+    assert!(rt; files.forget("tt", Part::Segment(0)));
+    let words = ["heap", "case.toml"];
+    expect(rt, alloc, &words, &mut files, (5, "refused no file tt\n"))
+}
+
 #[test]
 fn values_in_the_toast_table(rt: HostRuntime) -> Result<(), Fail> {
     let alloc = rt.alloc();
-    let rows = [
-        (EXTERNAL.infomask, 2000, 1996, NOTHING),
-        (
-            EXTERNAL.infomask,
-            2001,
-            1997,
-            found(&["H21 heap block 0 item 1 column 1"]),
-        ),
-        (0x0902, 2000, 1996, found(&["H19 heap block 0 item 1"])),
-        (
-            EXTERNAL.infomask,
-            3,
-            1996,
-            found(&["H20 heap block 0 item 1"]),
-        ),
-    ];
-    for (infomask, raw, stored, want) in rows {
-        let pointer = pointer_of(raw, stored);
-        let tuple = Tuple {
-            infomask,
-            body: &pointer,
-            ..LIVE
-        };
-        let row = Row {
-            items: &[Item::Tuple(tuple)],
-            want,
-            ..EMPTY
-        };
-        let mut files = files_of(alloc, TEXT_IN_TOAST, &row)?;
-        files.add("tt", Part::Segment(0), &chunk_page(0, 1996))?;
-        expect_heap(&rt, alloc, &mut files, want)?;
-        assert!(rt; files.forget("tt", Part::Segment(0)));
-        let words = ["heap", "case.toml"];
-        expect(&rt, alloc, &words, &mut files, (5, "refused no file tt\n"))?;
-    }
-    Ok(())
+    let flags = EXTERNAL.infomask;
+    let h19 = found(&["H19 heap block 0 item 1"]);
+    let h20 = found(&["H20 heap block 0 item 1"]);
+    let h21 = found(&["H21 heap block 0 item 1 column 1"]);
+    expect_external(&rt, alloc, flags, (2000, 1996), NOTHING)?;
+    expect_external(&rt, alloc, flags, (2001, 1997), h21)?;
+    expect_external(&rt, alloc, 0x0902, (2000, 1996), h19)?;
+    expect_external(&rt, alloc, flags, (3, 1996), h20)
 }
 
 #[test]

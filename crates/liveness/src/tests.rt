@@ -1,4 +1,7 @@
 //! Tuples over logs in files in memory.
+ghost use Rattle.outside.specs.Outside.{Names};
+ghost use Rattle.liveness.specs.Memory.{RemembersTrue};
+
 use crate::Doubt::{U1, U2, U3};
 use crate::Life::{Broken, Dead, Live, Unjudged};
 use crate::{Judged, Life, Memory, Remembering, Status3, Transactions, life, life_in};
@@ -328,32 +331,45 @@ fn transactions_are_looked_up_once(rt: HostRuntime) -> Result<(), Fail> {
     Ok(())
 }
 
-// One of the logs of another folder, or none kept at all: everything is looked up anew.
+// Looks up twice what is in these logs and what is in others, of which some are in another folder, and
+// tests how many reads it takes.
+fn look_twice(
+    rt: &impl Abort,
+    alloc: Global,
+    memory: &mut Memory,
+    logs: &Status3<'_>,
+    reads: u64,
+) -> Result<(), Fail>
+    requires { (names : Names) → RemembersTrue names memory.old }
+{
+    let other = Slru::new(alloc, "other")?;
+    let others = Status3 {
+        xact: &other,
+        members: &other,
+        ..*logs
+    };
+    let mut files = updated_under_locks(alloc, 0x55)?;
+    let mut found = Remembering::new(&mut files, memory);
+    assert!(rt; multi_in_range(&logs.cluster, 5));
+    for _ in 0..2 {
+        assert_eq!(rt; found.status(logs, 700)?, XidState::Committed);
+        assert_eq!(rt; found.status(&others, 700)?, XidState::Missing);
+        assert_eq!(rt; found.updater(logs, 5)?, MultiState::Updater(712));
+        assert_eq!(rt; found.updater(&others, 5)?, MultiState::Missing);
+    }
+    assert_eq!(rt; files.reads(), reads);
+    Ok(())
+}
+
+// Of the other logs only where the members begin and end is there to be read, twice in each turn. Of the
+// memory's own the state takes one read and the multixact three, once.
 #[test]
 fn other_logs_are_looked_up_anew(rt: HostRuntime) -> Result<(), Fail> {
     let alloc = rt.alloc();
     let folders = Folders::new(alloc)?;
     let logs = folders.logs(CLUSTER);
-    let other = Slru::new(alloc, "other")?;
-    let others = Status3 {
-        xact: &other,
-        members: &other,
-        ..logs
-    };
-    for (mut memory, reads) in [(Memory::new(alloc, &logs)?, 4), (Memory::none(), 8)] {
-        let mut files = updated_under_locks(alloc, 0x55)?;
-        let mut found = Remembering::new(&mut files, &mut memory);
-        assert!(rt; multi_in_range(&CLUSTER, 5));
-        for _ in 0..2 {
-            assert_eq!(rt; found.status(&logs, 700)?, XidState::Committed);
-            assert_eq!(rt; found.status(&others, 700)?, XidState::Missing);
-            assert_eq!(rt; found.updater(&logs, 5)?, MultiState::Updater(712));
-            assert_eq!(rt; found.updater(&others, 5)?, MultiState::Missing);
-        }
-        // Of the other logs only where the members begin and end is there to be read, twice in each turn.
-        assert_eq!(rt; files.reads(), reads + 4);
-    }
-    Ok(())
+    look_twice(&rt, alloc, &mut Memory::new(alloc, &logs)?, &logs, 8)?;
+    look_twice(&rt, alloc, &mut Memory::none(), &logs, 12)
 }
 
 // What the fixture says of a transaction, and of a multixact's updater.
