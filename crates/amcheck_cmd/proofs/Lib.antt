@@ -1,2 +1,5 @@
-pub mod FileLaws
+pub mod Answers
+pub mod HeapLaws
 pub mod NumberLaws
+pub mod PagesLaws
+pub mod Worth

@@ -1,7 +1,11 @@
+pub mod Answers
 pub mod Cases
-pub mod Forms
+pub mod Commands
+pub mod Files
+pub mod Heap
 pub mod Numbers
 pub mod Outcome
 pub mod Pages
 pub mod Seen
 pub mod Show
+pub mod Words

@@ -1,5 +1,5 @@
--- What `pages` says of a file.
-use Rattle.std.specs.Prelude.{ℕ, ◌<◌, List, [], nat_lt, if◌then◌else◌, Option, Some, None}
+-- The command `pages`: what it says of a file.
+use Rattle.std.specs.Prelude.{ℕ, ◌<◌, List, [], Option, Some, None, Ok, Err}
 use Rattle.rel_files.specs.Blocks.{blocks_in, block_in}
 use Rattle.page_layout.specs.declared.rules.Rule.{Rule}
 use Rattle.reports.specs.Lists.{Lists}
@@ -7,10 +7,8 @@ use Rattle.reports.specs.declared.places.Finding.{Finding}
 use Rattle.reports.specs.declared.places.Place.{Place}
 use Rattle.heap_check.specs.Below.{each_below}
 use Rattle.heap_check.specs.Pages.{BreaksAlone, lone_page_findings}
-
--- how many blocks a file may have
-abbrev pub block_limit : ℕ
-block_limit = 16384
+use Rattle.amcheck_cmd.specs.Files.{file_refusal}
+use Rattle.amcheck_cmd.specs.Outcome.{Judged, Outcome}
 
 -- a rule is broken at a place of a file: on one of its whole blocks
 pub record BreaksFile (file : Option (List ℕ)) (rule : Rule) (place : Place) : Type 0 where
@@ -25,9 +23,14 @@ block_findings file block = lone_page_findings block (block_in file block)
 unfoldable pub file_findings : Option (List ℕ) → List Finding
 file_findings file = each_below (block_findings file) (blocks_in file)
 
--- the report on a file that is held and within the limit; nothing of it stays unjudged
-unfoldable pub pages_report : Option (List ℕ) → Option Lists
-pages_report None = None
-pages_report (Some bytes) =
-    if nat_lt block_limit (blocks_in (Some bytes)) then None
-    else Some (record { findings = file_findings (Some bytes); unjudged = [] })
+-- nothing of a file stays unjudged
+abbrev pub file_lists : Option (List ℕ) → Lists
+file_lists file = record { findings = file_findings file; unjudged = [] }
+
+abbrev pub judged_unless : Option Outcome → Lists → Judged
+judged_unless (Some refusal) lists = Err refusal
+judged_unless None lists = Ok lists
+
+-- the report on a file that is held or not
+abbrev pub pages_judged : List ℕ → Option (List ℕ) → Judged
+pages_judged name file = judged_unless (file_refusal name file) (file_lists file)

@@ -1,9 +1,9 @@
 //! A file that is read by itself, as one segment: its length, and its blocks one by one.
-ghost use Rattle.std.specs.Prelude.{◌≡◌, ◌+◌, ◌*◌, ◌≤◌, Some, length, IfOk, OnOk};
+ghost use Rattle.std.specs.Prelude.{◌≡◌, ◌+◌, ◌*◌, ◌≤◌, Some, length, OnOk};
 ghost use Rattle.outside.specs.declared.files.Part.TheVariants.{Segment};
 ghost use Rattle.outside.specs.Outside.{Asked, IfHeld, IsHeldAnd, Tells};
 ghost use Rattle.rel_files.specs.Blocks.{block_in};
-ghost use Rattle.amcheck_cmd.specs.Seen.{HasRefusalCode, IsOpening};
+ghost use Rattle.amcheck_cmd.specs.Seen.{IsOpening};
 
 use crate::fault::RunFault;
 use crate::output::{Output, no_file_output, too_large_output};
@@ -23,10 +23,9 @@ pub enum Opening {
 }
 
 /// Asks for the length of a file that is read by itself.
-#[tactic(auto, unfolding(crate::specs::Outcome::file_refusal))]
+#[tactic(auto, unfolding(crate::specs::Files::file_refusal))]
 pub fn open_file<F: Files>(alloc: Global, files: &mut F, file: &str) -> Result<Opening, RunFault>
     ensures opening { Tells F.seen files.old result (λ o names. IsOpening file.now (names file.now (Segment 0)) o) }
-    ensures code { IfOk result (λ o. HasRefusalCode o) }
     ensures asked { Asked F.seen files.old files.new result RunFault.ReadFault }
 {
     let name = FileName {
@@ -39,6 +38,7 @@ pub fn open_file<F: Files>(alloc: Global, files: &mut F, file: &str) -> Result<O
             alloc,
             file,
             len / 8192,
+            BLOCK_LIMIT,
         )?)),
         Some(len) => Ok(Opening::Blocks((len / 8192) as u32)),
     }

@@ -2,6 +2,7 @@
 #![tactic(auto)]
 
 mod blocks;
+mod case;
 mod fault;
 #[cfg(test)]
 mod fault_tests;

@@ -1,28 +1,20 @@
-//! What a run is to write, and the code that it answers.
+//! What a command is to write, and what it answers.
 ghost use Rattle.std.specs.Prelude.{◌≡◌, IfOk};
 ghost use Rattle.amcheck_cmd.specs.Outcome.{case_refused, no_block, no_file, reported, text_too_large, too_large};
-ghost use Rattle.amcheck_cmd.specs.Outcome.{usage, verdict_code};
 ghost use Rattle.amcheck_cmd.specs.Seen.{outcome_seen};
 
+use crate::status::Answer;
 use case_file::CaseRule;
 use key_orders::Octets;
 use outside::NoMemory;
-use reports::{Report, Verdict};
+use reports::Report;
 use std::alloc::Global;
 
-/// All that a run is to write, and the code that it then answers.
+/// All that a command is to write, and what it then answers.
 #[derive(Drop)]
 pub struct Output {
     pub text: Octets,
-    pub code: u8,
-}
-
-/// The refusal of words that have no form.
-pub fn usage_output(alloc: Global) -> Result<Output, NoMemory>
-    ensures { IfOk result (λ o. outcome_seen o ≡ usage) }
-{
-    let text = Octets::from_slice(alloc, b"refused usage\n")?;
-    Ok(Output { text, code: 3 })
+    pub answer: Answer,
 }
 
 /// The refusal of a file that isn't there.
@@ -33,33 +25,56 @@ pub fn no_file_output(alloc: Global, name: &str) -> Result<Output, NoMemory>
     text.push_slice(b"refused no file ")?;
     text.push_slice(name.as_bytes())?;
     text.push_slice(b"\n")?;
-    Ok(Output { text, code: 5 })
+    Ok(Output {
+        text,
+        answer: Answer::NoFile,
+    })
 }
 
-/// The refusal of a file of so many blocks.
-pub fn too_large_output(alloc: Global, name: &str, blocks: u64) -> Result<Output, NoMemory>
-    ensures { IfOk result (λ o. outcome_seen o ≡ too_large name.now blocks) }
+/// The refusal of a file of so many blocks, of which no more than the limit are judged.
+pub fn too_large_output(
+    alloc: Global,
+    name: &str,
+    blocks: u64,
+    limit: u64,
+) -> Result<Output, NoMemory>
+    ensures { IfOk result (λ o. outcome_seen o ≡ too_large name.now blocks limit) }
 {
     let mut text = Octets::new(alloc);
     text.push_slice(b"refused too large ")?;
     text.push_slice(name.as_bytes())?;
     text.push_slice(b" blocks ")?;
     text.push_decimal(blocks)?;
-    text.push_slice(b" limit 16384\n")?;
-    Ok(Output { text, code: 6 })
+    text.push_slice(b" limit ")?;
+    text.push_decimal(limit)?;
+    text.push_slice(b"\n")?;
+    Ok(Output {
+        text,
+        answer: Answer::TooLarge,
+    })
 }
 
-/// The refusal of a case file of so many bytes.
-pub fn text_too_large_output(alloc: Global, name: &str, bytes: u64) -> Result<Output, NoMemory>
-    ensures { IfOk result (λ o. outcome_seen o ≡ text_too_large name.now bytes) }
+/// The refusal of a case file of so many bytes, which may have no more than the limit.
+pub fn text_too_large_output(
+    alloc: Global,
+    name: &str,
+    bytes: u64,
+    limit: u64,
+) -> Result<Output, NoMemory>
+    ensures { IfOk result (λ o. outcome_seen o ≡ text_too_large name.now bytes limit) }
 {
     let mut text = Octets::new(alloc);
     text.push_slice(b"refused too large ")?;
     text.push_slice(name.as_bytes())?;
     text.push_slice(b" bytes ")?;
     text.push_decimal(bytes)?;
-    text.push_slice(b" limit 1048576\n")?;
-    Ok(Output { text, code: 6 })
+    text.push_slice(b" limit ")?;
+    text.push_decimal(limit)?;
+    text.push_slice(b"\n")?;
+    Ok(Output {
+        text,
+        answer: Answer::TooLarge,
+    })
 }
 
 /// The refusal of a case, with the rule that its text breaks and the place to mend.
@@ -76,7 +91,10 @@ pub fn case_refused_output(
     text.push_slice(b" ")?;
     text.push_slice(place.as_slice())?;
     text.push_slice(b"\n")?;
-    Ok(Output { text, code: 4 })
+    Ok(Output {
+        text,
+        answer: Answer::CaseRefused,
+    })
 }
 
 /// The refusal of a block that isn't among so many.
@@ -89,27 +107,19 @@ pub fn no_block_output(alloc: Global, block: u32, blocks: u32) -> Result<Output,
     text.push_slice(b" of ")?;
     text.push_decimal(blocks as u64)?;
     text.push_slice(b"\n")?;
-    Ok(Output { text, code: 10 })
+    Ok(Output {
+        text,
+        answer: Answer::NoBlock,
+    })
 }
 
-// The code of a verdict.
-fn code_of(verdict: Verdict) -> u8
-    ensures { result ≡ verdict_code verdict }
-{
-    match verdict {
-        Verdict::Clean => 0,
-        Verdict::Findings => 1,
-        Verdict::Unjudged => 2,
-    }
-}
-
-/// The text of a report, with the code of its verdict.
+/// The text of a report, with the answer of its verdict.
 pub fn report_output(alloc: Global, report: &Report) -> Result<Output, NoMemory>
     ensures { IfOk result (λ o. outcome_seen o ≡ reported report.now) }
 {
     let text = report.text(alloc)?;
     Ok(Output {
         text,
-        code: code_of(report.verdict()),
+        answer: Answer::of(report.verdict()),
     })
 }

@@ -1,10 +1,10 @@
 //! The command `pages`: judges the pages of one heap file.
-ghost use Rattle.std.specs.Prelude.{◌≡◌, ◌≢◌, ◌+◌, ◌*◌, ◌/◌, ◌≤◌, ◌++◌, [], Some, length, IfOk, OnOk};
+ghost use Rattle.std.specs.Prelude.{◌≡◌, ◌+◌, ◌*◌, ◌/◌, ◌≤◌, ◌++◌, Some, length, IfOk, OnOk};
 ghost use Rattle.outside.specs.declared.files.Part.TheVariants.{Segment};
 ghost use Rattle.outside.specs.Outside.{Asked, IfHeld, IsHeldAnd, Tells};
 ghost use Rattle.heap_check.specs.Below.{each_below};
-ghost use Rattle.amcheck_cmd.specs.Outcome.{pages_outcome, reported};
-ghost use Rattle.amcheck_cmd.specs.Pages.{block_findings, file_findings};
+ghost use Rattle.amcheck_cmd.specs.Outcome.{owed_by, reported};
+ghost use Rattle.amcheck_cmd.specs.Pages.{block_findings, file_lists, pages_judged};
 ghost use Rattle.amcheck_cmd.specs.Seen.{outcome_seen};
 
 use crate::blocks::{Opening, open_file, read_block};
@@ -65,9 +65,7 @@ fn judged_output<F: Files>(
 ) -> Result<Output, RunFault>
     requires { IsHeldAnd F.seen files.old file.now (Segment 0) (λ bytes. length bytes / 8192 ≡ blocks) }
     ensures output { IfOk result (λ o. IfHeld F.seen files.old file.now (Segment 0)
-        (λ bytes. outcome_seen o ≡ reported (record { findings = file_findings (Some bytes); unjudged = [] }))) }
-    ensures code { IfOk result (λ o. o.code ≤ 6) }
-    ensures formed { IfOk result (λ o. o.code ≢ 3) }
+        (λ bytes. outcome_seen o ≡ reported (file_lists (Some bytes)))) }
     ensures asked { Asked F.seen files.old files.new result RunFault.ReadFault }
 {
     let mut report = Report::new(alloc);
@@ -76,12 +74,9 @@ fn judged_output<F: Files>(
 }
 
 /// The output of `pages`: the report on the file's whole blocks of 8192 bytes, or why there is none.
-#[tactic(auto, unfolding(crate::specs::Outcome::pages_outcome))]
 pub fn pages_output<F: Files>(alloc: Global, files: &mut F, file: &str) -> Result<Output, RunFault>
     ensures output { Tells F.seen files.old result (λ o names.
-        outcome_seen o ≡ pages_outcome file.now (names file.now (Segment 0))) }
-    ensures code { IfOk result (λ o. o.code ≤ 6) }
-    ensures formed { IfOk result (λ o. o.code ≢ 3) }
+        outcome_seen o ≡ owed_by (pages_judged file.now (names file.now (Segment 0)))) }
     ensures asked { Asked F.seen files.old files.new result RunFault.ReadFault }
 {
     match open_file(alloc, files, file)? {

@@ -1,16 +1,16 @@
 //! The command `show`: prints one page of one file.
-ghost use Rattle.std.specs.Prelude.{◌≡◌, ◌≢◌, ◌+◌, ◌*◌, ◌≤◌, Some, length, IfOk};
+ghost use Rattle.std.specs.Prelude.{◌≡◌, ◌+◌, ◌*◌, ◌≤◌, Some, length, IfOk};
 ghost use Rattle.outside.specs.declared.files.Part.TheVariants.{Segment};
 ghost use Rattle.outside.specs.Outside.{Asked, IfHeld, IsHeldAnd, Tells};
 ghost use Rattle.page_layout.specs.View.{page_bytes};
 ghost use Rattle.rel_files.specs.Blocks.{block_in};
-ghost use Rattle.amcheck_cmd.specs.Outcome.{IsOutcomeCode, page_shown, show_outcome};
 ghost use Rattle.amcheck_cmd.specs.Seen.{outcome_seen};
-ghost use Rattle.amcheck_cmd.specs.Show.{shown_text};
+ghost use Rattle.amcheck_cmd.specs.Show.{page_shown, show_outcome, shown_text};
 
 use crate::blocks::{Opening, open_file, read_block};
 use crate::fault::RunFault;
 use crate::output::{Output, no_block_output};
+use crate::status::Answer;
 use crate::words::Shown;
 use key_orders::Octets;
 use outside::{Files, NoMemory};
@@ -39,17 +39,19 @@ fn block_output<F: Files>(
     requires { IsHeldAnd F.seen files.old file.now (Segment 0) (λ bytes. 8192 * block + 8192 ≤ length bytes) }
     ensures output { IfOk result (λ o. IfHeld F.seen files.old file.now (Segment 0)
         (λ bytes. outcome_seen o ≡ page_shown of block (block_in (Some bytes) block))) }
-    ensures code { IfOk result (λ o. o.code ≡ 0) }
     ensures asked { Asked F.seen files.old files.new result RunFault.ReadFault }
 {
     let mut page = [0u8; 8192];
     read_block(files, file, block, &mut page)?;
     let text = page_text(alloc, of, PageView::new(&page), block)?;
-    Ok(Output { text, code: 0 })
+    Ok(Output {
+        text,
+        answer: Answer::Clean,
+    })
 }
 
 /// The output of `show`: the text of one page of a file, or why there is none.
-#[tactic(auto, unfolding(crate::specs::Outcome::show_outcome))]
+#[tactic(auto, unfolding(crate::specs::Show::show_outcome))]
 pub fn show_output<F: Files>(
     alloc: Global,
     files: &mut F,
@@ -59,8 +61,6 @@ pub fn show_output<F: Files>(
 ) -> Result<Output, RunFault>
     ensures output { Tells F.seen files.old result (λ o names.
         outcome_seen o ≡ show_outcome of file.now block (names file.now (Segment 0))) }
-    ensures code { IfOk result (λ o. IsOutcomeCode o.code) }
-    ensures formed { IfOk result (λ o. o.code ≢ 3) }
     ensures asked { Asked F.seen files.old files.new result RunFault.ReadFault }
 {
     match open_file(alloc, files, file)? {

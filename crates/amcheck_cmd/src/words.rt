@@ -1,7 +1,9 @@
 //! The forms of a command line.
 ghost use Rattle.std.specs.Prelude.{◌≡◌, map, string_bytes};
-ghost use Rattle.amcheck_cmd.specs.Forms.{form_of, four_form, pair_form, shown_by};
-ghost use Rattle.amcheck_cmd.specs.Seen.{form_seen};
+ghost use Rattle.std.specs.Option.{option_copied};
+ghost use Rattle.amcheck_cmd.specs.Numbers.{block_written};
+ghost use Rattle.amcheck_cmd.specs.Seen.{form_asked};
+ghost use Rattle.amcheck_cmd.specs.Words.{command_form, form_of, name_alone, page_by, show_form, shown_by};
 
 use crate::numbers::block_written;
 
@@ -30,29 +32,21 @@ pub enum Command<'w> {
         /// The page's block number.
         block: u32,
     },
-    /// The words have none of the forms.
-    NoForm,
 }
 
-// The form of two words.
-#[tactic(auto, unfolding(crate::specs::Forms::pair_form))]
-fn command_of_pair<'w>(command: &str, file: &'w str) -> Command<'w>
-    ensures { form_seen result ≡ pair_form command.now file.now }
+// One word, which isn't empty.
+#[tactic(auto, unfolding(crate::specs::Words::name_alone))]
+fn name_alone(words: &[String]) -> Option<&str>
+    ensures { option_copied result ≡ name_alone (map string_bytes words.now) }
 {
-    if file.is_empty() {
-        return Command::NoForm;
+    match words {
+        [name] if !name.is_empty() => Some(name.as_str()),
+        _ => None,
     }
-    if command == "pages" {
-        return Command::Pages(file);
-    }
-    if command == "heap" {
-        return Command::Heap(file);
-    }
-    Command::NoForm
 }
 
 // What the page that a word names is a page of.
-#[tactic(auto, unfolding(crate::specs::Forms::shown_by))]
+#[tactic(auto, unfolding(crate::specs::Words::shown_by))]
 fn shown_by(word: &str) -> Option<Shown>
     ensures { result ≡ shown_by word.now }
 {
@@ -65,33 +59,55 @@ fn shown_by(word: &str) -> Option<Shown>
     None
 }
 
-// The form of four words.
-#[tactic(auto, unfolding(crate::specs::Forms::four_form))]
-fn command_of_four<'w>(command: &str, kind: &str, file: &'w str, block: &str) -> Command<'w>
-    ensures { form_seen result ≡ four_form command.now kind.now file.now block.now }
+// A page of a file, whose name isn't empty, by its kind and the number of its block.
+fn page_by<'w>(kind: &str, file: &'w str, block: &str) -> Option<Command<'w>>
+    ensures { form_asked result ≡ page_by (shown_by kind.now) file.now (block_written block.now) }
 {
-    if command != "show" || file.is_empty() {
-        return Command::NoForm;
+    if file.is_empty() {
+        return None;
     }
     match (shown_by(kind), block_written(block)) {
-        (Some(of), Some(block)) => Command::Show { of, file, block },
-        _ => Command::NoForm,
+        (Some(of), Some(block)) => Some(Command::Show { of, file, block }),
+        _ => None,
     }
 }
 
-/// The form of the words of a command line, which are read literally: no word is an option.
-#[tactic(auto, unfolding(crate::specs::Forms::form_of))]
-pub fn command_of(words: &[String]) -> Command<'_>
-    ensures { form_seen result ≡ form_of (map string_bytes words.now) }
+// The words after `show`.
+#[tactic(auto, unfolding(crate::specs::Words::show_form))]
+fn show_command(words: &[String]) -> Option<Command<'_>>
+    ensures { form_asked result ≡ show_form (map string_bytes words.now) }
 {
     match words {
-        [command, file] => command_of_pair(command.as_str(), file.as_str()),
-        [command, kind, file, block] => command_of_four(
-            command.as_str(),
-            kind.as_str(),
-            file.as_str(),
-            block.as_str(),
-        ),
-        _ => Command::NoForm,
+        [kind, file, block] => page_by(kind.as_str(), file.as_str(), block.as_str()),
+        _ => None,
+    }
+}
+
+// The command of this name, with the words after it.
+#[tactic(auto, unfolding(crate::specs::Words::command_form))]
+fn named_command<'w>(command: &str, words: &'w [String]) -> Option<Command<'w>>
+    ensures { form_asked result ≡ command_form command.now (map string_bytes words.now) }
+{
+    if command == "pages" {
+        return Some(Command::Pages(name_alone(words)?));
+    }
+    if command == "heap" {
+        return Some(Command::Heap(name_alone(words)?));
+    }
+    if command == "show" {
+        return show_command(words);
+    }
+    None
+}
+
+/// The form of the words of a command line, which are read literally: no word is an option. None where
+/// they have none of the forms.
+#[tactic(auto, unfolding(crate::specs::Words::form_of))]
+pub fn command_of(words: &[String]) -> Option<Command<'_>>
+    ensures { form_asked result ≡ form_of (map string_bytes words.now) }
+{
+    match words {
+        [] => None,
+        [command, rest @ ..] => named_command(command.as_str(), rest),
     }
 }

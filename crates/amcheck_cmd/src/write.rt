@@ -1,11 +1,10 @@
 //! Writes the whole output.
 ghost use Rattle.std.specs.Prelude.{◌≡◌, ◌⊎◌, ℕ, take, OnOk, OnErr};
 ghost use Rattle.outside.specs.Outside.{HasCause, Rose, appended};
-ghost use Rattle.amcheck_cmd.specs.Outcome.{IsOutcomeCode, Meets};
-ghost use Rattle.amcheck_cmd.specs.Seen.{outcome_seen};
+ghost use Rattle.amcheck_cmd.specs.Answers.{IsOutcomeCode, ending_code};
+ghost use Rattle.amcheck_cmd.specs.Outcome.{Meets};
 
-use crate::output::Output;
-use crate::status::Status;
+use crate::status::{Ending, Status};
 use outside::{Failed, Sink};
 
 // Puts all bytes. At an error the sink has taken a first part of them.
@@ -26,15 +25,17 @@ fn put_all<S: Sink>(sink: &mut S, bytes: &[u8]) -> Result<(), Failed>
     Ok(())
 }
 
-/// Writes the output, and says how that ended.
-pub fn write_output<S: Sink>(sink: &mut S, output: &Output) -> Status
-    requires { IsOutcomeCode output.now.code }
-    ensures meets { Meets (outcome_seen output.now) (S.written sink.old) (S.written sink.new) result.code }
+/// Writes bytes, which a run owes that ends so, and says how that ended.
+pub fn write_text<S: Sink>(sink: &mut S, text: &[u8], owed: Ending) -> Status
+    requires { IsOutcomeCode (ending_code owed) }
+    ensures meets { Meets (record { bytes = text.now; code = ending_code owed }) (S.written sink.old)
+        (S.written sink.new) result.code }
     ensures write_fault { result.code ≡ 8 → Rose (S.faults sink.old) (S.faults sink.new) }
-    ensures codes { (result.code ≡ output.now.code) ⊎ (result.code ≡ 8) }
+    ensures codes { (result.code ≡ ending_code owed) ⊎ (result.code ≡ 8) }
+    ensures known { IsOutcomeCode result.code ⊎ (result.code ≡ 8) }
 {
-    match put_all(sink, output.text.as_slice()) {
-        Ok(()) => Status { code: output.code },
-        Err(Failed) => Status { code: 8 },
+    match put_all(sink, text) {
+        Ok(()) => owed.status(),
+        Err(Failed) => Ending::WriteFault.status(),
     }
 }

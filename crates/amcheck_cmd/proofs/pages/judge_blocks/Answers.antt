@@ -1,4 +1,4 @@
-use Rattle.std.proofs.Common.{◌≡◌, ℕ, ◌+◌, List, Some, ◌++◌, ◌∙◌, refl, sym, append-nil, append_assoc, arith}
+use Rattle.std.proofs.Common.{◌≡◌, ℕ, ◌+◌, List, Some, ◌++◌, ◌∙◌, refl, sym, append-nil, append_assoc}
 use Rattle.reports.specs.declared.places.Finding.{Finding}
 use Rattle.outside.proofs.Asking.{Passed-next, Passed-none}
 use Rattle.heap_check.specs.Below.{each_below, each_below-next, each_below-none}

@@ -1,4 +1,4 @@
-use Rattle.std.proofs.Common.{◌≡◌, Some, ◌++◌, ◌≤◌}
+use Rattle.std.proofs.Common.{◌≡◌, Some, ◌++◌}
 use Rattle.outside.specs.Outside.{IfHeld, Passed}
 use Rattle.outside.specs.declared.files.Part.TheVariants.{Segment}
 use Rattle.heap_check.specs.Below.{each_below}

@@ -1,12 +1,12 @@
 use Rattle.std.proofs.Common.{◌≡◌, ℕ, List, Some, [], ◌++◌, ◌/◌, ◌∙◌, length, refl}
 use Rattle.reports.specs.Lists.{Lists}
 use Rattle.heap_check.specs.Below.{each_below}
-use Rattle.amcheck_cmd.specs.Pages.{block_findings, file_findings}
+use Rattle.amcheck_cmd.specs.Pages.{block_findings, file_findings, file_lists}
 use Rattle.amcheck_cmd.specs.Outcome.{reported}
 use Rattle.amcheck_cmd.proofs.pages.judged_output.Goals as goal
 
 -- a report that began empty, and then got the findings of all blocks
-of_all_blocks : (now start : Lists) (bytes : List ℕ) (blocks : ℕ) → now.findings ≡ start.findings ++ each_below (block_findings (Some bytes)) blocks → now.unjudged ≡ start.unjudged → start ≡ record { findings = []; unjudged = [] } → length bytes / 8192 ≡ blocks → reported now ≡ reported (record { findings = file_findings (Some bytes); unjudged = [] })
+of_all_blocks : (now start : Lists) (bytes : List ℕ) (blocks : ℕ) → now.findings ≡ start.findings ++ each_below (block_findings (Some bytes)) blocks → now.unjudged ≡ start.unjudged → start ≡ record { findings = []; unjudged = [] } → length bytes / 8192 ≡ blocks → reported now ≡ reported (file_lists (Some bytes))
 unfolding file_findings
 of_all_blocks now start bytes blocks judged closed none count = rw (judged, closed, none, ← count) refl
 

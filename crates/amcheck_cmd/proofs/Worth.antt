@@ -1,0 +1,119 @@
+-- What the report of a command is worth.
+use Rattle.std.proofs.Common.{◌≡◌, ℕ, List, [], ◌∷◌, ◌⊎◌, inl, inr, refl, sym, ap, subst, ◌∙◌, arith}
+use Rattle.std.specs.Prelude.{Option, Some, Ok}
+use Rattle.std.specs.List.{All}
+use Rattle.std.proofs.lemmas.List.Elements.{All-head, All-nil}
+use Rattle.outside.specs.Outside.{Names}
+use Rattle.outside.specs.declared.files.Part.TheVariants.{Segment}
+use Rattle.reports.specs.Lists.{Lists}
+use Rattle.reports.specs.Texts.{verdict_of}
+use Rattle.reports.specs.declared.places.Finding.{Finding}
+use Rattle.reports.specs.declared.places.UnjudgedPlace.{UnjudgedPlace}
+use Rattle.amcheck_cmd.specs.Answers.{answer_by, answer_code}
+use Rattle.amcheck_cmd.specs.Commands.{BreaksNothing, DoubtsNothing, IsInDoubt, IsSound, IsTrue, IsWorth, judged_by, outcome_of}
+use Rattle.amcheck_cmd.specs.Outcome.{Meets, Outcome, owed_by, reported}
+use Rattle.amcheck_cmd.specs.Words.{Check, Form, Heap, Judge, Pages}
+use Rattle.amcheck_cmd.proofs.HeapLaws.{heap_certain, heap_complete, heap_doubts, heap_sound, heap_true, the_case}
+use Rattle.amcheck_cmd.proofs.PagesLaws.{file_complete, file_sound, pages_are}
+
+-- each finding of a report is a broken rule, and each place that it calls unjudged is in doubt
+sound_report : (check : Check) (names : Names) (lists : Lists) → judged_by check names ≡ Ok lists → IsSound check names lists
+sound_report (Pages name) names lists e =
+    let file = names name (Segment 0) in
+    let P : Lists → Type 0 = IsSound (Pages name) names in
+    subst P (pages_are name file lists e) (record { findings = file_sound file; unjudged = All-nil (λ u. IsInDoubt (Pages name) names u.reason u.place) })
+sound_report (Heap name) names lists e =
+    let has = the_case name names lists e in record { findings = heap_sound name names lists has; unjudged = heap_doubts name names lists has }
+
+module _ (lists : Lists) (none : lists.findings ≡ []) (sure : lists.unjudged ≡ []) where
+  -- a report without findings, and with nothing in doubt, tells that nothing is broken,
+  empty_breaks : (check : Check) (names : Names) → judged_by check names ≡ Ok lists → BreaksNothing check names
+  empty_breaks (Pages name) names e =
+      let file = names name (Segment 0) in
+      file_complete file (ap (λ (l : Lists). l.findings) (pages_are name file lists e) ∙ none)
+  empty_breaks (Heap name) names e = heap_complete name names lists (the_case name names lists e) none sure
+
+  -- that all can be judged,
+  empty_doubts : (check : Check) (names : Names) → judged_by check names ≡ Ok lists → DoubtsNothing check names
+  empty_doubts (Pages name) names e = λ reason place doubted. doubted
+  empty_doubts (Heap name) names e = heap_certain name names lists (the_case name names lists e) none sure
+
+  -- and that what is said of clean files is true
+  empty_is_true : (check : Check) (names : Names) → judged_by check names ≡ Ok lists → IsTrue check names
+  empty_is_true (Pages name) names e = tt
+  empty_is_true (Heap name) names e = heap_true name names lists (the_case name names lists e) none sure
+
+-- what never comes isn't listed
+none_of : {X : Type 0} {P : X → Type 0} (xs : List X) → All P xs → ((x : X) → P x → ⊥) → xs ≡ []
+none_of [] all never = refl
+none_of {P = P} (x ∷ xs) all never = absurd (never x (All-head P x xs all))
+
+clean_has_none : (fs : List Finding) (us : List UnjudgedPlace) → answer_code (answer_by (verdict_of fs us)) ≡ 0 → (fs ≡ []) × (us ≡ [])
+unfolding verdict_of
+clean_has_none [] [] e = (refl, refl)
+clean_has_none [] (u ∷ us) e = absurd (omega (arith, e))
+clean_has_none (f ∷ fs) us e = absurd (omega (arith, e))
+
+none_is_clean : (fs : List Finding) (us : List UnjudgedPlace) → fs ≡ [] → us ≡ [] → answer_code (answer_by (verdict_of fs us)) ≡ 0
+unfolding verdict_of
+none_is_clean fs us e f = rw (e, f) refl
+
+module _ (check : Check) (names : Names) (lists : Lists) (e : judged_by check names ≡ Ok lists) where
+  sound : IsSound check names lists
+  sound = sound_report check names lists e
+
+  -- the code of a report of which nothing is broken and nothing in doubt
+  clean : BreaksNothing check names → DoubtsNothing check names → (reported lists).code ≡ 0
+  clean nothing sure =
+      none_is_clean lists.findings lists.unjudged (none_of lists.findings sound.findings (λ f. nothing f.rule f.place))
+      (none_of lists.unjudged sound.unjudged (λ u. sure u.reason u.place))
+
+  -- a code that is the report's own, or tells that it couldn't be written
+  own : (code : ℕ) → (code ≡ (reported lists).code) ⊎ (code ≡ 8) → code ≡ 0 → (reported lists).code ≡ 0
+  own code (inl same) nought = sym same ∙ nought
+  own code (inr eight) nought = absurd (omega (arith, nought, eight))
+
+  -- a report that was to be written
+  pub written_worth : (old new : Option (List ℕ)) (code : ℕ) → Meets (reported lists) old new code
+      → (code ≡ (reported lists).code) ⊎ (code ≡ 8) → IsWorth check names lists old new code
+  written_worth old new code meets codes =
+      let none = (λ (nought : code ≡ 0). clean_has_none lists.findings lists.unjudged (own code codes nought)) in record {
+        written = meets;
+        sound = sound;
+        clean = λ nothing sure. elim codes [ inl same ↦ inl (same ∙ clean nothing sure) | inr eight ↦ inr (inr (inl eight)) ];
+        whole = λ nought.
+            (empty_breaks lists (none nought).0 (none nought).1 check names e, empty_doubts lists (none nought).0 (none nought).1 check names e);
+        truth = λ nought. empty_is_true lists (none nought).0 (none nought).1 check names e;
+      }
+
+  -- a report of a run that gave up before it wrote
+  pub given_up_worth : (old new : Option (List ℕ)) (code : ℕ) → (code ≡ 7) ⊎ (code ≡ 9) → IsWorth check names lists old new code
+  given_up_worth old new code (inl seven) = record {
+    written = record { whole = λ not_seven not_eight not_nine. absurd (not_seven seven); prefix = λ eight. absurd (omega (arith, seven, eight)) };
+    sound = sound;
+    clean = λ nothing sure. inr (inl seven);
+    whole = λ nought. absurd (omega (arith, seven, nought));
+    truth = λ nought. absurd (omega (arith, seven, nought));
+  }
+  given_up_worth old new code (inr nine) = record {
+    written = record { whole = λ not_seven not_eight not_nine. absurd (not_nine nine); prefix = λ eight. absurd (omega (arith, nine, eight)) };
+    sound = sound;
+    clean = λ nothing sure. inr (inr (inr nine));
+    whole = λ nought. absurd (omega (arith, nine, nought));
+    truth = λ nought. absurd (omega (arith, nine, nought));
+  }
+
+-- the outcome of a command that makes a report is that report
+pub report_owed : (form : Form) (check : Check) (names : Names) (lists : Lists) (o : Outcome) → Some form ≡ Some (Judge check)
+    → judged_by check names ≡ Ok lists → o ≡ outcome_of form names → o ≡ reported lists
+report_owed form check names lists o asked e owed =
+    let same : form ≡ Judge check = cc in
+    owed ∙ ap (λ (f : Form). outcome_of f names) same ∙ ap owed_by e
+
+pub worth_by : (form : Form) (check : Check) (names : Names) (lists : Lists) (o : Outcome) → Some form ≡ Some (Judge check)
+    → judged_by check names ≡ Ok lists → o ≡ outcome_of form names → (old new : Option (List ℕ)) (code : ℕ) → Meets o old new code
+    → (code ≡ o.code) ⊎ (code ≡ 8) → IsWorth check names lists old new code
+worth_by form check names lists o asked e owed old new code meets codes =
+    let is = report_owed form check names lists o asked e owed in
+    written_worth check names lists e old new code (subst (λ (p : Outcome). Meets p old new code) is meets)
+    (subst (λ (p : Outcome). (code ≡ p.code) ⊎ (code ≡ 8)) is codes)

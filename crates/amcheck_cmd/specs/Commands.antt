@@ -1,0 +1,78 @@
+-- The commands: what each finds, which rules are its own, and what its report is worth. Each has a file of its own for
+-- what is said here by cases.
+use Rattle.std.specs.Prelude.{◌≡◌, ℕ, ◌⊎◌, List, All, Option, Some, None, Ok}
+use Rattle.outside.specs.Outside.{Names}
+use Rattle.outside.specs.declared.files.Part.TheVariants.{Segment}
+use Rattle.page_layout.specs.declared.rules.Rule.{Rule}
+use Rattle.reports.specs.Lists.{Lists}
+use Rattle.reports.specs.declared.places.Place.{Place}
+use Rattle.reports.specs.declared.places.Reason.{Reason}
+use Rattle.amcheck_cmd.specs.Answers.{GaveUp}
+use Rattle.amcheck_cmd.specs.Heap.{BreaksHeap, DoubtsHeap, HasTrueHeap, heap_judged}
+use Rattle.amcheck_cmd.specs.Outcome.{Judged, Meets, Outcome, owed_by, reported, usage}
+use Rattle.amcheck_cmd.specs.Pages.{BreaksFile, pages_judged}
+use Rattle.amcheck_cmd.specs.Show.{show_outcome}
+use Rattle.amcheck_cmd.specs.Words.{Check, Form, Heap, Judge, Pages, Show, form_of}
+
+-- what a command that judges finds
+abbrev pub judged_by : Check → Names → Judged
+judged_by (Pages name) names = pages_judged name (names name (Segment 0))
+judged_by (Heap name) names = heap_judged name names
+
+-- what a command owes
+abbrev pub outcome_of : Form → Names → Outcome
+outcome_of (Judge check) names = owed_by (judged_by check names)
+outcome_of (Show kind name block) names = show_outcome kind name block (names name (Segment 0))
+
+abbrev pub outcome_by : Option Form → Names → Outcome
+outcome_by None names = usage
+outcome_by (Some form) names = outcome_of form names
+
+-- what these words owe over files that hold this
+abbrev pub outcome : List (List ℕ) → Names → Outcome
+outcome words names = outcome_by (form_of words) names
+
+-- a rule of the command is broken at a place
+abbrev pub IsBroken : Check → Names → Rule → Place → Type 0
+IsBroken (Pages name) names rule place = BreaksFile (names name (Segment 0)) rule place
+IsBroken (Heap name) names rule place = BreaksHeap name names rule place
+
+-- a place of the command's files can't be judged
+abbrev pub IsInDoubt : Check → Names → Reason → Place → Type 0
+IsInDoubt (Pages name) names reason place = ⊥
+IsInDoubt (Heap name) names reason place = DoubtsHeap name names reason place
+
+-- what is true of the command's files where they are clean
+abbrev pub IsTrue : Check → Names → Type 0
+IsTrue (Pages name) names = Unit {0}
+IsTrue (Heap name) names = HasTrueHeap name names
+
+abbrev pub BreaksNothing : Check → Names → Type 0
+BreaksNothing check names = (rule : Rule) (place : Place) → IsBroken check names rule place → ⊥
+
+abbrev pub DoubtsNothing : Check → Names → Type 0
+DoubtsNothing check names = (reason : Reason) (place : Place) → IsInDoubt check names reason place → ⊥
+
+-- each finding of a report is a rule that is broken at its place, and each place that it calls unjudged is in doubt
+pub record IsSound (check : Check) (names : Names) (lists : Lists) : Type 0 where
+  pub findings : All (λ f. IsBroken check names f.rule f.place) lists.findings
+  pub unjudged : All (λ u. IsInDoubt check names u.reason u.place) lists.unjudged
+
+-- what a report is worth, and the answer of the run that made it
+pub record IsWorth (check : Check) (names : Names) (lists : Lists) (old new : Option (List ℕ)) (code : ℕ) : Type 0 where
+  -- it is what is written and answered, but for faults and want of memory
+  pub written : Meets (reported lists) old new code
+  -- it finds only what is broken or in doubt
+  pub sound : IsSound check names lists
+  -- files that break no rule, and of which all can be judged, are clean, unless the run gave up
+  pub clean : BreaksNothing check names → DoubtsNothing check names → (code ≡ 0) ⊎ GaveUp code
+  -- files that are called clean break no rule, and all of them can be judged
+  pub whole : code ≡ 0 → BreaksNothing check names × DoubtsNothing check names
+  -- and what is said of such files is true
+  pub truth : code ≡ 0 → IsTrue check names
+
+-- where the words ask for a command that makes a report, and nothing refuses it, P holds of the two
+abbrev pub ForReport : List (List ℕ) → Names → (Check → Lists → Type 0) → Type 0
+ForReport words names P =
+    (check : Check) (lists : Lists) → form_of words ≡ Some (Judge check) → judged_by check names ≡ Ok lists
+    → P check lists
