@@ -24,7 +24,7 @@ TreePage = Page (Separator Value Tid) (Entry Value Tid)
 abbrev pub TreeIndex : Type 0
 TreeIndex = Index (Separator Value Tid) (Entry Value Tid)
 
--- THE ITEMS OF A PAGE
+-- The items of a page
 
 -- a page with a right sibling has a high key, item 1
 abbrev pub has_high_key : List ℕ → Bool
@@ -93,7 +93,7 @@ keys_in item = map (λ e. e.entry) (entries_in item)
 abbrev pub page_keys : List KeySpec → List MoreSpec → List ℕ → List (Entry Value Tid)
 page_keys specs more page = flat_map (λ i. keys_in (item_at specs more page i)) (data_items page)
 
--- THE PAGE
+-- The page
 
 -- what a data item of an internal page leads to, and from which separator on
 abbrev pub child_in : Item → Separator Value Tid × ℕ
@@ -118,7 +118,7 @@ page_image specs more page = record {
       if is_leaf (opaque_of page) && not (is_half_dead (opaque_of page)) then page_keys specs more page else [];
 }
 
--- THE INDEX
+-- The index
 
 -- the blocks of an index, by their numbers; block 0 is the metapage
 abbrev pub index_image : List KeySpec → List MoreSpec → (blocks : ℕ) → (ℕ → List ℕ) → TreeIndex

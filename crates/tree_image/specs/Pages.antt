@@ -39,7 +39,7 @@ unfoldable pub breaks_items : List ℕ → Bool
 breaks_items page =
     (has_high_key page && (count_of page == 0)) || (not (is_leaf (opaque_of page)) && not (has_data page))
 
--- THE ORDER OF ITEMS
+-- The order of items
 
 -- the key of an item's first entry and of its last; of a pivot both are what it keeps
 abbrev pub first_or : Tid → List Tid → Tid
@@ -101,7 +101,7 @@ breaks_high_key specs more page =
     && is_past specs (is_leaf (opaque_of page)) (last_key (item_at specs more page (count_of page)))
     (separator_in (item_at specs more page 1))
 
--- THE NEIGHBOURS, in an index of so many blocks
+-- The neighbours, in an index of so many blocks
 
 -- a sibling isn't below the number of blocks, is idle, has another level or doesn't link back
 abbrev pub is_bad_sibling : (blocks : ℕ) → (ℕ → List ℕ) → (b sibling back : ℕ) → Bool
@@ -122,7 +122,7 @@ unfoldable pub breaks_downlink : (blocks : ℕ) → (ℕ → List ℕ) → (leve
 breaks_downlink blocks block level down =
     (down == 0) || nat_le blocks down || is_idle (block down) || not ((opaque_of (block down)).level + 1 == level)
 
--- ALL OF THEM
+-- All of them
 
 -- the number is that of a data item
 pub record IsDataItem (page : List ℕ) (i : ℕ) : Type 0 where

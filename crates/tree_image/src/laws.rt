@@ -1,36 +1,23 @@
 //! What the pages of an index mean to a search, where none breaks a rule.
-ghost use Rattle.std.specs.Prelude.{◌≡◌, ◌<◌, ◌↔◌, ℕ, false, List, [], map};
+ghost use Rattle.std.specs.Prelude.{◌≡◌, ℕ, List, map};
 ghost use Rattle.tree_search.specs.Search.{entries_of};
-ghost use Rattle.tree_search.specs.Searchable.{IsInUse, IsSoundPage};
+ghost use Rattle.tree_rules.specs.Sound.{HasSoundPages};
 ghost use Rattle.key_orders.specs.declared.columns.KeySpec.{KeySpec as Spec};
 ghost use Rattle.key_orders.specs.declared.more.MoreSpec.{MoreSpec as More};
 ghost use Rattle.key_orders.specs.Scans.{order_of};
-ghost use Rattle.bt_meta.specs.Pages.{meta_of};
-ghost use Rattle.tree_image.specs.Image.{index_entries, index_image, page_image};
+ghost use Rattle.tree_image.specs.Image.{index_entries, index_image};
 ghost use Rattle.tree_image.specs.Pages.{KeepsTreeRules};
 
 use key_orders::key_orders_are_total;
 
 /// Where the blocks of an index break no rule on its metapage and on single pages, their image has
-/// what the rules on levels, and the search, build on:
-///
-/// - `pages`: each page in use is sound by itself and with its neighbours.
-/// - `inside`: the root and the fast root are blocks of the index.
-/// - `root_or_empty`: there is a fast root exactly where there is a root.
-/// - `no_entries`: only leaves have entries.
+/// what the rules on levels, and the search, build on (`tree_rules`): the root and the fast root are
+/// blocks of the index, and both are there or none is; each page in use is sound by itself and with
+/// its neighbours; and only leaves have entries.
 pub fn kept_rules_make_a_sound_image()
-    ensures pages { (specs : List Spec) (more : List More) (blocks : ℕ) (block : ℕ → List ℕ)
+    ensures { (specs : List Spec) (more : List More) (blocks : ℕ) (block : ℕ → List ℕ)
         → KeepsTreeRules specs more blocks block
-        → (b : ℕ) → IsInUse (index_image specs more blocks block) b
-        → IsSoundPage (order_of specs) (index_image specs more blocks block) b }
-    ensures inside { (specs : List Spec) (more : List More) (blocks : ℕ) (block : ℕ → List ℕ)
-        → KeepsTreeRules specs more blocks block
-        → ((meta_of (block 0)).root < blocks) × ((meta_of (block 0)).fastroot < blocks) }
-    ensures root_or_empty { (specs : List Spec) (more : List More) (blocks : ℕ) (block : ℕ → List ℕ)
-        → KeepsTreeRules specs more blocks block
-        → ((meta_of (block 0)).root ≡ 0) ↔ ((meta_of (block 0)).fastroot ≡ 0) }
-    ensures no_entries { (specs : List Spec) (more : List More) (blocks : ℕ) (block : ℕ → List ℕ) (b : ℕ)
-        → (page_image specs more (block b)).leaf ≡ false → (page_image specs more (block b)).entries ≡ [] }
+        → HasSoundPages (order_of specs) (index_image specs more blocks block) }
 {
     key_orders_are_total();
 }

@@ -5,16 +5,13 @@ use Rattle.std.proofs.lemmas.Bool.{and_left, cond-false}
 use Rattle.tree_image.proofs.Sound.{page_sound, roots, same_values}
 use Rattle.tree_image.proofs.laws.kept_rules_make_a_sound_image.Goals as goal
 
-pub returns-clause-pages : goal.returns-clause-pages
-returns-clause-pages c specs more blocks block kept b use_of =
-    page_sound specs more blocks block b (same_values specs (λ s. (c.key_orders_are_total.ensures.same_key specs s s).1 refl)) (kept.pages b use_of.not_meta use_of.inside use_of.used)
-
-pub returns-clause-inside : goal.returns-clause-inside
-returns-clause-inside c specs more blocks block kept =
-    let r = roots specs blocks block (kept.metapage.roots kept.version) in (r.0, r.1)
-
-pub returns-clause-root_or_empty : goal.returns-clause-root_or_empty
-returns-clause-root_or_empty c specs more blocks block kept = (roots specs blocks block (kept.metapage.roots kept.version)).2
-
-pub returns-clause-no_entries : goal.returns-clause-no_entries
-returns-clause-no_entries c specs more blocks block b inner = cond-false _ _ _ (and_left (is_leaf (opaque_of (block b))) _ inner)
+pub returns : goal.returns
+returns c specs more blocks block kept =
+    let r = roots specs blocks block (kept.metapage.roots kept.version) in
+    let same = same_values specs (λ s. (c.key_orders_are_total.ensures.same_key specs s s).1 refl) in record {
+      root_inside = r.0;
+      fast_inside = r.1;
+      root_or_empty = r.2;
+      pages = λ b use_of. page_sound specs more blocks block b same (kept.pages b use_of.not_meta use_of.inside use_of.used);
+      no_entries = λ b use_of inner. cond-false _ _ _ (and_left (is_leaf (opaque_of (block b))) _ inner);
+    }
