@@ -1,1 +1,3 @@
 mod FirstParts
+pub mod Upto
+pub mod OneAdded

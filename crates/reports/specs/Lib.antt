@@ -1,4 +1,5 @@
 pub mod Lists
+pub mod Added
 pub mod LongLists
 pub mod Fields
 pub mod Texts

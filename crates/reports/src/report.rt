@@ -1,5 +1,7 @@
 //! A report: the findings, and the places that can't be judged.
 ghost use Rattle.std.specs.Prelude.{◌≡◌, ◌+◌, ◌≤◌, ◌^◌, ◌⊎◌, ◌++◌, [], ◌∷◌, length, IfOk, OnOk, OnErr};
+ghost use Rattle.outside.specs.Adds.{AddsIn};
+ghost use Rattle.reports.specs.Added.{finding_at, report_lists};
 ghost use Rattle.reports.specs.Texts.{report_text, verdict_of};
 
 use crate::long_list::LongList;
@@ -7,6 +9,7 @@ use crate::places::{Finding, Place, Reason, UnjudgedPlace, Verdict};
 use crate::texts::{push_counts, push_findings, push_unjudged_places, verdict_by};
 use key_orders::Octets;
 use outside::NoMemory;
+use page_layout::Rule;
 use std::alloc::Global;
 use std::marker::Model;
 
@@ -56,6 +59,16 @@ impl Report {
     {
         self.unjudged.push(UnjudgedPlace { reason, place })?;
         Ok(())
+    }
+
+    /// Adds the finding of a rule at a place, if one is broken there; after `NoMemory` nothing changed.
+    pub fn add_rule(&mut self, place: Place, rule: Option<Rule>) -> Result<(), NoMemory>
+        ensures { AddsIn report_lists result self.old self.new (finding_at place rule) }
+    {
+        match rule {
+            None => Ok(()),
+            Some(rule) => self.finding(Finding { rule, place }),
+        }
     }
 
     /// Puts all that another report holds after what is there, without taking memory. It answers
