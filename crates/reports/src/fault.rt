@@ -1,8 +1,11 @@
-//! Why a file of the case can't be judged at all.
+//! Why a file of the case can't be judged, or its pages can't be read.
 ghost use Rattle.std.specs.Prelude.{◌≡◌};
 ghost use Rattle.reports.specs.declared.fault.CheckFault.TheVariants as fault;
+ghost use Rattle.reports.specs.declared.fault.PageFault.TheVariants as page;
+ghost use Rattle.reports.specs.Faults.{check_fault_of};
 
 use outside::{Failed, NoMemory};
+use rel_files::ReadFault;
 use thiserror::Error;
 
 /// The file that is meant.
@@ -49,5 +52,43 @@ impl From<NoMemory> for CheckFault {
 
     fn from(_: NoMemory) -> Self {
         CheckFault::NoMemory
+    }
+}
+
+/// Why the pages of a file, or its rows, can't be read to their end.
+#[derive(Clone, Copy, Debug, PartialEq, Eq, Error)]
+pub enum PageFault {
+    /// A file couldn't be read: the count of the files' faults rose.
+    #[error("a file couldn't be read")]
+    ReadFault,
+    /// Memory ran out.
+    #[error("out of memory")]
+    NoMemory,
+}
+
+impl From<ReadFault> for PageFault {
+    ghost from_gives = { λ _ e. e ≡ page.ReadFault };
+
+    fn from(_: ReadFault) -> Self {
+        PageFault::ReadFault
+    }
+}
+
+impl From<NoMemory> for PageFault {
+    ghost from_gives = { λ _ e. e ≡ page.NoMemory };
+
+    fn from(_: NoMemory) -> Self {
+        PageFault::NoMemory
+    }
+}
+
+impl From<PageFault> for CheckFault {
+    ghost from_gives = { λ fault e. e ≡ check_fault_of fault };
+
+    fn from(fault: PageFault) -> Self {
+        match fault {
+            PageFault::ReadFault => CheckFault::ReadFault,
+            PageFault::NoMemory => CheckFault::NoMemory,
+        }
     }
 }

@@ -17,7 +17,7 @@ mod tests;
 mod texts;
 mod tree_page;
 
-pub use fault::{CheckFault, Which};
+pub use fault::{CheckFault, PageFault, Which};
 pub use fields::push_tid;
 pub use heap_page::show_heap;
 pub use places::{Finding, Place, Reason, Rel, UnjudgedPlace, Verdict};

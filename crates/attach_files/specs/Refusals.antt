@@ -1,0 +1,48 @@
+-- Which file of a case is refused, and what an answer tells of that.
+use Rattle.std.specs.Prelude.{◌≡◌, ℕ, Bool, nat_lt, if◌then◌else◌, List, Option, Some, None, Result, Ok, Err}
+use Rattle.outside.specs.Outside.{Names}
+use Rattle.outside.specs.declared.files.Part.TheVariants.{Segment}
+use Rattle.rel_files.specs.Blocks.{blocks_of}
+use Rattle.rel_files.specs.Relation.{base_of, size_of}
+use Rattle.rel_files.specs.declared.fault.AttachFault.{AttachFault}
+use Rattle.rel_files.specs.declared.fault.AttachFault.TheVariants as attach
+use Rattle.rel_files.specs.declared.relation.Relation.{Relation}
+use Rattle.reports.specs.declared.fault.CheckFault.{CheckFault}
+use Rattle.reports.specs.declared.fault.CheckFault.TheVariants.{NoFile, NoMemory, ReadFault, TooLarge}
+use Rattle.reports.specs.declared.fault.Which.{Which}
+
+-- how many blocks a file may have
+abbrev pub block_limit : ℕ
+block_limit = 16384
+
+-- a file of so many blocks is too large
+abbrev pub large_by : Which → Bool → ℕ → Option CheckFault
+large_by which large blocks = if large then Some (TooLarge which blocks block_limit) else None
+
+abbrev pub refused_by : Which → Option (List ℕ) → ℕ → Option CheckFault
+refused_by which None blocks = Some (NoFile which)
+refused_by which (Some bytes) blocks = large_by which (nat_lt block_limit blocks) blocks
+
+-- why a file can't be judged: it isn't there, or is too large
+unfoldable pub file_refusal : Which → Names → List ℕ → ℕ → Option CheckFault
+file_refusal which names base size = refused_by which (names base (Segment 0)) (blocks_of names base size block_limit)
+
+-- an answer is a refusal exactly where there is one; a fault and want of memory say nothing of it
+abbrev pub TellsRefusal : {T : Type 0} → Option CheckFault → Result T CheckFault → Type 0
+TellsRefusal refusal (Ok _) = refusal ≡ None
+TellsRefusal refusal (Err ReadFault) = Unit {0}
+TellsRefusal refusal (Err NoMemory) = Unit {0}
+TellsRefusal refusal (Err (NoFile which)) = refusal ≡ Some (NoFile which)
+TellsRefusal refusal (Err (TooLarge which blocks limit)) = refusal ≡ Some (TooLarge which blocks limit)
+
+-- the fault of attaching a file, with the file that is meant
+abbrev pub fault_of : Which → AttachFault → CheckFault
+fault_of which attach.NoFile = NoFile which
+fault_of which (attach.TooLarge blocks limit) = TooLarge which blocks limit
+fault_of which attach.ReadFault = ReadFault
+fault_of which attach.NoMemory = NoMemory
+
+-- a relation has this name, and full segments of this size
+pub record IsNamed (base : List ℕ) (size : ℕ) (r : Relation) : Type 0 where
+  pub named : base_of r ≡ base
+  pub sized : size_of r ≡ size
