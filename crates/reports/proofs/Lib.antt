@@ -1,3 +1,4 @@
 mod FirstParts
 pub mod Upto
 pub mod OneAdded
+pub mod Parts
