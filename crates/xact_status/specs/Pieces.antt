@@ -1,7 +1,7 @@
 -- What was read of pg_xact.
-use Rattle.std.specs.Prelude.{◌≡◌, ℕ, ◌*◌, ◌/◌, ◌%◌, List, take, Option, Some, None, All, IfSome}
+use Rattle.std.specs.Prelude.{ℕ, ◌*◌, ◌/◌, ◌%◌, List, take, Option, Some, None, All, IfSome}
 use Rattle.std.specs.Coded.{Coded-set, Unit-prop, coded_option, coded_ℕ, Π_prop}
-use Rattle.outside.specs.Outside.{Held, Names}
+use Rattle.outside.specs.Outside.{Names}
 use Rattle.rel_files.specs.Bytes.{HoldsBytes}
 use Rattle.rel_files.specs.Slru.{dir_of}
 use Rattle.xact_status.specs.declared.piece.Piece.{Piece}

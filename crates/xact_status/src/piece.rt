@@ -1,7 +1,7 @@
 //! A piece of pg_xact.
 ghost use Rattle.std.specs.Prelude.{◌≡◌, ◌/◌, ◌≤◌};
 
-use crate::{XidState, state_by_byte};
+use crate::{XIDS_PER_BYTE, XidState, state_by_byte};
 use outside::Files;
 use rel_files::{ReadFault, Slru};
 
@@ -11,8 +11,6 @@ const XIDS_PER_PIECE: u32 = 256;
 const PIECES_PER_PAGE: u32 = 128;
 
 const PIECE_BYTES: usize = 64;
-
-const XIDS_PER_BYTE: u32 = 4;
 
 /// 64 bytes of pg_xact, the states of 256 transactions. The pieces of all pages are numbered from 0.
 #[derive(Clone, Copy)]

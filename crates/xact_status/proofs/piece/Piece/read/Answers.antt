@@ -1,6 +1,4 @@
-use Rattle.std.proofs.Common.{◌≡◌, ◌<◌, ◌∙◌, List, ℕ, length, sym, ap, arith}
-use Rattle.std.specs.List.{slice_get}
-use Rattle.std.proofs.lemmas.List.{take-append-le}
+use Rattle.std.proofs.Common.{arith}
 use Rattle.xact_status.specs.Pieces.{IsPieceOf}
 use Rattle.xact_status.proofs.piece.Piece.read.Goals as goal
 

@@ -1,4 +1,4 @@
-use Rattle.std.proofs.Common.{arith, ◌≡◌}
+use Rattle.std.proofs.Common.{arith}
 use Rattle.std.proofs.lemmas.Grind.{common_steps}
 use Rattle.xact_status.specs.Status.{status_of}
 use Rattle.xact_status.proofs.piece.Piece.state.Goals as goal
