@@ -48,7 +48,7 @@ impl<F: Files> Files for Remembering<'_, F> {
 
 // From memory where it is there, and else looked up and kept; logs of other folders than those of the
 // memory are looked up anew each time. Both stay calls: most tuples have hint bits and ask for neither, and
-// written into the loop over a page's tuples they make it slower by a twentieth.
+// written into the loop over a page's tuples they take a fifth of the loop's own time.
 impl<F: Files> Transactions for Remembering<'_, F> {
     #[inline(never)]
     fn status(&mut self, logs: &Status3<'_>, xid: u32) -> Result<XidState, ReadFault> {
