@@ -1,3 +1,4 @@
 pub mod Remembered
+pub mod Told
 pub mod Truth
 pub mod Update

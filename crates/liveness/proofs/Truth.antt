@@ -19,7 +19,7 @@ use Rattle.liveness.specs.declared.states.Life.TheVariants.{Live, Dead, Unjudged
 use Rattle.liveness.specs.declared.states.Judged.{Judged}
 use Rattle.liveness.specs.LogFiles.{LogFiles, logs_of}
 use Rattle.liveness.specs.Logs.{is_normal}
-use Rattle.liveness.specs.Life.{BreaksRule, HasRemover, IsDeleted, IsInDoubt, IsInserted, IsOutOfRange, SaysTrue, deleter_judged, inserter_life, judged_after}
+use Rattle.liveness.specs.Life.{BreaksRule, HasRemover, IsDeleted, IsHintedDeleted, IsInDoubt, IsInserted, IsOutOfRange, SaysTrue, deleter_judged, inserter_life, judged_after}
 use Rattle.liveness.specs.Life.{judged_by_multi, judged_by_status, judged_of, life_by_status, multi_of, plain, remover, remover_judged, updater_or_none}
 
 not_yes : (b : Bool) → not b ≡ true → b ≡ false
@@ -108,19 +108,19 @@ module _ (names : Names) (files : LogFiles) (head : HeapHead) where
 
 -- the deleter's part of an inserted tuple that has a remover
 module _ (names : Names) (files : LogFiles) (head : HeapHead) (inserted : IsInserted names files head) (has : HasRemover head) where
-  deleted : (x : ℕ) → remover names files head ≡ x → x ≢ 0 → IsCommitted names files.xact x ⊎ ((is_xmax_committed head ≡ true) × (is_multi head ≡ false))
+  deleted : (x : ℕ) → remover names files head ≡ x → x ≢ 0 → IsCommitted names files.xact x ⊎ IsHintedDeleted head
       → IsDeleted names files head
   deleted x same some committed =
-      let P : ℕ → Type 0 = λ y. HasRemover head × (y ≢ 0) × (IsCommitted names files.xact y ⊎ ((is_xmax_committed head ≡ true) × (is_multi head ≡ false))) in
+      let P : ℕ → Type 0 = λ y. HasRemover head × (y ≢ 0) × (IsCommitted names files.xact y ⊎ IsHintedDeleted head) in
       subst P (sym same) (has, some, committed)
 
   remover_by_status : (x : ℕ) (state : XidState) → remover names files head ≡ x → x ≢ 0
-      → ((is_xmax_committed head ≡ true) × (is_multi head ≡ false) → ⊥) → state ≡ status_of names files.xact x
+      → (IsHintedDeleted head → ⊥) → state ≡ status_of names files.xact x
       → DeleterSays names files head (judged_by_status state x).life
   unfolding DeleterSays
   remover_by_status x StateMissing same some bare e =
       let P : ℕ → Type 0 = IsMissing names files.xact in
-      inr (inserted, has, subst P (sym same) (not_in_log names files head x e))
+      inr (inserted, has, bare, subst P (sym same) (not_in_log names files head x e))
   remover_by_status x Committed same some bare e = deleted x same some (inl (by_log names files head x e))
   remover_by_status x NotCommitted same some bare e = λ is. elim is.2 [
     | inl committed ↦ let P : ℕ → Type 0 = IsCommitted names files.xact in in_log names files head x e (subst P same committed)
@@ -129,8 +129,8 @@ module _ (names : Names) (files : LogFiles) (head : HeapHead) (inserted : IsInse
 
   remover_by : (x : ℕ) (none normal inside hinted : Bool) → remover names files head ≡ x → none ≡ (x == 0) → normal ≡ is_normal x
       → inside ≡ is_xid_in_range files.cluster x
-      → (hinted ≡ true → (is_xmax_committed head ≡ true) × (is_multi head ≡ false))
-      → (hinted ≡ false → (is_xmax_committed head ≡ true) × (is_multi head ≡ false) → ⊥)
+      → (hinted ≡ true → IsHintedDeleted head)
+      → (hinted ≡ false → IsHintedDeleted head → ⊥)
       → DeleterSays names files head
       (if none then plain Live else if not normal then record { life = Dead; update = x } else if not inside then plain (broken H11)
       else if hinted then record { life = Dead; update = x } else judged_by_status (status_of names files.xact x) x).life
@@ -146,8 +146,8 @@ module _ (names : Names) (files : LogFiles) (head : HeapHead) (inserted : IsInse
   remover_by x false true true false same e f r hint bare =
       remover_by_status x (status_of names files.xact x) same (eqb-false x 0 (sym e)) (bare refl) refl
 
-  remover_truth : (x : ℕ) (hinted : Bool) → remover names files head ≡ x → (hinted ≡ true → (is_xmax_committed head ≡ true) × (is_multi head ≡ false))
-      → (hinted ≡ false → (is_xmax_committed head ≡ true) × (is_multi head ≡ false) → ⊥)
+  remover_truth : (x : ℕ) (hinted : Bool) → remover names files head ≡ x → (hinted ≡ true → IsHintedDeleted head)
+      → (hinted ≡ false → IsHintedDeleted head → ⊥)
       → DeleterSays names files head (remover_judged (logs_of names files) hinted x).life
   unfolding remover_judged
   remover_truth x hinted same hint bare =

@@ -48,12 +48,15 @@ multi_of names files head = updater_of names files.offsets files.members files.c
 abbrev pub remover : Names → LogFiles → HeapHead → ℕ
 remover names files head = if is_multi head then updater_or_none (multi_of names files head) else head.xmax
 
--- it did: it committed, or a hint says so of a transaction that stands alone
+-- a hint says that it committed, of a transaction that stands alone
+abbrev pub IsHintedDeleted : HeapHead → Type 0
+IsHintedDeleted head = (is_xmax_committed head ≡ true) × (is_multi head ≡ false)
+
+-- it did: it committed, or a hint says so
 abbrev pub IsDeleted : Names → LogFiles → HeapHead → Type 0
 IsDeleted names files head =
     HasRemover head × (remover names files head ≢ 0)
-    × (IsCommitted names files.xact (remover names files head)
-    ⊎ ((is_xmax_committed head ≡ true) × (is_multi head ≡ false)))
+    × (IsCommitted names files.xact (remover names files head) ⊎ IsHintedDeleted head)
 
 -- an inserted tuple whose remover stands in a multixact that is in range and in this state
 abbrev pub HangsOnMulti : Names → LogFiles → HeapHead → MultiState → Type 0
@@ -72,7 +75,7 @@ abbrev pub IsOutOfRange : LogFiles → ℕ → Type 0
 IsOutOfRange files xid = (3 ≤ xid) × (is_xid_in_range files.cluster xid ≡ false)
 
 -- a tuple that breaks a rule: its inserter is out of range, or its multixact, or its remover; the byte that says
--- whether its inserter or its remover committed isn't held; or some byte of its multixact isn't
+-- whether its inserter or its remover committed isn't held, where no hint says it; or some byte of its multixact isn't
 abbrev pub BreaksRule : Names → LogFiles → HeapHead → Rule → Type 0
 BreaksRule names files head H9 = IsOutOfRange files (seen_xmin head)
 BreaksRule names files head H10 =
@@ -83,7 +86,8 @@ BreaksRule names files head H11 =
 BreaksRule names files head H12 =
     ((is_hinted_invalid head ≡ false) × (is_xmin_committed head ≡ false)
     × IsMissing names files.xact (seen_xmin head))
-    ⊎ (IsInserted names files head × HasRemover head × IsMissing names files.xact (remover names files head))
+    ⊎ (IsInserted names files head × HasRemover head × (IsHintedDeleted head → ⊥)
+    × IsMissing names files.xact (remover names files head))
 BreaksRule names files head H13 = HangsOnMulti names files head Missing
 BreaksRule names files head _ = ⊥
 
@@ -99,6 +103,10 @@ SaysTrue names files head (broken rule) = BreaksRule names files head rule
 abbrev pub UpdateSaysTrue : Names → LogFiles → HeapHead → ℕ → Type 0
 UpdateSaysTrue names files head update =
     update ≢ 0 → IsInserted names files head × HasRemover head × (update ≡ remover names files head)
+
+-- a broken rule is told
+abbrev pub TellsRule : Life → Type 0
+TellsRule life = (rule : Rule) × (life ≡ broken rule)
 
 -- what the log says of an inserter
 abbrev pub life_by_status : XidState → Option Life
