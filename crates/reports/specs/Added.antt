@@ -1,5 +1,5 @@
 -- What is found at one place, and what is found at places one after the other.
-use Rattle.std.specs.Prelude.{ℕ, zero, suc, [], ◌∷◌, ◌++◌, Option, Some, None}
+use Rattle.std.specs.Prelude.{ℕ, zero, suc, [], ◌∷◌, ◌++◌, Option, Some, None, Contains}
 use Rattle.std.proofs.Common.{append-nil, append_assoc}
 use Rattle.outside.specs.Adds.{Joins}
 use Rattle.page_layout.specs.declared.rules.Rule.{Rule}
@@ -41,3 +41,8 @@ doubt_at place None = nothing
 unfoldable pub each_upto : {L : Type 0} → Joins L → (ℕ → L) → ℕ → L
 each_upto lists f zero = lists.none
 each_upto lists f (suc n) = lists.join (each_upto lists f n) (f (suc n))
+
+-- the place is among those of the findings, or among those that can't be judged
+pub data IsListed (lists : Lists) (place : Place) : Type 0 where
+  found : (rule : Rule) → Contains lists.findings (record { rule = rule; place = place }) → IsListed lists place
+  in_doubt : (reason : Reason) → Contains lists.unjudged (record { reason = reason; place = place }) → IsListed lists place

@@ -1,0 +1,12 @@
+use Rattle.std.proofs.Common.{ap, ◌∙◌, arith}
+use Rattle.reports.proofs.Upto.{upto-next, upto-none}
+use Rattle.reports.specs.Added.{report_lists}
+use Rattle.heap_pages.proofs.JointRules.{chain_next, chain_none}
+use Rattle.heap_pages.proofs.joint.add_chain_rules.Goals as goal
+
+pub loop-k-init : goal.loop-k-init
+loop-k-init c = chain_none _ _
+
+pub loop-k-preserved : goal.loop-k-preserved
+loop-k-preserved c =
+    chain_next c.args.rel _ _ _ _ _ _ _ _ c.requires.table (omega (arith, c.loop-k-test.true)) c.rule_of.ensures c.loop-k.invariant c.in_ok-add_rule.ensures

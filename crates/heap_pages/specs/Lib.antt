@@ -1,0 +1,12 @@
+pub mod Alone
+pub mod Table
+pub mod Storage
+pub mod Values
+pub mod Verdicts
+pub mod Found
+pub mod Pages
+pub mod States
+pub mod Broken
+pub mod Left
+pub mod Truth
+pub mod Judged

@@ -1,0 +1,17 @@
+//! What the lists of a page say of it.
+ghost use Rattle.std.specs.Prelude.{ℕ, List};
+ghost use Rattle.heap_pages.specs.Judged.{HasNothing, IsJudged, IsSilent};
+ghost use Rattle.heap_pages.specs.Table.{Table};
+ghost use Rattle.vis_map.specs.declared.bits.MapBits.{MapBits};
+
+/// What `judge_table_page` finds is what is broken and what is in doubt on a page, each by its sentence:
+/// each finding is a rule that is broken at its place, each place that can't be judged is in doubt, and
+/// each place where a rule is broken or something is in doubt is listed. The late findings are values that
+/// aren't whole, and the chunks rows, each once. Of a page of which nothing is listed, what the page and the
+/// visibility map say is true, one root reaches each live tuple, and no value and no row is passed over. It
+/// does nothing.
+pub fn pages_are_judged()
+    ensures judged { (table : Table) (bits : MapBits) (block : ℕ) (page : List ℕ) → IsJudged table bits block page }
+    ensures silent { (table : Table) (bits : MapBits) (block : ℕ) (page : List ℕ)
+        → HasNothing table bits block page → IsSilent table bits block page }
+{}

@@ -1,0 +1,29 @@
+//! What is found of a line pointer and of its tuple.
+ghost use Rattle.std.specs.Prelude.{◌≡◌};
+ghost use Rattle.heap_pages.specs.Verdicts.{reason_of};
+
+use liveness::{Doubt, ItemState};
+use page_layout::Rule;
+use reports::Reason;
+
+/// What is found of a line pointer of a heap page and of the tuple that it points to.
+#[derive(Clone, Copy, Debug, PartialEq, Eq)]
+pub enum ItemVerdict {
+    /// It breaks no rule that is asked of it alone.
+    Passes(ItemState),
+    /// The first rule that it breaks.
+    Breaks(Rule),
+    /// It can't be judged.
+    InDoubt(Reason),
+}
+
+/// The reason for a doubt about a tuple's life.
+pub(crate) fn reason_of(doubt: Doubt) -> Reason
+    ensures { result ≡ reason_of doubt }
+{
+    match doubt {
+        Doubt::U1 => Reason::U1,
+        Doubt::U2 => Reason::U2,
+        Doubt::U3 => Reason::U3,
+    }
+}
