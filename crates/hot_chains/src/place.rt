@@ -3,8 +3,12 @@ use page_layout::Rule;
 
 #[derive(Clone, Copy)]
 pub(crate) struct Place {
-    // The lowest root that reaches it, or 0.
-    pub(crate) root: u16,
-    // The first chain rule that it breaks.
+    // The item to which it steps, or 0.
+    pub(crate) next: u16,
+    // Whether index entries may name it.
+    pub(crate) is_root: bool,
+    // Whether it is a live heap-only tuple, which a root has to reach.
+    pub(crate) needs_root: bool,
+    // The first rule that it breaks by its own step: H3, H14 or H15.
     pub(crate) rule: Option<Rule>,
 }

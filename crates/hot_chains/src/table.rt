@@ -1,5 +1,6 @@
 //! The table of a page's chains, whose memory serves one page after another.
 ghost use Rattle.std.specs.Prelude.{◌≡◌, ◌↔◌, ◌≤◌, length, IsTrue, OnErr, OnOk};
+ghost use Rattle.hot_chains.specs.Marks.{mark};
 ghost use Rattle.hot_chains.specs.Table.{AreChains, IsBlank, count_in, root_in, rule_in};
 
 use crate::judge::find_places;
@@ -15,12 +16,12 @@ use std::alloc::Global;
 /// another.
 #[derive(Drop)]
 pub struct Chains {
+    // What is known of each item by itself.
+    pub(crate) places: Vec<Place>,
+    // For number 0 and each item, whether an item steps to it, as the places are filled in.
+    pub(crate) taken: Vec<bool>,
     // For number 0 and each item the lowest root that reaches it, or 0.
     pub(crate) roots: Vec<u16>,
-    // For number 0 and each item, whether an item that was judged steps to it.
-    pub(crate) taken: Vec<bool>,
-    // What is known of each item.
-    pub(crate) places: Vec<Place>,
 }
 
 impl Chains {
@@ -30,9 +31,9 @@ impl Chains {
         ensures { count_in result ≡ 0 }
     {
         Chains {
-            roots: Vec::new(alloc),
-            taken: Vec::new(alloc),
             places: Vec::new(alloc),
+            taken: Vec::new(alloc),
+            roots: Vec::new(alloc),
         }
     }
 
@@ -49,7 +50,9 @@ impl Chains {
         self.roots.resize(count + 1, 0)?;
         self.taken.resize(count + 1, false)?;
         let unknown = Place {
-            root: 0,
+            next: 0,
+            is_root: false,
+            needs_root: false,
             rule: None,
         };
         self.places.resize(count, unknown)?;
@@ -65,9 +68,20 @@ impl Chains {
         ensures err { OnErr result (count_in self.new ≡ 0) }
     {
         self.make_room(items.len())?;
-        find_roots(block, items, &mut self.roots);
-        find_places(block, items, &self.roots, &mut self.taken, &mut self.places);
+        find_places(block, items, &mut self.taken, &mut self.places);
+        find_roots(&self.places, &mut self.roots);
         Ok(())
+    }
+
+    // The lowest root that reaches an item, 0 where there is none.
+    #[inline]
+    fn root_number(&self, item: u16) -> u16
+        ensures { result ≡ mark self.now.roots.items item }
+    {
+        match self.roots.get(item as usize) {
+            Some(root) => *root,
+            None => 0,
+        }
     }
 
     /// How many items the page has.
@@ -101,7 +115,11 @@ impl Chains {
         requires last { item ≤ count_in self.now }
         ensures { result ≡ rule_in self.now item }
     {
-        self.places[item as usize - 1].rule
+        let place = self.places[item as usize - 1];
+        if place.rule.is_none() && place.needs_root && self.root_number(item) == 0 {
+            return Some(Rule::H16);
+        }
+        place.rule
     }
 
     /// The lowest-numbered root that reaches an item, or None where none does. Roots are redirects
@@ -113,7 +131,7 @@ impl Chains {
         requires last { item ≤ count_in self.now }
         ensures { result ≡ root_in self.now item }
     {
-        let root = self.places[item as usize - 1].root;
+        let root = self.root_number(item);
         if root == 0 { None } else { Some(root) }
     }
 }

@@ -11,5 +11,5 @@ loop-k-init c = record {
 pub loop-k-preserved : goal.loop-k-preserved
 loop-k-preserved c = record {
   taken = c.find_place.ensures.taken;
-  places = places_next _ _ _ _ _ c.loop-k-test.true c.loop-k.invariant.places c.find_place.ensures.rule c.find_place.ensures.root;
+  places = places_next _ _ _ _ _ c.loop-k-test.true c.loop-k.invariant.places c.find_place.ensures.place;
 }

@@ -3,4 +3,4 @@ use Rattle.hot_chains.specs.Table.{AreMarked}
 use Rattle.hot_chains.proofs.walk.find_roots.Given as goal
 
 abbrev pub invariant-loop-k : goal.invariant-loop-k
-invariant-loop-k l = AreMarked l.block l.items l.roots (l.k + 1)
+invariant-loop-k l = AreMarked l.places l.roots (l.k + 1)
