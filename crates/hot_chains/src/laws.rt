@@ -32,11 +32,12 @@ pub fn tests_are_sentences()
     ensures some { (block : ℕ) (items : List ItemState) (i : ℕ) → 1 ≤ i → IfSome (chain_rule block items i) (λ rule. IsChainRuleBroken block items i rule) }
 {}
 
-// Whether an item may step or is a heap-only tuple.
+// Whether an item is a heap-only tuple or may step.
+#[inline]
 fn is_chained(item: &ItemState) -> bool
-    ensures { result ≡ (may_step item.now || is_heap_only_tuple item.now) }
+    ensures { result ≡ (is_heap_only_tuple item.now || may_step item.now) }
 {
-    may_step(*item) || is_heap_only_tuple(*item)
+    is_heap_only_tuple(*item) || may_step(*item)
 }
 
 /// Whether no item of a page may step and no tuple is heap-only, as on most pages. Such a page needs
