@@ -159,7 +159,8 @@ is_astray items i = points_astray items (item_at items i)
 -- H14: it is a tuple, and steps to one that isn't heap-only
 abbrev pub steps_to_indexed : ℕ → List ItemState → ℕ → Bool
 steps_to_indexed block items i =
-    is_tuple (item_at items i) && not (step_of block items i == 0) && not (is_heap_only_tuple (item_at items (step_of block items i)))
+    is_tuple (item_at items i) && not (step_of block items i == 0)
+    && not (is_heap_only_tuple (item_at items (step_of block items i)))
 
 -- one of the items 1, .., n steps to item j
 unfoldable pub is_stepped_to : ℕ → List ItemState → ℕ → ℕ → Bool
@@ -168,7 +169,8 @@ is_stepped_to block items (suc n) j = is_stepped_to block items n j || (step_of 
 
 -- H15: it steps to an item that a lower item steps to
 abbrev pub shares_step : ℕ → List ItemState → ℕ → Bool
-shares_step block items i = not (step_of block items i == 0) && is_stepped_to block items (i - 1) (step_of block items i)
+shares_step block items i =
+    not (step_of block items i == 0) && is_stepped_to block items (i - 1) (step_of block items i)
 
 -- H16: it is a live heap-only tuple that no root reaches
 abbrev pub is_lost : ℕ → List ItemState → ℕ → Bool

@@ -13,7 +13,8 @@ IsAstray items i = (t : ℕ) × ((item_at items i ≡ Redirect t) × (is_heap_on
 -- H14: it is a tuple, and steps to one that isn't heap-only
 abbrev pub StepsToIndexed : ℕ → List ItemState → ℕ → Type 0
 StepsToIndexed block items i =
-    (is_tuple (item_at items i) ≡ true) × ((j : ℕ) × (Steps block items i j × (is_heap_only_tuple (item_at items j) ≡ false)))
+    (is_tuple (item_at items i) ≡ true)
+    × ((j : ℕ) × (Steps block items i j × (is_heap_only_tuple (item_at items j) ≡ false)))
 
 -- H15: it steps to an item that a lower item steps to
 abbrev pub SharesStep : ℕ → List ItemState → ℕ → Type 0
@@ -22,7 +23,8 @@ SharesStep block items i = (j : ℕ) × ((k : ℕ) × ((k < i) × (Steps block i
 -- H16: it is a live heap-only tuple that no root reaches
 abbrev pub IsLost : ℕ → List ItemState → ℕ → Type 0
 IsLost block items i =
-    (is_live_tuple (item_at items i) ≡ true) × ((is_heap_only_tuple (item_at items i) ≡ true) × ((r : ℕ) → Reaches block items r i → ⊥))
+    (is_live_tuple (item_at items i) ≡ true)
+    × ((is_heap_only_tuple (item_at items i) ≡ true) × ((r : ℕ) → Reaches block items r i → ⊥))
 
 -- item i breaks this rule
 abbrev pub IsChainRuleBroken : ℕ → List ItemState → ℕ → Rule → Type 0

@@ -1,6 +1,6 @@
 -- What the table of a page's chains says.
-use Rattle.std.specs.Prelude.{◌≡◌, ℕ, ◌+◌, ◌-◌, ◌<◌, ◌≤◌, Bool, true, false, not, ◌==◌, ◌&&◌, if◌then◌else◌, List, [], ◌∷◌, length, get_or}
-use Rattle.std.specs.Prelude.{replicate, Option, Some, None, find}
+use Rattle.std.specs.Prelude.{◌≡◌, ℕ, ◌+◌, ◌-◌, ◌<◌, ◌≤◌, Bool, true, false, not, ◌==◌, ◌&&◌, if◌then◌else◌}
+use Rattle.std.specs.Prelude.{List, [], ◌∷◌, length, get_or, replicate, Option, Some, None, find}
 use Rattle.page_layout.specs.declared.rules.Rule.{Rule}
 use Rattle.page_layout.specs.declared.rules.Rule.TheVariants.{H3, H14, H15, H16}
 use Rattle.tuple_head.specs.declared.HeapHead.{HeapHead}
@@ -10,8 +10,8 @@ use Rattle.liveness.specs.declared.states.ItemState.TheVariants.{Unused, Dead, R
 use Rattle.liveness.specs.declared.states.Judged.{Judged}
 use Rattle.hot_chains.specs.declared.table.Chains.{Chains}
 use Rattle.hot_chains.specs.declared.place.Place.{Place}
-use Rattle.hot_chains.specs.Chains.{breaks_chain_rule, chain_rule, is_dead, is_heap_only_tuple, is_live_tuple, is_root_at, is_tuple}
-use Rattle.hot_chains.specs.Chains.{is_stepped_to, item_at, root_number, root_of, step_of}
+use Rattle.hot_chains.specs.Chains.{breaks_chain_rule, chain_rule, is_dead, is_heap_only_tuple, is_live_tuple}
+use Rattle.hot_chains.specs.Chains.{is_root_at, is_tuple, is_stepped_to, item_at, root_number, root_of, step_of}
 use Rattle.hot_chains.specs.Marks.{Marked, mark}
 
 abbrev pub nowhere : Place
@@ -61,7 +61,8 @@ is_redirect (Tuple head judged) = false
 -- item i, a tuple on a page of this block, is dead and was updated to another item of the page
 abbrev pub leads_on : ℕ → ℕ → HeapHead → Judged → Bool
 leads_on block i head judged =
-    is_dead judged.life && is_hot_updated head && not (judged.update == 0) && (head.ctid.block == block) && not (head.ctid.item == i)
+    is_dead judged.life && is_hot_updated head && not (judged.update == 0) && (head.ctid.block == block)
+    && not (head.ctid.item == i)
 
 -- the rules of chains that an item breaks by its own step
 abbrev pub step_rules : List Rule

@@ -130,7 +130,8 @@ fn leads_on(block: u32, i: u16, head: HeapHead, judged: Judged) -> bool
 // The item to which a tuple, item i, steps, 0 where it doesn't step.
 #[inline]
 fn tuple_step(block: u32, items: &[ItemState], i: u16, head: HeapHead, judged: Judged) -> u16
-    ensures { result ≡ (if leads_on block i head judged && is_tuple_of judged.update (item_at items.now head.ctid.item) then head.ctid.item else 0) }
+    ensures { result ≡ (if leads_on block i head judged
+        && is_tuple_of judged.update (item_at items.now head.ctid.item) then head.ctid.item else 0) }
 {
     let next = head.ctid.item;
     if leads_on(block, i, head, judged) && is_tuple_of(judged.update, item_at(items, next)) {
