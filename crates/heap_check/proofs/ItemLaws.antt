@@ -32,6 +32,7 @@ use Rattle.heap_check.specs.Broken.{BreaksItem, misplaced, overlapping, in_heade
 use Rattle.heap_check.specs.Storage.{overlaps_lower_item}
 use Rattle.heap_check.specs.Values.{values_rule}
 use Rattle.heap_check.specs.Verdicts.{Table, doubt_at, flag_verdict, head_at, header_verdict, item_doubts, item_findings, item_verdict, life_verdict, normal_verdict, reason_in, rule_in, tuple_verdict, values_verdict}
+use Rattle.heap_check.proofs.Overlaps.{overlap_told}
 use Rattle.heap_check.proofs.PageLaws.{All-finding_at, no_finding_at, rule_holds}
 use Rattle.heap_check.proofs.ValueLaws.{KeepsValues, external_keeps, read_is_kept, values_break}
 
@@ -113,7 +114,7 @@ module _ (table : Table) (block : ℕ) (page : List ℕ) (i : ℕ) (at : IsNorma
   tuple_tells p a = form_tells _ refl p a
 
   apart_tells : (overlaps : Bool) → overlaps_lower_item page i ≡ overlaps → is_misplaced_heap_item (upper_of page) (item_of page i) ≡ false → Tells table block page i (if overlaps then Breaks H2 else tuple_verdict table (item_of page i).len (tuple_at page i))
-  apart_tells true is p = overlapping i at is
+  apart_tells true is p = overlapping i at ((overlap_told page i).0 is)
   apart_tells false is p = tuple_tells p is
 
   placed_tells : (astray : Bool) → is_misplaced_heap_item (upper_of page) (item_of page i) ≡ astray → Tells table block page i (if astray then Breaks H1 else if overlaps_lower_item page i then Breaks H2 else tuple_verdict table (item_of page i).len (tuple_at page i))
@@ -244,7 +245,7 @@ module _ (table : Table) (block : ℕ) (page : List ℕ) where
   -- where an item breaks a rule, something is told
   pub item_told : (rule : Rule) (place : Place) → BreaksItem table block page rule place → IsTold table block page place
   item_told _ _ (misplaced i at t) = told_at i at (λ keeps. both_ways _ keeps.form.placed t)
-  item_told _ _ (overlapping i at t) = told_at i at (λ keeps. both_ways _ keeps.form.apart t)
+  item_told _ _ (overlapping i at t) = told_at i at (λ keeps. both_ways _ keeps.form.apart ((overlap_told page i).1 t))
   item_told _ _ (in_header i rule at t) = told_at i at (λ keeps. header_keeps _ _ _ rule ((none_is_exact _ _ _).0 keeps.form.header) t)
   item_told _ _ (in_logs i rule at t) = told_at i at (λ keeps. keeps.logs rule t)
   item_told _ _ (past_end i column at t) = told_of_values i at (λ values. no_rule (read_is_kept table page i _ values t))

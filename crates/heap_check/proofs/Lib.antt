@@ -18,6 +18,7 @@ pub mod LiveTuples
 pub mod MapLaws
 pub mod MapRules
 pub mod Meeting
+pub mod Overlaps
 pub mod PageLaws
 pub mod Places
 pub mod QuietHeap

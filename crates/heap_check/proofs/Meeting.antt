@@ -8,7 +8,7 @@ use Rattle.page_layout.specs.Page.{header_of, item_of, upper_of}
 use Rattle.page_layout.specs.declared.page.LineFlag.{LineFlag}
 use Rattle.page_layout.specs.declared.page.PageHeader.{PageHeader}
 use Rattle.page_layout.specs.declared.page.LinePtr.{LinePtr}
-use Rattle.heap_check.specs.Storage.{has_storage, shares_byte, meets_item_below, covers, is_covered, AreCells, AreMarked, IsTakenBetween, Marking, taken_with}
+use Rattle.heap_check.specs.Storage.{has_storage, shares_byte, meets_item_below, covers, is_covered, AreCells, AreMarked, IsTakenBetween, LiesBetween, Marking, taken_with}
 
 aligned_by : (normal : Bool) (upper off len : ℕ) → (normal && not (normal && (not (off % 8 == 0) || nat_lt off upper || nat_lt 8192 (off + len) || nat_lt len 24))) ≡ true → off % 8 ≡ 0
 aligned_by normal upper off len e = grind (arith, common_steps)
@@ -33,16 +33,16 @@ placed upper p e = record {
 }
 
 -- a cell that both cover begins with a byte of both
-shares_by_cell : (a m b n cell : ℕ) → b % 8 ≡ 0 → (nat_le a (8 * cell) && nat_lt (8 * cell) (a + m)) ≡ true → b / 8 ≤ cell → cell < (b + n + 7) / 8 → (nat_lt a (b + n) && nat_lt b (a + m)) ≡ true
+shares_by_cell : (a m b n cell : ℕ) → b % 8 ≡ 0 → (nat_le a (8 * cell) && nat_lt (8 * cell) (a + m)) ≡ true → b / 8 ≤ cell → cell < (b + n + 7) / 8 → (nat_lt (max a b) (a + m) && nat_lt (max a b) (b + n)) ≡ true
 shares_by_cell a m b n cell aligned covered after before = grind (arith, common_steps)
 
-covers_later : (a m b n : ℕ) → a % 8 ≡ 0 → b % 8 ≡ 0 → (nat_lt a (b + n) && nat_lt b (a + m)) ≡ true → 1 ≤ m → (nat_le a (8 * (max a b / 8)) && nat_lt (8 * (max a b / 8)) (a + m)) ≡ true
+covers_later : (a m b n : ℕ) → a % 8 ≡ 0 → b % 8 ≡ 0 → (nat_lt (max a b) (a + m) && nat_lt (max a b) (b + n)) ≡ true → 1 ≤ m → (nat_le a (8 * (max a b / 8)) && nat_lt (8 * (max a b / 8)) (a + m)) ≡ true
 covers_later a m b n la lb shared some = grind (arith, common_steps)
 
 later_after : (a b : ℕ) → b / 8 ≤ max a b / 8
 later_after a b = omega arith
 
-later_before : (a m b n : ℕ) → a % 8 ≡ 0 → b % 8 ≡ 0 → (nat_lt a (b + n) && nat_lt b (a + m)) ≡ true → 1 ≤ n → max a b / 8 < (b + n + 7) / 8
+later_before : (a m b n : ℕ) → a % 8 ≡ 0 → b % 8 ≡ 0 → (nat_lt (max a b) (a + m) && nat_lt (max a b) (b + n)) ≡ true → 1 ≤ n → max a b / 8 < (b + n + 7) / 8
 later_before a m b n la lb shared some = grind (arith, common_steps)
 
 pub record IsCoveredBetween (page : List ℕ) (n first end : ℕ) : Type 0 where
@@ -51,15 +51,15 @@ pub record IsCoveredBetween (page : List ℕ) (n first end : ℕ) : Type 0 where
   pub before : cell < end
   pub covered : is_covered page n cell ≡ true
 
-either : (a b : Bool) → (a || b) ≡ true → (a ≡ true) ⊎ (b ≡ true)
+pub either : (a b : Bool) → (a || b) ≡ true → (a ≡ true) ⊎ (b ≡ true)
 either true b e = inl refl
 either false b e = inr e
 
-both_first : (a b : Bool) → (a && b) ≡ true → a ≡ true
+pub both_first : (a b : Bool) → (a && b) ≡ true → a ≡ true
 both_first true b e = refl
 both_first false b e = absurd (grind arith)
 
-both_second : (a b : Bool) → (a && b) ≡ true → b ≡ true
+pub both_second : (a b : Bool) → (a && b) ≡ true → b ≡ true
 both_second true b e = e
 both_second false b e = absurd (grind arith)
 
@@ -70,7 +70,7 @@ or_second : (a b : Bool) → b ≡ true → (a || b) ≡ true
 or_second true b e = refl
 or_second false b e = e
 
-and_both : (a b : Bool) → a ≡ true → b ≡ true → (a && b) ≡ true
+pub and_both : (a b : Bool) → a ≡ true → b ≡ true → (a && b) ≡ true
 and_both a b e f = rw (e, f) refl
 
 -- a cell of p that an item covers: p meets that item
@@ -191,11 +191,23 @@ above_by_last page i place j last before some upto storage = elim (cases_lt (i -
 ]
 
 -- to a page's cells that are free no item was added
-pub none_added : (page : List ℕ) (cells : Marking) → cells.marked ≡ 0 → AreMarked page 0 cells.taken → AreCells page 0 cells
-none_added page cells none free = record {
+pub none_added : (page : List ℕ) (cells : Marking) → cells.marked ≡ 0 → cells.end ≡ 0 → AreMarked page 0 cells.taken → AreCells page 0 cells
+none_added page cells none unknown free = record {
   some = omega (arith, none);
   right = rw none free;
   above = λ j some upto storage. absurd (omega arith);
+  lies = λ some. absurd (omega (arith, some, unknown));
+}
+
+-- an item that lies between two places does so among more items
+lies_on : (page : List ℕ) (n m lowest end : ℕ) → n ≤ m → LiesBetween page n lowest end → LiesBetween page m lowest end
+lies_on page n m lowest end more lies = record {
+  item = lies.item;
+  first = lies.first;
+  last = omega (arith, lies.last, more);
+  placed = lies.placed;
+  begins = lies.begins;
+  ends = lies.ends;
 }
 
 -- an item without storage is added by leaving all as it is
@@ -204,7 +216,30 @@ skipped_at page i cells some none are = record {
   some = omega (arith, are.some);
   right = are.right;
   above = λ j. above_by_last page i cells.lowest j (λ storage. absurd (differ _ none storage)) are.above;
+  lies = λ known. lies_on page (i - 1) i cells.lowest cells.end (omega arith) (are.lies known);
 }
+
+-- one item that p shares a byte with is enough
+pub meets_one : (page : List ℕ) (n j : ℕ) (p : LinePtr) → 1 ≤ j → j ≤ n → has_storage (upper_of page) (item_of page j) ≡ true → shares_byte (item_of page j) p ≡ true → meets_item_below page n p ≡ true
+unfolding meets_item_below
+meets_one page zero j p first last storage shared = absurd (omega arith)
+meets_one page (suc n) j p first last storage shared = elim (cases_lt j (suc n)) [
+  | inl below ↦ or_first _ _ (meets_one page n j p first (omega (arith, below)) storage shared)
+  | inr here ↦
+      let same : j ≡ suc n = omega arith in
+      let P : ℕ → Type 0 = λ k. (has_storage (upper_of page) (item_of page k) && shares_byte (item_of page k) p) ≡ true in
+      or_second _ _ (subst P same (and_both _ _ storage shared))
+]
+
+-- an item that reaches above the lowest byte and begins below the end of the item there meets that item
+pub meets_lowest : (page : List ℕ) (n lowest end : ℕ) (p : LinePtr) → LiesBetween page n lowest end → lowest < p.off + p.len → p.off < end → 1 ≤ p.len → meets_item_below page n p ≡ true
+meets_lowest page n lowest end p lies above below some =
+    let q = item_of page lies.item in
+    let long = (placed (upper_of page) q lies.placed).long in
+    meets_one page n lies.item p lies.first lies.last lies.placed (shared_by q.off q.len p.off p.len (omega (arith, above, lies.begins)) (omega (arith, below, lies.ends)) (omega (arith, long)) some)
+  where
+    shared_by : (a m b n : ℕ) → a < b + n → b < a + m → 1 ≤ m → 1 ≤ n → (nat_lt (max a b) (a + m) && nat_lt (max a b) (b + n)) ≡ true
+    shared_by a m b n h k s t = grind (arith, common_steps)
 
 -- an item that lies wholly below the items before it meets none of them
 pub meets_none_above : (page : List ℕ) (n place : ℕ) (p : LinePtr) → p.off + p.len ≤ place → AreAbove page n place → meets_item_below page n p ≡ false
@@ -215,7 +250,7 @@ meets_none_above page (suc n) place p ends above =
     let before = meets_none_above page n place p ends (λ j some upto storage. above j some (omega (arith, upto)) storage) in
     none_by (meets_item_below page n p) (has_storage (upper_of page) q) q.off q.len p.off p.len place before ends (above (suc n) (omega arith) (omega arith))
   where
-    none_by : (met storage : Bool) (a m b n place : ℕ) → met ≡ false → b + n ≤ place → (storage ≡ true → place ≤ a) → (met || (storage && (nat_lt a (b + n) && nat_lt b (a + m)))) ≡ false
+    none_by : (met storage : Bool) (a m b n place : ℕ) → met ≡ false → b + n ≤ place → (storage ≡ true → place ≤ a) → (met || (storage && (nat_lt (max a b) (a + m) && nat_lt (max a b) (b + n)))) ≡ false
     none_by true storage a m b n place e ends above = absurd (grind arith)
     none_by false false a m b n place e ends above = refl
     none_by false true a m b n place e ends above = let later = above refl in grind (arith, common_steps)

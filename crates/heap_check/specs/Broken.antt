@@ -35,7 +35,7 @@ use Rattle.heap_check.specs.Heap.{toast_long_segment, toast_table_of}
 use Rattle.heap_check.specs.Kept.{states_of}
 use Rattle.heap_check.specs.Map.{map_name}
 use Rattle.heap_check.specs.Pages.{BreaksHeader}
-use Rattle.heap_check.specs.Storage.{overlaps_lower_item}
+use Rattle.heap_check.specs.Storage.{OverlapsLowerItem}
 use Rattle.heap_check.specs.Values.{is_stray_pointer}
 use Rattle.heap_check.specs.Verdicts.{Table, head_at, item_verdict, reason_of}
 
@@ -62,7 +62,7 @@ pub record HasExternal (table : Table) (page : List ℕ) (i : ℕ) (pointer : To
 -- what a normal item and its tuple may break
 pub data BreaksItem (table : Table) (block : ℕ) (page : List ℕ) : Rule → Place → Type 0 where
   misplaced : (i : ℕ) → IsNormalItem page i → is_misplaced_heap_item (upper_of page) (item_of page i) ≡ true → BreaksItem table block page H1 (Item table.rel block i)
-  overlapping : (i : ℕ) → IsNormalItem page i → overlaps_lower_item page i ≡ true → BreaksItem table block page H2 (Item table.rel block i)
+  overlapping : (i : ℕ) → IsNormalItem page i → OverlapsLowerItem page i → BreaksItem table block page H2 (Item table.rel block i)
   in_header : (i : ℕ) (rule : Rule) → IsNormalItem page i → breaks_head_rule (length table.columns) (item_of page i).len (head_at page i) rule ≡ true → BreaksItem table block page rule (Item table.rel block i)
   in_logs : (i : ℕ) (rule : Rule) → IsNormalItem page i → (judged_of table.logs (head_at page i)).life ≡ Broken rule → BreaksItem table block page rule (Item table.rel block i)
   past_end : (i column : ℕ) → IsLiveTuple table page i → attributes_in table.columns (tuple_at page i) ≡ Err (PastEnd column) → BreaksItem table block page H17 (Item table.rel block i)

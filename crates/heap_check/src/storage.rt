@@ -1,9 +1,10 @@
 //! Which bytes of a heap page belong to its items, in cells of 8 bytes.
-ghost use Rattle.std.specs.Prelude.{◌≡◌, ◌+◌, ◌-◌, ◌≤◌, ◌<◌, ℕ, List, true, false, length, get_or, IfOk};
+ghost use Rattle.std.specs.Prelude.{◌≡◌, ◌↔◌, ◌+◌, ◌-◌, ◌≤◌, ◌<◌, ℕ, List, true, false, length, get_or};
+ghost use Rattle.std.specs.Prelude.{IfOk, IsTrue};
 ghost use Rattle.page_layout.specs.Page.{HasItems, count_of, item_of, upper_of};
 ghost use Rattle.page_layout.specs.View.{page_bytes};
-ghost use Rattle.heap_check.specs.Storage.{AreCells, AreMarked, IsTakenBetween, has_storage, meets_item_below};
-ghost use Rattle.heap_check.specs.Storage.{taken_with};
+ghost use Rattle.heap_check.specs.Storage.{AreCells, AreFree, AreMarked, IsTakenBetween, OverlapsLowerItem, has_storage};
+ghost use Rattle.heap_check.specs.Storage.{meets_item_below, taken_with};
 
 use outside::NoMemory;
 use page_layout::{LinePtr, PageView};
@@ -20,8 +21,8 @@ const PAGE_BYTES: u16 = 8192;
 /// meets theirs. Made once, and cleared for each page.
 ///
 /// On most pages each item lies wholly below all items before it, and then the lowest byte of these
-/// says that it meets none. Where an item doesn't, the items before it are marked in the cells of
-/// the page, each of them once.
+/// says that it meets none. Where an item doesn't, it most often meets the lowest of them. Else the
+/// items before it are marked in the cells of the page, each of them once.
 #[derive(Drop)]
 pub struct PageCells {
     // For each cell, whether it belongs to one of the items that are marked.
@@ -30,20 +31,23 @@ pub struct PageCells {
     marked: u16,
     // No byte of an item that was added lies below this place, in bytes from the page's start.
     lowest: u16,
+    // Where the item ends that begins at `lowest`; 0 where no item was added.
+    end: u16,
 }
 
 impl Model for PageCells {
     ghost use Rattle.std.specs.Prelude.{◌≡◌, length};
-    ghost use Rattle.heap_check.specs.Storage.{Marking};
+    ghost use Rattle.heap_check.specs.Storage.{AreFree, Marking};
 
     ghost Value = { Marking };
 
-    ghost view = { λ cells. record { taken = cells.taken.items; marked = cells.marked; lowest = cells.lowest } };
+    ghost view = { λ cells. record { taken = cells.taken.items; marked = cells.marked; lowest = cells.lowest; end = cells.end } };
 
-    ghost invariant = { λ cells. length cells.taken.items ≡ 1024 };
+    ghost invariant = { λ cells. (length cells.taken.items ≡ 1024) × (cells.marked ≡ 0 → AreFree cells.taken.items) };
 }
 
 // Marks the cells from `first` to before `end` as taken, and says whether one of them was taken.
+#[inline]
 fn take_cells(cells: &mut [bool], first: usize, end: usize) -> bool
     requires order { first ≤ end }
     requires within { end ≤ length cells.old }
@@ -62,7 +66,7 @@ fn take_cells(cells: &mut [bool], first: usize, end: usize) -> bool
 
 // Frees all cells.
 fn free_cells(cells: &mut [bool])
-    ensures { (k : ℕ) → get_or cells.new k false ≡ false }
+    ensures { AreFree cells.new }
 {
     for cell in cells.iter_mut() {
         *cell = false;
@@ -70,6 +74,7 @@ fn free_cells(cells: &mut [bool])
 }
 
 // Whether an item of a page with this upper place is a normal one that is where it may be.
+#[inline]
 fn has_storage(item: LinePtr, upper: u16) -> bool
     ensures { result ≡ has_storage upper item }
 {
@@ -78,6 +83,7 @@ fn has_storage(item: LinePtr, upper: u16) -> bool
 
 // Marks item i of the page, which has storage, and says whether its storage meets that of one of the
 // items before it, all of which are marked.
+#[inline]
 fn mark_item(cells: &mut [bool], page: PageView<'_>, i: u16) -> bool
     requires page { HasItems (page_bytes page) }
     requires first { 1 ≤ i }
@@ -121,6 +127,7 @@ impl PageCells {
             taken,
             marked: 0,
             lowest: PAGE_BYTES,
+            end: 0,
         })
     }
 
@@ -128,9 +135,12 @@ impl PageCells {
     pub fn clear(&mut self)
         ensures { (page : List ℕ) → AreCells page 0 self.new }
     {
-        free_cells(&mut self.taken);
+        if self.marked != 0 {
+            free_cells(&mut self.taken);
+        }
         self.marked = 0;
         self.lowest = PAGE_BYTES;
+        self.end = 0;
     }
 
     /// Adds item i of the page, which has storage, to the items before it, and says whether its
@@ -143,14 +153,38 @@ impl PageCells {
         requires storage { has_storage (upper_of (page_bytes page)) (item_of (page_bytes page) i) ≡ true }
         requires before { AreCells (page_bytes page) (i - 1) self.old }
         ensures meets { result ≡ meets_item_below (page_bytes page.entry) (i - 1) (item_of (page_bytes page.entry) i) }
+        ensures overlaps { IsTrue result ↔ OverlapsLowerItem (page_bytes page.entry) i }
         ensures after { AreCells (page_bytes page.entry) i self.new }
     {
         let item = page.item(i);
         if item.off + item.len <= self.lowest {
             self.lowest = item.off;
+            self.end = item.off + item.len;
             return false;
         }
-        self.add_by_cells(page, i, item.off)
+        self.add_above(page, i, item)
+    }
+
+    // Adds item i of the page, which has storage and doesn't lie wholly below the items before it.
+    fn add_above(&mut self, page: PageView<'_>, i: u16, item: LinePtr) -> bool
+        requires page { HasItems (page_bytes page) }
+        requires first { 1 ≤ i }
+        requires last { i ≤ count_of (page_bytes page) }
+        requires item { item ≡ item_of (page_bytes page) i }
+        requires storage { has_storage (upper_of (page_bytes page)) (item_of (page_bytes page) i) ≡ true }
+        requires ends { self.old.lowest < item.off + item.len }
+        requires before { AreCells (page_bytes page) (i - 1) self.old }
+        ensures meets { result ≡ meets_item_below (page_bytes page.entry) (i - 1) (item_of (page_bytes page.entry) i) }
+        ensures after { AreCells (page_bytes page.entry) i self.new }
+    {
+        if self.end <= item.off {
+            return self.add_by_cells(page, i, item.off);
+        }
+        if item.off < self.lowest {
+            self.lowest = item.off;
+            self.end = item.off + item.len;
+        }
+        true
     }
 
     // Adds item i of the page, which has storage and begins at `off`, by its cells: first the items
@@ -161,6 +195,7 @@ impl PageCells {
         requires last { i ≤ count_of (page_bytes page) }
         requires storage { has_storage (upper_of (page_bytes page)) (item_of (page_bytes page) i) ≡ true }
         requires place { off ≡ (item_of (page_bytes page) i).off }
+        requires above { self.old.end ≤ off }
         requires before { AreCells (page_bytes page) (i - 1) self.old }
         ensures meets { result ≡ meets_item_below (page_bytes page.entry) (i - 1) (item_of (page_bytes page.entry) i) }
         ensures after { AreCells (page_bytes page.entry) i self.new }
