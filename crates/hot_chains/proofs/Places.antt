@@ -1,15 +1,14 @@
 -- The places, one item further, and the table that they make.
-use Rattle.std.proofs.Common.{◌≡◌, ◌≢◌, ℕ, ◌+◌, ◌-◌, ◌<◌, ◌≤◌, inl, inr, Bool, true, false, not, ◌==◌, ◌&&◌, List, length, set, Option, Some, None, refl, sym, subst, ap, ◌∙◌, arith, get_or-set_other, get_or-set_same}
+use Rattle.std.proofs.Common.{◌≡◌, ◌≢◌, ℕ, ◌+◌, ◌-◌, ◌<◌, ◌≤◌, inl, inr, Bool, true, false, not, ◌==◌, ◌&&◌, List, length, set, Some, None, refl, sym, subst, ap, ◌∙◌, arith, get_or-set_other, get_or-set_same}
 use Rattle.std.specs.Prelude.{if◌then◌else◌}
 use Rattle.std.proofs.lemmas.List.{length-set, get_or_past}
 use Rattle.std.proofs.lemmas.Bool.{cases_Bool, cases_eq, cases_lt, cond-true, cond-false, eq-eqb, ne_eqb}
-use Rattle.page_layout.specs.declared.rules.Rule.{Rule}
 use Rattle.page_layout.specs.declared.rules.Rule.TheVariants.{H3, H14, H15, H16}
 use Rattle.liveness.specs.declared.states.ItemState.{ItemState}
 use Rattle.liveness.specs.declared.states.ItemState.TheVariants.{Unused, Dead, Redirect, Tuple}
 use Rattle.hot_chains.specs.declared.table.Chains.{Chains}
 use Rattle.hot_chains.specs.declared.place.Place.{Place}
-use Rattle.hot_chains.specs.Chains.{chain_rule, is_heap_only_tuple, is_live_tuple, is_root, is_root_at, is_tuple, item_at, points_astray, root_number, root_of, shares_step, step_of, steps_to_indexed, is_astray, is_lost}
+use Rattle.hot_chains.specs.Chains.{chain_rule, is_heap_only_tuple, is_live_tuple, is_root, is_root_at, item_at, points_astray, root_number, root_of, shares_step, step_of, steps_to_indexed, is_astray, is_lost}
 use Rattle.hot_chains.specs.Marks.{IsGraph, Marked, mark}
 use Rattle.hot_chains.specs.Table.{AreChains, AreMarked, ArePlaces, IsPlace, begins_in, count_in, is_redirect, next_in, nowhere, place_or, root_in, rule_at, rule_by, rule_in, step_rule}
 use Rattle.hot_chains.proofs.Roots.{mark_is_root_number}

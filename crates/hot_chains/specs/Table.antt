@@ -11,7 +11,7 @@ use Rattle.liveness.specs.declared.states.Judged.{Judged}
 use Rattle.hot_chains.specs.declared.table.Chains.{Chains}
 use Rattle.hot_chains.specs.declared.place.Place.{Place}
 use Rattle.hot_chains.specs.Chains.{breaks_chain_rule, chain_rule, is_dead, is_heap_only_tuple, is_live_tuple}
-use Rattle.hot_chains.specs.Chains.{is_root_at, is_tuple, is_stepped_to, item_at, root_number, root_of, step_of}
+use Rattle.hot_chains.specs.Chains.{is_root_at, is_tuple, is_stepped_to, item_at, root_of, step_of}
 use Rattle.hot_chains.specs.Marks.{Marked, mark}
 
 abbrev pub nowhere : Place

@@ -1,4 +1,4 @@
-use Rattle.std.proofs.Common.{◌≡◌, ℕ, ◌+◌, ◌≤◌, Bool, List, length, refl, sym, subst, ◌∙◌, arith}
+use Rattle.std.proofs.Common.{◌≡◌, ℕ, ◌+◌, ◌≤◌, Bool, List, length, sym, subst, ◌∙◌, arith}
 use Rattle.liveness.specs.declared.states.ItemState.{ItemState}
 use Rattle.hot_chains.specs.Chains.{step_of}
 use Rattle.hot_chains.specs.Table.{AreTaken}
