@@ -34,7 +34,8 @@ shares_byte p q = nat_lt (max p.off q.off) (p.off + p.len) && nat_lt (max p.off 
 unfoldable pub meets_item_below : List ℕ → ℕ → LinePtr → Bool
 meets_item_below page zero p = false
 meets_item_below page (suc n) p =
-    meets_item_below page n p || (has_storage (upper_of page) (item_of page (suc n)) && shares_byte (item_of page (suc n)) p)
+    meets_item_below page n p
+    || (has_storage (upper_of page) (item_of page (suc n)) && shares_byte (item_of page (suc n)) p)
 
 -- a normal item has a byte in common with a lower one that is where it may be
 unfoldable pub overlaps_lower_item : List ℕ → ℕ → Bool
@@ -57,8 +58,8 @@ pub record AreMarked (page : List ℕ) (n : ℕ) (cells : List Bool) : Type 0 wh
   pub long : length cells ≡ 1024
   pub right : (k : ℕ) → k < 1024 → get_or cells k false ≡ is_covered page n k
 
--- what is kept of the items that were added: the cells of those up to the number `marked`, a place below which no byte of any lies,
--- and where an item ends that begins there, 0 where nothing is known of one
+-- what is kept of the items that were added: the cells of those up to the number `marked`, a place below which no byte
+-- of any lies, and where an item ends that begins there, 0 where nothing is known of one
 pub record Marking : Type 0 where
   pub taken : List Bool
   pub marked : ℕ
@@ -78,7 +79,8 @@ pub record LiesBetween (page : List ℕ) (n lowest end : ℕ) : Type 0 where
 pub record AreCells (page : List ℕ) (n : ℕ) (cells : Marking) : Type 0 where
   pub some : cells.marked ≤ n
   pub right : AreMarked page cells.marked cells.taken
-  pub above : (j : ℕ) → 1 ≤ j → j ≤ n → has_storage (upper_of page) (item_of page j) ≡ true → cells.lowest ≤ (item_of page j).off
+  pub above : (j : ℕ) → 1 ≤ j → j ≤ n → has_storage (upper_of page) (item_of page j) ≡ true →
+      cells.lowest ≤ (item_of page j).off
   pub lies : 0 < cells.end → LiesBetween page n cells.lowest cells.end
 
 -- no cell is taken

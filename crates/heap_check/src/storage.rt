@@ -3,8 +3,8 @@ ghost use Rattle.std.specs.Prelude.{◌≡◌, ◌↔◌, ◌+◌, ◌-◌, ◌�
 ghost use Rattle.std.specs.Prelude.{IfOk, IsTrue};
 ghost use Rattle.page_layout.specs.Page.{HasItems, count_of, item_of, upper_of};
 ghost use Rattle.page_layout.specs.View.{page_bytes};
-ghost use Rattle.heap_check.specs.Storage.{AreCells, AreFree, AreMarked, IsTakenBetween, OverlapsLowerItem, has_storage};
-ghost use Rattle.heap_check.specs.Storage.{meets_item_below, taken_with};
+ghost use Rattle.heap_check.specs.Storage.{AreCells, AreFree, AreMarked, IsTakenBetween, OverlapsLowerItem};
+ghost use Rattle.heap_check.specs.Storage.{has_storage, meets_item_below, taken_with};
 
 use outside::NoMemory;
 use page_layout::{LinePtr, PageView};
@@ -41,7 +41,12 @@ impl Model for PageCells {
 
     ghost Value = { Marking };
 
-    ghost view = { λ cells. record { taken = cells.taken.items; marked = cells.marked; lowest = cells.lowest; end = cells.end } };
+    ghost view = { λ cells. record {
+      taken = cells.taken.items;
+      marked = cells.marked;
+      lowest = cells.lowest;
+      end = cells.end;
+    } };
 
     ghost invariant = { λ cells. (length cells.taken.items ≡ 1024) × (cells.marked ≡ 0 → AreFree cells.taken.items) };
 }
