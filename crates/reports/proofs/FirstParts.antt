@@ -1,7 +1,7 @@
 -- The first part of a list that grows.
 use Rattle.std.proofs.Common.{ℕ, zero, suc, ◌≡◌, ◌≤◌, ◌+◌, ◌-◌, List, [], ◌∷◌, ◌++◌, length, take, refl, sym, ap, ◌∙◌, arith}
 use Rattle.std.proofs.Math.Seq.{take-append-add}
-use Rattle.std.proofs.lemmas.List.{length-take, take-take}
+use Rattle.std.proofs.lemmas.List.{length-take, take-append-le, take-take}
 use Rattle.reports.specs.LongLists.{first_part}
 use Rattle.reports.specs.Texts.{verdict_of}
 use Rattle.reports.specs.declared.places.Finding.{Finding}
@@ -36,6 +36,16 @@ first_part-both xs ys = take-append_first 1000 xs (take 1000 ys) ∙ take-append
 pub first_part-room : {T : Type 0} → (xs ys : List T) → length xs ≤ 1000 → xs ++ take (1000 - length xs) ys ≡ first_part (xs ++ ys)
 unfolding first_part
 first_part-room xs ys le = take-whole 1000 xs ys le
+
+-- where there is room for none
+pub first_part-full : {T : Type 0} → (xs ys : List T) → length xs ≡ 1000 → xs ≡ first_part (xs ++ ys)
+unfolding first_part
+first_part-full xs ys full = sym (take-append-le 1000 xs ys (omega (arith, full)) ∙ take-of-all 1000 xs full)
+  where
+    take-of-all : {T : Type 0} → (n : ℕ) (zs : List T) → length zs ≡ n → take n zs ≡ zs
+    take-of-all n [] e = grind (arith, e)
+    take-of-all zero (z ∷ zs) e = absurd (omega (arith, e))
+    take-of-all (suc n) (z ∷ zs) e = ap (λ l. z ∷ l) (take-of-all n zs (omega (arith, e)))
 
 pub length-first_part : {T : Type 0} → (xs : List T) → length (first_part xs) ≤ 1000
 unfolding first_part

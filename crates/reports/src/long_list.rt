@@ -90,6 +90,7 @@ impl<T: Copy> LongList<T> {
 }
 
 // Puts as many more members after the first ones as are stored.
+#[inline]
 fn keep<T: Copy>(first: &mut Vec<T>, more: &[T]) -> Result<(), NoMemory>
     requires { length first.old.items ≤ 1000 }
     ensures ok { OnOk result (first.new.items ≡ first_part (first.old.items ++ more.now)) }
@@ -98,6 +99,9 @@ fn keep<T: Copy>(first: &mut Vec<T>, more: &[T]) -> Result<(), NoMemory>
     ensures capacity { vec_capacity first.old ≤ vec_capacity first.new }
     ensures succeeds { 1000 ≤ vec_capacity first.old → IsOk result }
 {
+    if first.len() == STORED {
+        return Ok(());
+    }
     let room = STORED - first.len();
     first.reserve(room)?;
     first.extend_from_slice(first_of(more, room))?;
