@@ -1,5 +1,5 @@
 //! A relation in segments.
-ghost use Rattle.std.specs.Prelude.{◌≡◌, ◌<◌, ◌≤◌, ◌⊎◌, IfErr, IfOk, IfSome, OnOk};
+ghost use Rattle.std.specs.Prelude.{◌≡◌, ◌+◌, ◌<◌, ◌≤◌, ◌⊎◌, IfErr, IfOk, IfSome, OnOk, drop, length, take};
 ghost use Rattle.outside.specs.Outside.{AskedAtMost, IfTold, Tells};
 ghost use Rattle.rel_files.specs.Blocks.{block_of};
 ghost use Rattle.rel_files.specs.Faults.{read_fault};
@@ -137,13 +137,34 @@ impl Relation {
             out.new ≡ block_of names (base_of self.now) (size_of self.now) b)) }
         ensures asked { AskedAtMost 1 F.seen files.old files.new result read_fault }
     {
+        self.read_part(files, b, 0, out)?;
+        Ok(())
+    }
+
+    /// Reads bytes of a block into `out`, from a place of the block on, counted from 0: for what needs
+    /// little of a block. `ReadFault` comes only where the files couldn't be read, and `out` is then
+    /// unspecified.
+    pub fn read_part<F: Files>(
+        &self,
+        files: &mut F,
+        b: u32,
+        at: u16,
+        out: &mut [u8],
+    ) -> Result<(), ReadFault>
+        requires attached { IfTold F.seen files.old (λ names. IsAttached names self.now) }
+        requires below { b < count_of self.now }
+        requires within { at + length out.old ≤ 8192 }
+        ensures bytes { OnOk result (IfTold F.seen files.old (λ names.
+            out.new ≡ take (length out.old) (drop at (block_of names (base_of self.now) (size_of self.now) b)))) }
+        ensures asked { AskedAtMost 1 F.seen files.old files.new result read_fault }
+    {
         let segment = b / self.segment_blocks;
         let place = b % self.segment_blocks;
         let name = FileName {
             base: self.base.as_str(),
             part: Part::Segment(segment),
         };
-        files.read_at(name, 8192 * place as u64, out)?;
+        files.read_at(name, 8192 * place as u64 + at as u64, out)?;
         Ok(())
     }
 }
