@@ -1,0 +1,4 @@
+pub mod Trees
+pub mod Questions
+pub mod Passes
+pub mod Found

@@ -1,0 +1,127 @@
+//! Items that aren't in order: which of them, on a page where each is plain (B10 and B11).
+ghost use Rattle.std.specs.Prelude.{◌≡◌, ◌≤◌, ◌-◌, [], ◌∷◌, length, true, false, None, All, find};
+ghost use Rattle.page_layout.specs.Page.{count_of, page_rule_of};
+ghost use Rattle.page_layout.specs.View.{page_bytes};
+ghost use Rattle.page_layout.specs.declared.rules.Rule.TheVariants.{B10, B11};
+ghost use Rattle.key_orders.specs.Types.{HasAlignment};
+ghost use Rattle.varlena_attrs.specs.Keyed.{key_types, more_types};
+ghost use Rattle.bt_meta.specs.Flags.{is_half_dead};
+ghost use Rattle.bt_meta.specs.Pages.{opaque_of};
+ghost use Rattle.tree_image.specs.Pages.{breaks_high_key, breaks_order};
+ghost use Rattle.bt_pages.specs.Passes.{IsCarried};
+ghost use Rattle.bt_pages.specs.Questions.{are_plain, breaks_on_page};
+
+use crate::order::{is_past_high_key, read_item};
+use bt_tuples::tree_item;
+use key_orders::{KeySpec, MoreSpec, SepRef};
+use page_layout::{PageKind, PageView, Rule};
+use tree_image::{keys_of, spot_of};
+
+// The key of the last entry of an item.
+fn last_key_at<'p>(
+    page: PageView<'p>,
+    i: u16,
+    specs: &[KeySpec],
+    more: &[MoreSpec],
+) -> Option<SepRef<'p>>
+    requires page { page_rule_of PageKind.Tree (page_bytes page) ≡ None }
+    requires first { 1 ≤ i }
+    requires last { i ≤ count_of (page_bytes page) }
+    requires few { length specs.now ≤ 8 }
+    requires few_more { length more.now ≤ 24 }
+    requires aligned { All HasAlignment (key_types specs.now) }
+    requires aligned_more { All HasAlignment (more_types more.now) }
+    requires live { is_half_dead (opaque_of (page_bytes page)) ≡ false }
+    requires plain { are_plain specs.now more.now (page_bytes page) (count_of (page_bytes page)) ≡ true }
+    ensures { IsCarried specs.now more.now (page_bytes page.entry) i result }
+{
+    match tree_item(page, i, specs, more, spot_of(page, i)) {
+        Err(_) => None,
+        Ok(item) => Some(keys_of(item).into_last()),
+    }
+}
+
+// The key of the last entry of the item before, if there is one.
+fn key_before<'p>(
+    page: PageView<'p>,
+    i: u16,
+    specs: &[KeySpec],
+    more: &[MoreSpec],
+) -> Option<SepRef<'p>>
+    requires page { page_rule_of PageKind.Tree (page_bytes page) ≡ None }
+    requires first { 1 ≤ i }
+    requires last { i ≤ count_of (page_bytes page) }
+    requires few { length specs.now ≤ 8 }
+    requires few_more { length more.now ≤ 24 }
+    requires aligned { All HasAlignment (key_types specs.now) }
+    requires aligned_more { All HasAlignment (more_types more.now) }
+    requires live { is_half_dead (opaque_of (page_bytes page)) ≡ false }
+    requires plain { are_plain specs.now more.now (page_bytes page) (count_of (page_bytes page)) ≡ true }
+    ensures { IsCarried specs.now more.now (page_bytes page.entry) (i - 1) result }
+{
+    if i == 1 {
+        return None;
+    }
+    last_key_at(page, i - 1, specs, more)
+}
+
+// Whether an item breaks B10.
+fn is_low_item(page: PageView<'_>, i: u16, specs: &[KeySpec], more: &[MoreSpec]) -> bool
+    requires page { page_rule_of PageKind.Tree (page_bytes page) ≡ None }
+    requires first { 1 ≤ i }
+    requires last { i ≤ count_of (page_bytes page) }
+    requires few { length specs.now ≤ 8 }
+    requires few_more { length more.now ≤ 24 }
+    requires aligned { All HasAlignment (key_types specs.now) }
+    requires aligned_more { All HasAlignment (more_types more.now) }
+    requires live { is_half_dead (opaque_of (page_bytes page)) ≡ false }
+    requires plain { are_plain specs.now more.now (page_bytes page) (count_of (page_bytes page)) ≡ true }
+    ensures { result ≡ breaks_order specs.now more.now (page_bytes page.entry) i }
+{
+    let before = key_before(page, i, specs, more);
+    match read_item(page, i, specs, more, &before) {
+        None => false,
+        Some(step) => step.is_low,
+    }
+}
+
+// Whether a page that has this item breaks B11.
+fn is_past(page: PageView<'_>, i: u16, specs: &[KeySpec], more: &[MoreSpec]) -> bool
+    requires page { page_rule_of PageKind.Tree (page_bytes page) ≡ None }
+    requires first { 1 ≤ i }
+    requires last { i ≤ count_of (page_bytes page) }
+    requires few { length specs.now ≤ 8 }
+    requires few_more { length more.now ≤ 24 }
+    requires aligned { All HasAlignment (key_types specs.now) }
+    requires aligned_more { All HasAlignment (more_types more.now) }
+    requires live { is_half_dead (opaque_of (page_bytes page)) ≡ false }
+    requires plain { are_plain specs.now more.now (page_bytes page) (count_of (page_bytes page)) ≡ true }
+    ensures { result ≡ breaks_high_key specs.now more.now (page_bytes page.entry) }
+{
+    match last_key_at(page, page.item_count(), specs, more) {
+        None => false,
+        Some(last) => is_past_high_key(page, specs, more, &last),
+    }
+}
+
+/// The first of B10 and B11 that an item breaks, on a page where each item is plain.
+pub fn order_rule(page: PageView<'_>, i: u16, specs: &[KeySpec], more: &[MoreSpec]) -> Option<Rule>
+    requires page { page_rule_of PageKind.Tree (page_bytes page) ≡ None }
+    requires first { 1 ≤ i }
+    requires last { i ≤ count_of (page_bytes page) }
+    requires few { length specs.now ≤ 8 }
+    requires few_more { length more.now ≤ 24 }
+    requires aligned { All HasAlignment (key_types specs.now) }
+    requires aligned_more { All HasAlignment (more_types more.now) }
+    requires live { is_half_dead (opaque_of (page_bytes page)) ≡ false }
+    requires plain { are_plain specs.now more.now (page_bytes page) (count_of (page_bytes page)) ≡ true }
+    ensures { result ≡ find (breaks_on_page specs.now more.now (page_bytes page.entry) i) (B10 ∷ B11 ∷ []) }
+{
+    if is_low_item(page, i, specs, more) {
+        return Some(Rule::B10);
+    }
+    if i == 1 && is_past(page, i, specs, more) {
+        return Some(Rule::B11);
+    }
+    None
+}

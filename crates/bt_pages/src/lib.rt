@@ -1,0 +1,21 @@
+//! The pages of a B-tree index one by one: which rules a page and its items break, by themselves, with
+//! each other, and with the pages that they link to.
+//!
+//! Sources: PostgreSQL's `access/nbtree.h` and the nbtree README.
+#![tactic(auto)]
+
+mod alone;
+mod disorder;
+mod glance;
+mod items;
+mod look;
+mod neighbours;
+mod order;
+mod page;
+mod pass;
+mod tree;
+
+pub use glance::Glance;
+pub use look::glance_at;
+pub use page::judge_page;
+pub use tree::TreeRules;
