@@ -54,7 +54,7 @@ second_false true b q = q
 second_false false b q = refl
 
 -- a first test that was passed
-passed : (b : Bool) (r : Rule) (rest : Option Rule) → cond b (Some r) rest ≡ None → b ≡ false
+pub passed : (b : Bool) (r : Rule) (rest : Option Rule) → cond b (Some r) rest ≡ None → b ≡ false
 passed false r rest e = refl
 passed true r rest e = absurd cc
 
@@ -84,15 +84,15 @@ module _ (specs : List KeySpec) (more : List MoreSpec) (page : List ℕ) where
   ordered_by e = says_Ordered _ _ _ e
 
   module _ (i : ℕ) where
-    own_is : (h : Bool) → find (breaks_on_page specs more page i) (own_rules h) ≡ find (breaks_item_rule specs more (spot_of page i) page i) (own_rules h)
+    pub own_is : (h : Bool) → find (breaks_on_page specs more page i) (own_rules h) ≡ find (breaks_item_rule specs more (spot_of page i) page i) (own_rules h)
     own_is true = refl
     own_is false = refl
 
-    rule_by : (h p : Bool) → is_half_dead (opaque_of page) ≡ h → are_plain specs more page (count_of page) ≡ p → rule_on_page specs more page i ≡ find (breaks_on_page specs more page i) (rules_by h p)
+    pub rule_by : (h p : Bool) → is_half_dead (opaque_of page) ≡ h → are_plain specs more page (count_of page) ≡ p → rule_on_page specs more page i ≡ find (breaks_on_page specs more page i) (rules_by h p)
     unfolding rule_on_page
     rule_by h p dead plain = λ k. find (breaks_on_page specs more page i) (rules_by (dead k) (plain k))
 
-    own_by : (h : Bool) → is_half_dead (opaque_of page) ≡ h → own_rule specs more page i ≡ find (breaks_item_rule specs more (spot_of page i) page i) (own_rules h)
+    pub own_by : (h : Bool) → is_half_dead (opaque_of page) ≡ h → own_rule specs more page i ≡ find (breaks_item_rule specs more (spot_of page i) page i) (own_rules h)
     unfolding own_rule
     own_by h dead = λ k. find (breaks_item_rule specs more (spot_of page i) page i) (own_rules (dead k))
 

@@ -6,3 +6,6 @@ pub mod Orders
 pub mod Passing
 pub mod Among
 pub mod Lists
+pub mod Finding
+pub mod BlockLaws
+pub mod KeptLaws

@@ -2,3 +2,4 @@ pub mod Trees
 pub mod Questions
 pub mod Passes
 pub mod Found
+pub mod Broken

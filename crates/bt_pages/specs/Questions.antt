@@ -117,8 +117,9 @@ abbrev pub downlink_rules : (has_downlink : Bool) → List Rule
 downlink_rules true = B13 ∷ []
 downlink_rules false = []
 
+abbrev pub item_rules : List KeySpec → List MoreSpec → List ℕ → ℕ → List Rule
+item_rules specs more page i = rules_on_page specs more page ++ downlink_rules (has_downlink page i)
+
 -- the first of all rules that it breaks
 unfoldable pub item_rule : Tree → List ℕ → ℕ → Option Rule
-item_rule tree page i =
-    find (breaks_item tree page i)
-    (rules_on_page tree.specs tree.more page ++ downlink_rules (has_downlink page i))
+item_rule tree page i = find (breaks_item tree page i) (item_rules tree.specs tree.more page i)

@@ -8,6 +8,7 @@ mod alone;
 mod disorder;
 mod glance;
 mod items;
+mod laws;
 mod look;
 mod neighbours;
 mod order;
@@ -16,6 +17,7 @@ mod pass;
 mod tree;
 
 pub use glance::Glance;
+pub use laws::blocks_are_judged;
 pub use look::glance_at;
 pub use page::judge_page;
 pub use tree::TreeRules;

@@ -132,7 +132,8 @@ fn pass_over(page: PageView<'_>, specs: &[KeySpec], more: &[MoreSpec]) -> Pass
     requires aligned { All HasAlignment (key_types specs.now) }
     requires aligned_more { All HasAlignment (more_types more.now) }
     requires live { is_half_dead (opaque_of (page_bytes page)) ≡ false }
-    ensures { result ≡ pass_by false (are_plain specs.now more.now (page_bytes page.entry) (count_of (page_bytes page.entry)))
+    ensures { result ≡ pass_by false
+        (are_plain specs.now more.now (page_bytes page.entry) (count_of (page_bytes page.entry)))
         (is_disordered specs.now more.now (page_bytes page.entry)) }
 {
     let mut before: Option<SepRef<'_>> = None;
