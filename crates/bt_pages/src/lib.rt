@@ -19,5 +19,5 @@ mod tree;
 pub use glance::Glance;
 pub use laws::blocks_are_judged;
 pub use look::glance_at;
-pub use page::judge_page;
+pub use page::{add_found, judge_page};
 pub use tree::TreeRules;

@@ -28,8 +28,9 @@ use page_layout::{PageKind, PageView, Rule};
 use rel_files::ReadFault;
 use reports::{PageFault, Place, Reason, Rel, Report};
 
-// Adds what is found at a place.
-fn add_found(
+/// Adds what is found at a place: the rule that is broken there, and why it can't be judged. After
+/// `NoMemory` the report has a first part of that.
+pub fn add_found(
     report: &mut Report,
     place: Place,
     rule: Option<Rule>,

@@ -1,0 +1,4 @@
+pub mod Lists
+pub mod Index
+pub mod Files
+pub mod Sound

@@ -1,0 +1,104 @@
+//! Judges an index of a case.
+ghost use Rattle.std.specs.Prelude.{◌≡◌, ◌↔◌, ◌⊎◌, [], length, true, IfErr, IfOk, IfSome, IsSome};
+ghost use Rattle.outside.specs.Adds.{AddsIn};
+ghost use Rattle.outside.specs.Outside.{Asked, IfTold, Tells};
+ghost use Rattle.reports.specs.Added.{report_lists};
+ghost use Rattle.bt_pages.specs.Broken.{AreEmpty};
+ghost use Rattle.bt_levels.specs.Files.{BelongsTo, IsFileOf, number_of, relation_of};
+ghost use Rattle.bt_levels.specs.Index.{index_of, tree_lists};
+ghost use Rattle.bt_levels.specs.Sound.{IsSoundIndexOf, file_of};
+
+use crate::files::TreeFile;
+use crate::judge::judge_index;
+use crate::sound::SoundTree;
+use bt_pages::TreeRules;
+use case_file::Case;
+use key_orders::KeySpec;
+use outside::{Files, NoMemory};
+use reports::{CheckFault, PageFault, Report};
+use std::alloc::Global;
+
+// What the rules of the index need to know.
+fn rules_of<'p>(case: &'p Case, at: &'p TreeFile) -> TreeRules<'p>
+    requires { BelongsTo case.now at.now }
+    ensures number { result.number ≡ number_of at.now }
+    ensures specs { result.specs.now ≡ (index_of case.now (number_of at.now)).keys }
+    ensures more { result.more.now ≡ [] }
+    ensures relation { result.relation.now ≡ relation_of at.now }
+{
+    TreeRules {
+        number: at.index,
+        specs: case.index_keys(at.index),
+        more: &[],
+        relation: &at.relation,
+    }
+}
+
+// Judges the file of the index.
+fn judge_file<F: Files>(
+    files: &mut F,
+    case: &Case,
+    at: &TreeFile,
+    report: &mut Report,
+) -> Result<(), PageFault>
+    requires told { IfTold F.seen files.old (λ names. IsFileOf case.now names at.now) }
+    requires belong { BelongsTo case.now at.now }
+    ensures lists { IfTold F.seen files.old (λ names. AddsIn report_lists result report.old report.new
+        (tree_lists case.now names (number_of at.now))) }
+    ensures asked { Asked F.seen files.old files.new result PageFault.ReadFault }
+{
+    case.sound();
+    let tree = rules_of(case, at);
+    judge_index(files, &tree, report)
+}
+
+// Whether a report has as much as it had with these counts.
+fn is_as_before(report: &Report, before: (u64, u64)) -> bool
+    ensures { (result ≡ true) ↔ (length report.now.findings ≡ before.0) × (length report.now.unjudged ≡ before.1) }
+{
+    let counts = report.counts();
+    counts.0 == before.0 && counts.1 == before.1
+}
+
+// The columns of a key, in memory of their own.
+fn keys_of(alloc: Global, specs: &[KeySpec]) -> Result<Vec<KeySpec>, NoMemory>
+    ensures { IfOk result (λ keys. keys.items ≡ specs.now) }
+{
+    let keys = specs.to_vec(alloc)?;
+    Ok(keys)
+}
+
+/// Judges an index of a case, and adds to the report all that is found of it and all that can't be
+/// judged: its segments (S1); block 0 (P1 to P4, M1, M2, U4); and where nothing came up there, each other
+/// block by its number (P1 to P4, B1 to B13, U5). How the pages of a level stand together isn't judged.
+///
+/// The answer is `None` exactly where something was added. `ReadFault` comes only where the count of the
+/// files' faults rose, and `NoFile` and `TooLarge` never. After an error the report has a first part of
+/// what it would have got.
+pub fn check_tree<F: Files>(
+    alloc: Global,
+    files: &mut F,
+    case: &Case,
+    at: TreeFile,
+    report: &mut Report,
+) -> Result<Option<SoundTree>, CheckFault>
+    requires told { IfTold F.seen files.old (λ names. IsFileOf case.now names at) }
+    requires belong { BelongsTo case.now at }
+    ensures lists { IfTold F.seen files.old (λ names. AddsIn report_lists result report.old report.new
+        (tree_lists case.now names (number_of at))) }
+    ensures quiet { Tells F.seen files.old result (λ sound names.
+        IsSome sound ↔ AreEmpty (tree_lists case.now names (number_of at))) }
+    ensures sound { IfOk result (λ answer. IfSome answer (IsSoundIndexOf case.now (number_of at))) }
+    ensures told { IfOk result (λ answer. IfSome answer (λ sound. IfTold F.seen files.old (λ names.
+        IsFileOf case.now names (file_of sound)))) }
+    ensures only { IfErr result (λ e. e ≡ CheckFault.ReadFault ⊎ e ≡ CheckFault.NoMemory) }
+    ensures asked { Asked F.seen files.old files.new result CheckFault.ReadFault }
+{
+    let before = report.counts();
+    judge_file(files, case, &at, report)?;
+    if !is_as_before(report, before) {
+        return Ok(None);
+    }
+    let specs = keys_of(alloc, case.index_keys(at.index))?;
+    Ok(Some(SoundTree { file: at, specs }))
+}

@@ -1,0 +1,144 @@
+//! Judges the segments and the blocks of an index.
+ghost use Rattle.std.specs.Prelude.{◌≡◌, ◌<◌, ◌≤◌, All, IfOk, length, true};
+ghost use Rattle.outside.specs.Adds.{AddsIn};
+ghost use Rattle.outside.specs.Outside.{Asked, IfTold, Tells};
+ghost use Rattle.key_orders.specs.Types.{HasAlignment};
+ghost use Rattle.varlena_attrs.specs.Keyed.{key_types, more_types};
+ghost use Rattle.rel_files.specs.Relation.{IsAttached, count_of, long_of};
+ghost use Rattle.reports.specs.Added.{report_lists};
+ghost use Rattle.bt_pages.specs.Found.{block_lists};
+ghost use Rattle.bt_pages.specs.Trees.{tree_seen};
+ghost use Rattle.bt_levels.specs.Lists.{blocks_lists, first_lists, index_lists, is_first_quiet, other_lists};
+ghost use Rattle.bt_levels.specs.Lists.{segment_lists};
+
+use crate::meta::{first_doubt, first_rule};
+use bt_pages::{TreeRules, add_found, judge_page};
+use outside::{Files, NoMemory};
+use page_layout::{PageView, Rule};
+use reports::{PageFault, Place, Rel, Report};
+
+// Adds the finding of a segment that is too long.
+fn add_segment(report: &mut Report, number: u16, long: Option<u32>) -> Result<(), NoMemory>
+    ensures { AddsIn report_lists result report.old report.new (segment_lists number long) }
+{
+    match long {
+        None => Ok(()),
+        Some(k) => report.add_rule(Place::Segment(Rel::Index(number), k), Some(Rule::S1)),
+    }
+}
+
+// Judges block 0, the metapage, and says whether nothing was found of it.
+fn judge_first<F: Files>(
+    files: &mut F,
+    tree: &TreeRules<'_>,
+    page: &mut [u8; 8192],
+    report: &mut Report,
+) -> Result<bool, PageFault>
+    requires attached { IfTold F.seen files.old (λ names. IsAttached names tree.now.relation.now) }
+    ensures lists { IfTold F.seen files.old (λ names. AddsIn report_lists result report.old report.new
+        (first_lists (tree_seen names tree.now))) }
+    ensures quiet { Tells F.seen files.old result (λ quiet names. quiet ≡ is_first_quiet (tree_seen names tree.now)) }
+    ensures some { IfOk result (λ quiet. quiet ≡ true → 0 < count_of tree.now.relation.now) }
+    ensures asked { Asked F.seen files.old files.new result PageFault.ReadFault }
+{
+    let place = Place::Block(Rel::Index(tree.number), 0);
+    let blocks = tree.relation.blocks();
+    if blocks == 0 {
+        add_found(report, place, Some(Rule::M1), None)?;
+        return Ok(false);
+    }
+    tree.relation.read_block(files, 0, page)?;
+    let view = PageView::new(page);
+    let rule = first_rule(view, blocks);
+    let doubt = first_doubt(view, blocks, rule);
+    add_found(report, place, rule, doubt)?;
+    Ok(rule.is_none() && doubt.is_none())
+}
+
+// Reads a block into the page, and judges it.
+fn judge_block<F: Files>(
+    files: &mut F,
+    tree: &TreeRules<'_>,
+    b: u32,
+    page: &mut [u8; 8192],
+    report: &mut Report,
+) -> Result<(), PageFault>
+    requires few { length tree.now.specs.now ≤ 8 }
+    requires few_more { length tree.now.more.now ≤ 24 }
+    requires aligned { All HasAlignment (key_types tree.now.specs.now) }
+    requires aligned_more { All HasAlignment (more_types tree.now.more.now) }
+    requires attached { IfTold F.seen files.old (λ names. IsAttached names tree.now.relation.now) }
+    requires inside { b < count_of tree.now.relation.now }
+    ensures lists { IfTold F.seen files.old (λ names. AddsIn report_lists result report.old report.new
+        (block_lists (tree_seen names tree.now) b)) }
+    ensures asked { Asked F.seen files.old files.new result PageFault.ReadFault }
+{
+    tree.relation.read_block(files, b, page)?;
+    judge_page(files, tree, PageView::new(page), b, report)
+}
+
+// Judges the blocks from 1 on, one after the other, with one page in hand.
+fn judge_others<F: Files>(
+    files: &mut F,
+    tree: &TreeRules<'_>,
+    page: &mut [u8; 8192],
+    report: &mut Report,
+) -> Result<(), PageFault>
+    requires few { length tree.now.specs.now ≤ 8 }
+    requires few_more { length tree.now.more.now ≤ 24 }
+    requires aligned { All HasAlignment (key_types tree.now.specs.now) }
+    requires aligned_more { All HasAlignment (more_types tree.now.more.now) }
+    requires attached { IfTold F.seen files.old (λ names. IsAttached names tree.now.relation.now) }
+    requires some { 0 < count_of tree.now.relation.now }
+    ensures lists { IfTold F.seen files.old (λ names. AddsIn report_lists result report.old report.new
+        (other_lists (tree_seen names tree.now))) }
+    ensures asked { Asked F.seen files.old files.new result PageFault.ReadFault }
+{
+    for k in 0..tree.relation.blocks() - 1 {
+        judge_block(files, tree, k + 1, page, report)?;
+    }
+    Ok(())
+}
+
+// Judges block 0, and where nothing is found of it the others.
+fn judge_blocks<F: Files>(
+    files: &mut F,
+    tree: &TreeRules<'_>,
+    report: &mut Report,
+) -> Result<(), PageFault>
+    requires few { length tree.now.specs.now ≤ 8 }
+    requires few_more { length tree.now.more.now ≤ 24 }
+    requires aligned { All HasAlignment (key_types tree.now.specs.now) }
+    requires aligned_more { All HasAlignment (more_types tree.now.more.now) }
+    requires attached { IfTold F.seen files.old (λ names. IsAttached names tree.now.relation.now) }
+    ensures lists { IfTold F.seen files.old (λ names. AddsIn report_lists result report.old report.new
+        (blocks_lists (tree_seen names tree.now))) }
+    ensures asked { Asked F.seen files.old files.new result PageFault.ReadFault }
+{
+    let mut page = [0u8; 8192];
+    if judge_first(files, tree, &mut page, report)? {
+        judge_others(files, tree, &mut page, report)?;
+    }
+    Ok(())
+}
+
+/// Judges the file of an index: its segments (S1), block 0 (P1 to P4, M1, M2, U4), and where nothing is
+/// found of that the other blocks (P1 to P4, B1 to B13, U5). After an error the report has a first part
+/// of what it would have got.
+pub fn judge_index<F: Files>(
+    files: &mut F,
+    tree: &TreeRules<'_>,
+    report: &mut Report,
+) -> Result<(), PageFault>
+    requires few { length tree.now.specs.now ≤ 8 }
+    requires few_more { length tree.now.more.now ≤ 24 }
+    requires aligned { All HasAlignment (key_types tree.now.specs.now) }
+    requires aligned_more { All HasAlignment (more_types tree.now.more.now) }
+    requires attached { IfTold F.seen files.old (λ names. IsAttached names tree.now.relation.now) }
+    ensures lists { IfTold F.seen files.old (λ names. AddsIn report_lists result report.old report.new
+        (index_lists (tree_seen names tree.now) (long_of tree.now.relation.now))) }
+    ensures asked { Asked F.seen files.old files.new result PageFault.ReadFault }
+{
+    add_segment(report, tree.number, tree.relation.long_segment())?;
+    judge_blocks(files, tree, report)
+}

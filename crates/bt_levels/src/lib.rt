@@ -1,0 +1,14 @@
+//! Judges the file of a B-tree index: its segments, its metapage and its pages, one by one.
+//!
+//! Sources: PostgreSQL's `access/nbtree.h` and the nbtree README.
+#![tactic(auto)]
+
+mod check;
+mod files;
+mod judge;
+mod meta;
+mod sound;
+
+pub use check::check_tree;
+pub use files::TreeFile;
+pub use sound::SoundTree;
