@@ -1,3 +1,5 @@
 pub mod First
 pub mod Keys
 pub mod Seen
+pub mod TreeLaws
+pub mod ListedLaws

@@ -1,4 +1,5 @@
 pub mod Lists
 pub mod Index
+pub mod Broken
 pub mod Files
 pub mod Sound

@@ -6,9 +6,11 @@
 mod check;
 mod files;
 mod judge;
+mod laws;
 mod meta;
 mod sound;
 
 pub use check::check_tree;
 pub use files::TreeFile;
+pub use laws::indexes_are_judged;
 pub use sound::SoundTree;

@@ -40,26 +40,26 @@ or_none None p e = (refl, e)
 or_none (Some x) p e = absurd cc
 
 -- what is found at a place
-All-finding_at : (P : Finding → Type 0) (place : Place) (o : Option Rule) → ((rule : Rule) → o ≡ Some rule → P (record { rule = rule; place = place })) → All P (finding_at place o).findings
+pub All-finding_at : (P : Finding → Type 0) (place : Place) (o : Option Rule) → ((rule : Rule) → o ≡ Some rule → P (record { rule = rule; place = place })) → All P (finding_at place o).findings
 All-finding_at P place None each = All-nil P
 All-finding_at P place (Some rule) each = All-cons P (record { rule = rule; place = place }) [] (each rule refl) (All-nil P)
 
-All-doubt_at : (P : UnjudgedPlace → Type 0) (place : Place) (o : Option Reason) → ((reason : Reason) → o ≡ Some reason → P (record { reason = reason; place = place })) → All P (doubt_at place o).unjudged
+pub All-doubt_at : (P : UnjudgedPlace → Type 0) (place : Place) (o : Option Reason) → ((reason : Reason) → o ≡ Some reason → P (record { reason = reason; place = place })) → All P (doubt_at place o).unjudged
 All-doubt_at P place None each = All-nil P
 All-doubt_at P place (Some reason) each = All-cons P (record { reason = reason; place = place }) [] (each reason refl) (All-nil P)
 
-no_findings : (place : Place) (o : Option Reason) → (doubt_at place o).findings ≡ []
+pub no_findings : (place : Place) (o : Option Reason) → (doubt_at place o).findings ≡ []
 no_findings place None = refl
 no_findings place (Some reason) = refl
 
-no_doubts : (place : Place) (o : Option Rule) → (finding_at place o).unjudged ≡ []
+pub no_doubts : (place : Place) (o : Option Rule) → (finding_at place o).unjudged ≡ []
 no_doubts place None = refl
 no_doubts place (Some rule) = refl
 
-among_finding : (place : Place) (o : Option Rule) (rule : Rule) → o ≡ Some rule → Contains (finding_at place o).findings (record { rule = rule; place = place })
+pub among_finding : (place : Place) (o : Option Rule) (rule : Rule) → o ≡ Some rule → Contains (finding_at place o).findings (record { rule = rule; place = place })
 among_finding place o rule e = subst (λ (p : Option Rule). Contains (finding_at place p).findings (record { rule = rule; place = place })) (sym e) (among_one (record { rule = rule; place = place }))
 
-among_doubt : (place : Place) (o : Option Reason) (reason : Reason) → o ≡ Some reason → Contains (doubt_at place o).unjudged (record { reason = reason; place = place })
+pub among_doubt : (place : Place) (o : Option Reason) (reason : Reason) → o ≡ Some reason → Contains (doubt_at place o).unjudged (record { reason = reason; place = place })
 among_doubt place o reason e = subst (λ (p : Option Reason). Contains (doubt_at place p).unjudged (record { reason = reason; place = place })) (sym e) (among_one (record { reason = reason; place = place }))
 
 none_at : (place : Place) (o : Option Rule) → (finding_at place o).findings ≡ [] → o ≡ None
@@ -250,10 +250,10 @@ none_in : {X : Type 0} (xs : List X) (x : X) → xs ≡ [] → Contains xs x →
 none_in [] x e has = omega (arith, has.1)
 none_in (y ∷ ys) x e has = absurd cc
 
-none_found : (lists : Lists) (place : Place) → AreEmpty lists → IsFoundAt lists place → ⊥
+pub none_found : (lists : Lists) (place : Place) → AreEmpty lists → IsFoundAt lists place → ⊥
 none_found lists place empty (found rule has) = none_in lists.findings (record { rule = rule; place = place }) empty.findings has
 
-none_doubted : (lists : Lists) (place : Place) → AreEmpty lists → IsDoubtedAt lists place → ⊥
+pub none_doubted : (lists : Lists) (place : Place) → AreEmpty lists → IsDoubtedAt lists place → ⊥
 none_doubted lists place empty (doubted reason has) = none_in lists.unjudged (record { reason = reason; place = place }) empty.unjudged has
 
 pub block-complete : (tree : Tree) (b : ℕ) → AreEmpty (block_lists tree b) → (rule : Rule) (place : Place) → BreaksBlock tree b rule place → ⊥
