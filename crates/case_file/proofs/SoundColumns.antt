@@ -1,20 +1,19 @@
 -- The columns of a document that breaks no rule are sound.
-use Rattle.std.proofs.Common.{◌≡◌, ℕ, ◌<◌, ◌+◌, ◌/◌, ◌%◌, List, [], ◌∷◌, length, map, Bool, true, false, not, ◌&&◌, ◌||◌, ◌==◌, cond, nat_le, Option, Some}
+use Rattle.std.proofs.Common.{◌≡◌, ℕ, ◌<◌, ◌≤◌, ◌+◌, ◌/◌, ◌%◌, List, [], ◌∷◌, length, map, Bool, true, false, not, ◌&&◌, ◌||◌, ◌==◌, cond, nat_le, Option, Some}
 use Rattle.std.proofs.Common.{None, is_some, option_and_then, unwrap_or, refl, sym, codes, arith, lit<}
 use Rattle.std.proofs.lemmas.Bool.{and_parts, eqb-true, false≢true, le-leb, lt-ltb, not-false}
 use Rattle.std.proofs.lemmas.Bool.Decides.{nat_tests}
 use Rattle.std.proofs.lemmas.List.Sums.{AllPass-from_list_all}
 use Rattle.std.specs.Int.{is_in_range, IsInRange}
 use Rattle.std.specs.List.{AllByRecursion, list_all}
-use Rattle.hex.specs.Hex.{is_hex_digit}
+use Rattle.hex.specs.Hex.{IsBytes, is_hex_digit}
 use Rattle.hex.proofs.HexLemmas.{decode_of-digits, decode_of-ok}
 use Rattle.key_orders.specs.declared.columns.ColType.{ColType}
 use Rattle.key_orders.specs.declared.columns.ColType.TheVariants.{Bool as BoolType, Int2, Int4, Int8, Uuid, Text, Bytea, Fixed, Varlena}
-use Rattle.key_orders.specs.declared.columns.Value.TheVariants.{Null}
-use Rattle.key_orders.specs.declared.types.ValueKind.{ValueKind}
-use Rattle.key_orders.specs.declared.types.ValueKind.TheVariants.{Flag, Number, Octets}
-use Rattle.key_orders.specs.Types.{fixed_length, type_of}
-use Rattle.key_orders.specs.Values.{value_by, value_in}
+use Rattle.key_orders.specs.declared.columns.Value.{Value}
+use Rattle.key_orders.specs.Orders.{fits_type}
+use Rattle.key_orders.specs.Types.{fixed_length}
+use Rattle.key_orders.specs.Values.{value_in}
 use Rattle.toml.specs.Data.{Data, string, integer, float, boolean, datetime, array, table, Members, get_member, as_str, as_table}
 use Rattle.case_file.specs.declared.keys.Place.TheVariants.{Column}
 use Rattle.case_file.specs.declared.keys.Key.TheVariants.{ColumnType, ColumnLen, ColumnAlign}
@@ -24,10 +23,11 @@ use Rattle.case_file.specs.Columns.{below_or_zero, column_of, decoded, missing_o
 use Rattle.case_file.specs.Keys.{keys_of, row_of}
 use Rattle.case_file.specs.Rules.{applies, breaks, fails, has_known_type, has_other_kind, has_type, is_align, is_fit, is_len, is_missing_text, is_needed, is_of}
 use Rattle.case_file.specs.Rules.{is_out_of_range, is_stored_len, is_told_len, is_unknown, key_type, has_key_type}
-use Rattle.case_file.specs.Sound.{is_missing_by, is_missing_value, is_sound_type, IsSoundColumn}
+use Rattle.case_file.specs.Sound.{IsSoundColumn, is_sound_type, octet_count}
 use Rattle.case_file.specs.Spots.{column_spots, flat_map_from, in_table, listed}
 use Rattle.case_file.specs.Tables.{number_at, text_at}
 use Rattle.case_file.proofs.Passing.{EachPasses, Passes, passes_after, passes_before}
+use Rattle.case_file.proofs.MissingValues.{null_fits, value_fits, value_is_small}
 use Rattle.case_file.proofs.Rows.{align_found, needed_key, number_in_range}
 
 -- the type that the words of a column name, where a to g say which of the types that may be keys it has
@@ -103,29 +103,15 @@ abbrev is_told_by : Option ColType → (fixed varlena : Bool) → (len n : ℕ) 
 is_told_by (Some ctype) fixed varlena len n = is_len (fixed_length ctype) n
 is_told_by None fixed varlena len n = cond fixed (n == len) (cond varlena (nat_le n 8000) true)
 
--- as many bytes as a stored value of a kind has are one
-kind_fits : (kind : ValueKind) (len : Option ℕ) (bytes : List ℕ) → is_len len (length bytes) ≡ true → is_missing_by kind len (value_by kind len bytes) ≡ true
-kind_fits Flag len bytes fit = refl
-kind_fits (Number true low high) len bytes fit = refl
-kind_fits (Number false low high) len bytes fit = refl
-kind_fits Octets len bytes fit = fit
-
--- null is one of each
-null_fits : (kind : ValueKind) (len : Option ℕ) → is_missing_by kind len Null ≡ true
-null_fits Flag len = refl
-null_fits (Number signed low high) len = refl
-null_fits Octets len = refl
-
--- and so of the type that the words of a column tell
-bytes_fit : (o : Option ColType) (fixed varlena : Bool) (len kept align : ℕ) (bytes : List ℕ) → (fixed ≡ true → kept ≡ len)
+-- so many bytes are a stored value of the type that the words of a column tell
+bytes_fit : (o : Option ColType) (fixed varlena : Bool) (len kept align n : ℕ) → (fixed ≡ true → kept ≡ len)
     → (is_some o || (fixed || varlena)) ≡ true
-    → is_told_by o fixed varlena len (length bytes) ≡ true
-    → is_missing_value (unwrap_or o (cond fixed (Fixed kept align) (Varlena align))) (value_in (unwrap_or o (cond fixed (Fixed kept align) (Varlena align))) bytes) ≡ true
-unfolding value_in
-bytes_fit (Some ctype) fixed varlena len kept align bytes same known fit = kind_fits (type_of ctype).kind (fixed_length ctype) bytes fit
-bytes_fit None true varlena len kept align bytes same known fit = rw (same refl) fit
-bytes_fit None false true len kept align bytes same known fit = fit
-bytes_fit None false false len kept align bytes same known fit = absurd (false≢true known)
+    → is_told_by o fixed varlena len n ≡ true
+    → is_len (fixed_length (unwrap_or o (cond fixed (Fixed kept align) (Varlena align)))) n ≡ true
+bytes_fit (Some ctype) fixed varlena len kept align n same known fit = fit
+bytes_fit None true varlena len kept align n same known fit = rw (same refl) fit
+bytes_fit None false true len kept align n same known fit = fit
+bytes_fit None false false len kept align n same known fit = absurd (false≢true known)
 
 told_as : (o : Option ColType) (t : Members) (n : ℕ) → is_told_len o t n ≡ true
     → is_told_by o (has_type (codes "fixed") t) (has_type (codes "varlena") t) (number_at (codes "len") t) n ≡ true
@@ -133,52 +119,63 @@ told_as (Some ctype) t n h = h
 told_as None t n h = h
 
 -- digits write half as many bytes
-length-decoded : (s : List ℕ) → list_all is_hex_digit s ≡ true → length s % 2 ≡ 0 → length s / 2 ≡ length (decoded s)
+record AreWritten (s bytes : List ℕ) : Type 0 where
+  half : length s / 2 ≡ length bytes
+  small : IsBytes bytes
+
+decoded_are : (s : List ℕ) → list_all is_hex_digit s ≡ true → length s % 2 ≡ 0 → AreWritten s (decoded s)
 unfolding decoded
-length-decoded s digits even =
+decoded_are s digits even =
     let bytes = decode_of-digits s even (AllPass-from_list_all is_hex_digit s digits) in
-    let twice = (decode_of-ok s bytes.0 bytes.1).2 in
-    rw bytes.1 (omega arith)
+    let ok = decode_of-ok s bytes.0 bytes.1 in
+    let twice = ok.2 in
+    record { half = rw bytes.1 (omega arith); small = rw bytes.1 ok.3 }
+
+-- a value that a column of the type may have, of at most 8000 bytes
+abbrev IsMissing : ColType → Value → Type 0
+IsMissing ctype v = (fits_type ctype v ≡ true) × (octet_count v ≤ 8000)
 
 missing_fits : (t : Members) (s : List ℕ) → has_known_type t ≡ true → (has_type (codes "fixed") t ≡ true → IsInRange 1 8000 (number_at (codes "len") t))
+    → is_sound_type (told_type (Some t)) ≡ true
     → is_missing_text t s ≡ true
-    → is_missing_value (told_type (Some t)) (value_in (told_type (Some t)) (decoded s)) ≡ true
+    → IsMissing (told_type (Some t)) (value_in (told_type (Some t)) (decoded s))
 unfolding is_missing_text is_stored_len told_type stored_type has_known_type
-missing_fits t s known len fit =
+missing_fits t s known len sound fit =
     let whole = and_parts (list_all is_hex_digit s && length s % 2 == 0) (is_stored_len t (length s / 2)) fit in
     let parts = and_parts (list_all is_hex_digit s) (length s % 2 == 0) whole.0 in
-    let half = length-decoded s parts.0 (eqb-true (length s % 2) 0 parts.1) in
+    let written = decoded_are s parts.0 (eqb-true (length s % 2) 0 parts.1) in
     let fixed : Bool = has_type (codes "fixed") t in
     let varlena : Bool = has_type (codes "varlena") t in
     let length_of : ℕ = number_at (codes "len") t in
-    bytes_fit (key_type t) fixed varlena length_of (below_or_zero 65536 length_of) (below_or_zero 256 (number_at (codes "align") t)) (decoded s)
-    (λ is. below-kept 65536 length_of (let within = len is in omega arith)) known (told_as (key_type t) t (length (decoded s)) (rw half at whole.1))
+    let stored = bytes_fit (key_type t) fixed varlena length_of (below_or_zero 65536 length_of) (below_or_zero 256 (number_at (codes "align") t)) (length (decoded s))
+    (λ is. below-kept 65536 length_of (let within = len is in omega arith)) known (told_as (key_type t) t (length (decoded s)) (rw written.half at whole.1)) in
+    (value_fits (told_type (Some t)) (decoded s) written.small stored, value_is_small (told_type (Some t)) (decoded s) sound stored)
 
 sound_missing : (t : Members) (o : Option Data) → has_known_type t ≡ true → (has_type (codes "fixed") t ≡ true → IsInRange 1 8000 (number_at (codes "len") t))
+    → is_sound_type (told_type (Some t)) ≡ true
     → fails (is_of TextKind) o ≡ false → fails (is_fit StoredBytes t) o ≡ false
-    → is_missing_value (told_type (Some t)) (missing_of (told_type (Some t)) (option_and_then as_str o)) ≡ true
+    → IsMissing (told_type (Some t)) (missing_of (told_type (Some t)) (option_and_then as_str o))
 unfolding is_of is_fit missing_of
-sound_missing t None known len kind range = null_fits (type_of (told_type (Some t))).kind (fixed_length (told_type (Some t)))
-sound_missing t (Some (string s)) known len kind range = missing_fits t s known len (not-false (is_missing_text t s) range)
-sound_missing t (Some (integer z)) known len kind range = absurd (false≢true (sym kind))
-sound_missing t (Some (float x)) known len kind range = absurd (false≢true (sym kind))
-sound_missing t (Some (boolean b)) known len kind range = absurd (false≢true (sym kind))
-sound_missing t (Some (datetime dt)) known len kind range = absurd (false≢true (sym kind))
-sound_missing t (Some (array ds)) known len kind range = absurd (false≢true (sym kind))
-sound_missing t (Some (table ms)) known len kind range = absurd (false≢true (sym kind))
+sound_missing t None known len sound kind range = (null_fits (told_type (Some t)), omega arith)
+sound_missing t (Some (string s)) known len sound kind range = missing_fits t s known len sound (not-false (is_missing_text t s) range)
+sound_missing t (Some (integer z)) known len sound kind range = absurd (false≢true (sym kind))
+sound_missing t (Some (float x)) known len sound kind range = absurd (false≢true (sym kind))
+sound_missing t (Some (boolean b)) known len sound kind range = absurd (false≢true (sym kind))
+sound_missing t (Some (datetime dt)) known len sound kind range = absurd (false≢true (sym kind))
+sound_missing t (Some (array ds)) known len sound kind range = absurd (false≢true (sym kind))
+sound_missing t (Some (table ms)) known len sound kind range = absurd (false≢true (sym kind))
 
 sound_column : (top : Members) (k : ℕ) (d : Data) (o : Option Members) → as_table d ≡ o → EachPasses top (in_table (Column k) o) → IsSoundColumn (column_of d)
 unfolding in_table keys_of column_of told_type missing_of breaks has_other_kind is_out_of_range applies is_unknown row_of text_at
-sound_column top k d None is all = rw is (record { ctype = refl; missing = refl })
+sound_column top k d None is all = rw is (record { ctype = refl; missing = refl; few = omega arith })
 sound_column top k d (Some t) is all =
     let ctype = all.1.1.0 in
     let len = all.1.1.1.0 in
     let align = all.1.1.1.1.0 in
     let missing = all.1.1.1.1.1.0 in
-    rw is (record {
-      ctype = sound_type top k t ctype len align;
-      missing = sound_missing t (get_member (codes "missing") t) (not-false (has_known_type t) ctype.c5) (fixed_len top k t len) missing.c3 missing.c4;
-    })
+    let sound = sound_type top k t ctype len align in
+    let value = sound_missing t (get_member (codes "missing") t) (not-false (has_known_type t) ctype.c5) (fixed_len top k t len) sound missing.c3 missing.c4 in
+    rw is (record { ctype = sound; missing = value.0; few = value.1 })
 
 pub sound_columns : (top : Members) (k : ℕ) (ds : List Data) → EachPasses top (flat_map_from column_spots k ds)
     → AllByRecursion IsSoundColumn (map column_of ds)

@@ -1,5 +1,6 @@
--- What every case has: each number and length is in its range, and each key column is a column that may be one.
-use Rattle.std.specs.Prelude.{◌≡◌, ◌≤◌, ◌<◌, ◌==◌, ◌&&◌, ◌||◌, ℕ, Bool, true, false, List, length, Option, Some, None}
+-- What every case has: each number and length is in its range, each missing value may stand in its column, and each key
+-- column is a column that may be one.
+use Rattle.std.specs.Prelude.{◌≡◌, ◌≤◌, ◌<◌, ◌==◌, ◌&&◌, ◌||◌, ℕ, Bool, true, List, length, Option, Some, None}
 use Rattle.std.specs.Prelude.{option_map}
 use Rattle.std.specs.Int.{is_in_range, IsInRange}
 use Rattle.std.specs.List.{AllByRecursion, slice_get}
@@ -8,15 +9,12 @@ use Rattle.key_orders.specs.declared.columns.ColType.{ColType}
 use Rattle.key_orders.specs.declared.columns.KeySpec.{KeySpec}
 use Rattle.key_orders.specs.declared.columns.Value.{Value}
 use Rattle.key_orders.specs.declared.columns.Value.TheVariants.{Null, Bool as BoolValue, Int, Bytes}
-use Rattle.key_orders.specs.declared.types.ValueKind.{ValueKind}
-use Rattle.key_orders.specs.declared.types.ValueKind.TheVariants.{Flag, Number, Octets}
-use Rattle.key_orders.specs.Orders.{is_bool, is_int, is_null}
-use Rattle.key_orders.specs.Types.{alignment_of, fixed_length, is_alignment, may_be_key, type_of}
+use Rattle.key_orders.specs.Orders.{fits_type}
+use Rattle.key_orders.specs.Types.{alignment_of, fixed_length, is_alignment, may_be_key}
 use Rattle.rel_files.specs.Ranges.{distance}
 use Rattle.rel_files.specs.declared.cluster.Cluster.{Cluster}
 use Rattle.case_file.specs.declared.case.Column.{Column}
 use Rattle.case_file.specs.Record.{CaseRecord, IndexRecord}
-use Rattle.case_file.specs.Rules.{is_len}
 
 -- transaction numbers are below 2 ^ 32, and the oldest is less than half of the way round behind the next
 pub record IsSoundCluster (c : Cluster) : Type 0 where
@@ -39,26 +37,18 @@ is_sound_storage None align = align == 4 || align == 8
 abbrev pub is_sound_type : ColType → Bool
 is_sound_type ctype = is_sound_storage (fixed_length ctype) (alignment_of ctype)
 
--- so many bytes as a value may have
-abbrev pub has_stored_len : Option ℕ → Value → Bool
-has_stored_len len Null = false
-has_stored_len len (BoolValue b) = false
-has_stored_len len (Int z) = false
-has_stored_len len (Bytes bytes) = is_len len (length bytes)
+-- the bytes of a value that has its own
+abbrev pub octet_count : Value → ℕ
+octet_count Null = 0
+octet_count (BoolValue b) = 0
+octet_count (Int z) = 0
+octet_count (Bytes bytes) = length bytes
 
--- null, or a value of a kind and length
-abbrev pub is_missing_by : ValueKind → Option ℕ → Value → Bool
-is_missing_by Flag len v = is_null v || is_bool v
-is_missing_by (Number signed low high) len v = is_null v || is_int v
-is_missing_by Octets len v = is_null v || has_stored_len len v
-
--- null, or a value that a column of the type may have
-abbrev pub is_missing_value : ColType → Value → Bool
-is_missing_value ctype v = is_missing_by (type_of ctype).kind (fixed_length ctype) v
-
+-- a missing value is one that the column may have, and has at most 8000 bytes
 pub record IsSoundColumn (column : Column) : Type 0 where
   pub ctype : is_sound_type column.ctype ≡ true
-  pub missing : is_missing_value column.ctype column.missing ≡ true
+  pub missing : fits_type column.ctype column.missing ≡ true
+  pub few : octet_count column.missing ≤ 8000
 
 -- a key column is a column of the case, of a type that may be a key's
 pub record IsSoundKey (columns : List Column) (key : KeySpec) : Type 0 where

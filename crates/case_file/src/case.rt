@@ -149,8 +149,9 @@ impl Toast {
 }
 
 impl Case {
-    /// A law: every case is sound. Each number and length is in its range, and each column of a
-    /// key is a column of the case, of a type that may be a key's.
+    /// A law: every case is sound. Each number and length is in its range, each missing value is one
+    /// that its column may have, of at most 8000 bytes, and each column of a key is a column of the
+    /// case, of a type that may be a key's.
     pub fn sound(&self)
         ensures { IsSound self.now }
     {
