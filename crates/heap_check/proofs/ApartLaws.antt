@@ -28,13 +28,13 @@ use Rattle.heap_check.proofs.Places.{All-each_below, All-each_upto}
 -- LISTS IN A ROW
 
 module _ {X : Type 0} (R : X → X → Type 0) where
-  pairs-none : AllPairs R []
+  pub pairs-none : AllPairs R []
   pairs-none i j d lt within = absurd (omega (arith, within))
 
-  pairs-one : (x : X) → AllPairs R (x ∷ [])
+  pub pairs-one : (x : X) → AllPairs R (x ∷ [])
   pairs-one x i j d lt within = absurd (omega (arith, lt, within))
 
-  pairs-append : (xs ys : List X) → AllPairs R xs → AllPairs R ys → ((x y : X) → Contains xs x → Contains ys y → R x y) → AllPairs R (xs ++ ys)
+  pub pairs-append : (xs ys : List X) → AllPairs R xs → AllPairs R ys → ((x y : X) → Contains xs x → Contains ys y → R x y) → AllPairs R (xs ++ ys)
   pairs-append [] ys first second across = second
   pairs-append (x ∷ xs) ys first second across =
       AllPairs-cons R x (xs ++ ys)
@@ -45,7 +45,7 @@ module _ {X : Type 0} (R : X → X → Type 0) where
       (λ y z among there. across y z (suc among.0, omega (arith, among.1), among.2) there))
 
   -- what places before n give, each by itself and each two
-  pairs-below : (f : ℕ → List X) (n : ℕ) → ((k : ℕ) → k < n → AllPairs R (f k)) → ((j k : ℕ) (x y : X) → j < k → k < n → Contains (f j) x → Contains (f k) y → R x y) → AllPairs R (each_below f n)
+  pub pairs-below : (f : ℕ → List X) (n : ℕ) → ((k : ℕ) → k < n → AllPairs R (f k)) → ((j k : ℕ) (x y : X) → j < k → k < n → Contains (f j) x → Contains (f k) y → R x y) → AllPairs R (each_below f n)
   unfolding each_below
   pairs-below f zero own across = pairs-none
   pairs-below f (suc n) own across =
@@ -58,7 +58,7 @@ module _ {X : Type 0} (R : X → X → Type 0) where
       (λ k lt. All-weaker (Contains (f k)) (λ z. (k : ℕ) × (k < n) × Contains (f k) z) (λ z has. (k, lt, has)) (f k) (All-contains_itself (f k)))) among in
       across at.0 n x y at.1 (omega arith) at.2 there)
 
-  pairs-upto : (f : ℕ → List X) (n : ℕ) → ((i : ℕ) → 1 ≤ i → i ≤ n → AllPairs R (f i)) → ((i j : ℕ) (x y : X) → i < j → Contains (f i) x → Contains (f j) y → R x y) → AllPairs R (each_upto f n)
+  pub pairs-upto : (f : ℕ → List X) (n : ℕ) → ((i : ℕ) → 1 ≤ i → i ≤ n → AllPairs R (f i)) → ((i j : ℕ) (x y : X) → i < j → Contains (f i) x → Contains (f j) y → R x y) → AllPairs R (each_upto f n)
   unfolding each_upto
   pairs-upto f zero own across = pairs-none
   pairs-upto f (suc n) own across =
@@ -71,7 +71,7 @@ module _ {X : Type 0} (R : X → X → Type 0) where
       (λ i first last. All-weaker (Contains (f i)) (λ z. (i : ℕ) × (i ≤ n) × Contains (f i) z) (λ z has. (i, last, has)) (f i) (All-contains_itself (f i)))) among in
       across at.0 (suc n) x y (omega (arith, at.1)) at.2 there)
 
-  pairs-kept : (found : Option Rule) (list : List X) → AllPairs R list → AllPairs R (kept_by_rule found list)
+  pub pairs-kept : (found : Option Rule) (list : List X) → AllPairs R list → AllPairs R (kept_by_rule found list)
   pairs-kept None list pairs = pairs
   pairs-kept (Some rule) list pairs = pairs-none
 
