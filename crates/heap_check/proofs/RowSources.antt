@@ -16,13 +16,15 @@ use Rattle.case_file.specs.declared.case.Column.{Column}
 use Rattle.key_orders.specs.Types.{HasAlignment}
 use Rattle.varlena_attrs.specs.declared.places.ToastPointer.{ToastPointer}
 use Rattle.toast_chunks.specs.Stored.{AllStand}
+use Rattle.toast_chunks.specs.Value.{joined_bytes}
 use Rattle.toast_chunks.specs.declared.map.Chunk.{Chunk}
 use Rattle.heap_check.specs.Files.{IsToastIn, IsToastNamed}
 use Rattle.heap_check.specs.Heap.{chunks_of, heap_blocks}
 use Rattle.heap_check.specs.RowCursor.{AreRowsOf, IsPageDoneBy, case_of, heap_of, rows_left, rows_unread}
 use Rattle.heap_check.specs.RowPages.{AreValuesOf, IsFirst, IsInHand, rows_given, rows_in_hand}
 use Rattle.heap_check.specs.RowValues.{IsReadable, bytes_seen}
-use Rattle.heap_check.specs.Rows.{block_rows, bytes_in_toast, each_from, joined_bytes, toast_bytes}
+use Rattle.heap_check.specs.RowFits.{HasMissing}
+use Rattle.heap_check.specs.Rows.{block_rows, bytes_in_toast, each_from, toast_bytes}
 use Rattle.heap_check.specs.declared.row_page.RowPage.{RowPage}
 use Rattle.heap_check.specs.declared.row_values.RowValues.{RowValues}
 use Rattle.heap_check.specs.declared.rows.LiveRow.{LiveRow}
@@ -67,6 +69,15 @@ columns_aligned case types sound are =
     each : (columns : List Column) → AllByRecursion IsSoundColumn columns → AllByRecursion (λ (c : Column). HasAlignment c.ctype) columns
     each [] h = tt
     each (c ∷ cs) h = (sound_alignment c.ctype h.0.ctype, each cs h.1)
+
+-- a column of a case may have the value that stands for it in older tuples
+pub missing_fit : (case : CaseRecord) (columns : List Column) → IsSound case → columns ≡ case.columns → All HasMissing columns
+missing_fit case columns sound are =
+    subst (λ (cs : List Column). All HasMissing cs) (sym are) (All-from_recursion HasMissing case.columns (each case.columns sound.columns))
+  where
+    each : (columns : List Column) → AllByRecursion IsSoundColumn columns → AllByRecursion HasMissing columns
+    each [] h = tt
+    each (c ∷ cs) h = (h.0.missing, each cs h.1)
 
 -- THE TOAST TABLE
 

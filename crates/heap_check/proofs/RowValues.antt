@@ -16,31 +16,22 @@ use Rattle.varlena_attrs.specs.Forms.{Attribute}
 use Rattle.varlena_attrs.specs.Shown.{shown_at, shown_in}
 use Rattle.varlena_attrs.specs.declared.places.AttrPlace.{AttrPlace}
 use Rattle.varlena_attrs.specs.declared.places.ToastPointer.{ToastPointer}
-use Rattle.toast_chunks.specs.Pointer.{chunk_count, is_compressed, stored_size}
+use Rattle.toast_chunks.specs.Pointer.{is_compressed}
 use Rattle.toast_chunks.specs.Stored.{AllStand}
-use Rattle.toast_chunks.specs.Value.{HasBytes, IsState, joined_below, value_of_pointer}
+use Rattle.toast_chunks.specs.Value.{HasBytes, IsState, joined_bytes, value_of_pointer}
 use Rattle.toast_chunks.specs.declared.detoast.ToastState.{ToastState}
 use Rattle.toast_chunks.specs.declared.detoast.ToastState.TheVariants as state
 use Rattle.toast_chunks.specs.declared.map.Chunk.{Chunk}
 use Rattle.heap_check.specs.declared.row_cells.Cell.{Cell}
 use Rattle.heap_check.specs.declared.row_cells.Cell.TheVariants as cell
 use Rattle.heap_check.specs.Below.{each_below, each_below-next}
-use Rattle.heap_check.specs.Rows.{cell_at, cell_by, cell_of, cells_of, external_cell, joined_bytes, numbered_bytes}
+use Rattle.heap_check.specs.Rows.{cell_at, cell_by, cell_of, cells_of, external_cell}
 use Rattle.heap_check.specs.RowValues.{FitTypes, FitsType, IsReadable, bytes_seen}
 
 -- EXTERNAL VALUES
 
 pub readable_in : (names : Names) (toast : Option (Bor Relation)) (r : Bor Relation) (chunks : List Chunk) → toast ≡ Some r → IsReadable names (option_copied toast) chunks → IsAttached names r.now × AllStand names r.now chunks
 readable_in names toast r chunks e h = subst (λ (t : Option (Bor Relation)). IsReadable names (option_copied t) chunks) e h
-
-joined_by : (names : Names) (r : Relation) (chunks : List Chunk) (id n : ℕ) → joined_below names r chunks id n ≡ each_below (numbered_bytes names (base_of r) (size_of r) chunks id) n
-unfolding each_below
-joined_by names r chunks id zero = refl
-joined_by names r chunks id (suc n) = ap (λ (bytes : List ℕ). bytes ++ numbered_bytes names (base_of r) (size_of r) chunks id n) (joined_by names r chunks id n)
-
-joined_is : (names : Names) (r : Relation) (chunks : List Chunk) (p : ToastPointer) → value_of_pointer names r chunks p ≡ joined_bytes names (base_of r) (size_of r) chunks p
-unfolding value_of_pointer joined_bytes
-joined_is names r chunks p = joined_by names r chunks p.value_id (chunk_count (stored_size p))
 
 -- the state is that of a whole value
 pub whole_is_plain : (chunks : List Chunk) (p : ToastPointer) (s : ToastState) (bytes : List ℕ) → s ≡ state.Whole bytes → IsState chunks p s → is_compressed p ≡ false
@@ -56,7 +47,7 @@ whole_has s bytes value e h = subst (λ (t : ToastState). HasBytes t value) e h
 pub whole_cell : (names : Names) (toast : Option (Bor Relation)) (r : Bor Relation) (chunks : List Chunk) (p : ToastPointer) (bytes : List ℕ) → toast ≡ Some r → is_compressed p ≡ false → bytes ≡ value_of_pointer names r.now chunks p → ◌≡◌ {A = Option Cell} (Some (cell.Held (value.Bytes bytes))) (Some (external_cell (bytes_seen names (option_copied toast) chunks p) p))
 whole_cell names toast r chunks p bytes e plain is =
     let seen : bytes_seen names (option_copied toast) chunks p ≡ joined_bytes names (base_of r.now) (size_of r.now) chunks p = ap (λ (t : Option (Bor Relation)). bytes_seen names (option_copied t) chunks p) e in
-    let same : bytes ≡ bytes_seen names (option_copied toast) chunks p = is ∙ joined_is names r.now chunks p ∙ sym seen in
+    let same : bytes ≡ bytes_seen names (option_copied toast) chunks p = is ∙ sym seen in
     ap (λ (b : List ℕ). Some (cell.Held (value.Bytes b))) same ∙ ap (λ (c : Cell). Some c) (sym (cond-false _ _ _ plain))
 
 -- EACH COLUMN

@@ -15,6 +15,7 @@ pub mod Files
 pub mod Faults
 pub mod Rows
 pub mod RowFaults
+pub mod RowFits
 pub mod RowValues
 pub mod RowPages
 pub mod RowCursor

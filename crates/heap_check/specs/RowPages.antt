@@ -8,6 +8,7 @@ use Rattle.page_layout.specs.declared.page.PageKind.TheVariants.{Heap}
 use Rattle.rel_files.specs.declared.relation.Relation.{Relation}
 use Rattle.key_orders.specs.declared.columns.ColType.{ColType}
 use Rattle.case_file.specs.Record.{CaseRecord}
+use Rattle.case_file.specs.declared.case.Column.{Column}
 use Rattle.tuple_head.specs.Head.{has_misplaced_attributes}
 use Rattle.varlena_attrs.specs.Forms.{Attribute}
 use Rattle.varlena_attrs.specs.Reading.{Outcome}
@@ -25,6 +26,7 @@ use Rattle.heap_check.specs.declared.verdict.ItemVerdict.TheVariants.{Passes}
 use Rattle.heap_check.specs.Heap.{items_doubts, items_findings, table_of}
 use Rattle.heap_check.specs.Kept.{live_attributes, states_of}
 use Rattle.heap_check.specs.declared.row_values.RowValues.{RowValues}
+use Rattle.heap_check.specs.RowFits.{FitColumns}
 use Rattle.heap_check.specs.RowValues.{IsThere, bytes_seen}
 use Rattle.heap_check.specs.Rows.{each_from, item_rows, toast_bytes}
 use Rattle.heap_check.specs.Verdicts.{Table, head_at, item_verdict}
@@ -85,11 +87,11 @@ abbrev pub rows_given : Option LiveRow → List LiveRow
 rows_given (Some row) = row ∷ []
 rows_given None = []
 
--- a row has places in its block, and one cell for each column
-pub record IsRow (columns : ℕ) (row : LiveRow) : Type 0 where
+-- a row has places in its block, and one cell for each column, which fits it
+pub record IsRow (columns : List Column) (row : LiveRow) : Type 0 where
   pub tid : 1 ≤ row.tid.item
   pub root : 1 ≤ row.root.item
-  pub cells : length row.cells ≡ columns
+  pub cells : FitColumns columns row.cells
 
 -- the page after a look at its tuples: only the memory for attributes and how many items are done may differ
 pub record IsSamePage (old new : RowPage) : Type 0 where

@@ -10,8 +10,8 @@ use Rattle.key_orders.specs.Types.{HasLength}
 use Rattle.varlena_attrs.specs.declared.places.ToastPointer.{ToastPointer}
 use Rattle.toast_chunks.specs.Chunks.{is_whole}
 use Rattle.toast_chunks.specs.Stored.{AllStand}
+use Rattle.toast_chunks.specs.Value.{joined_bytes}
 use Rattle.toast_chunks.specs.declared.map.Chunk.{Chunk}
-use Rattle.heap_check.specs.Rows.{joined_bytes}
 
 -- The TOAST table
 

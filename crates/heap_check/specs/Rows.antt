@@ -1,7 +1,6 @@
 -- The live rows of a heap: each live tuple with the root of its chain and a cell for each column.
-use Rattle.std.specs.Prelude.{ℕ, zero, suc, pos, if◌then◌else◌, List, [], ◌∷◌, ◌++◌, length, find, slice_get, unwrap_or}
+use Rattle.std.specs.Prelude.{ℕ, zero, suc, if◌then◌else◌, List, [], ◌∷◌, ◌++◌, length, slice_get, unwrap_or}
 use Rattle.std.specs.Prelude.{Option, Some, None}
-use Rattle.std.specs.Option.{option_map_or}
 use Rattle.outside.specs.Outside.{Names}
 use Rattle.page_layout.specs.Page.{count_of, page_rule_of}
 use Rattle.page_layout.specs.declared.page.PageKind.TheVariants.{Heap}
@@ -14,9 +13,8 @@ use Rattle.varlena_attrs.specs.Forms.{Attribute, Null, Missing, Plain, Packed, E
 use Rattle.varlena_attrs.specs.declared.places.ToastPointer.{ToastPointer}
 use Rattle.liveness.specs.declared.states.ItemState.{ItemState}
 use Rattle.hot_chains.specs.Chains.{is_live_tuple, root_of}
-use Rattle.toast_chunks.specs.Chunks.{is_numbered}
-use Rattle.toast_chunks.specs.Pointer.{chunk_count, is_compressed, stored_size}
-use Rattle.toast_chunks.specs.Stored.{content_at}
+use Rattle.toast_chunks.specs.Pointer.{is_compressed}
+use Rattle.toast_chunks.specs.Value.{joined_bytes}
 use Rattle.toast_chunks.specs.declared.map.Chunk.{Chunk}
 use Rattle.heap_check.specs.declared.row_cells.Cell.{Cell}
 use Rattle.heap_check.specs.declared.row_cells.Cell.TheVariants as cell
@@ -30,19 +28,7 @@ use Rattle.heap_check.specs.Verdicts.{item_verdict}
 
 -- Values in a TOAST table
 
--- the bytes of a chunk at its place in a file, whose full segments have so many blocks
-abbrev pub chunk_bytes : Names → List ℕ → ℕ → Chunk → List ℕ
-chunk_bytes names file size c = unwrap_or (content_at (block_of names file size c.tid.block) c.tid.item) []
-
--- the bytes of chunk k of a value
-abbrev pub numbered_bytes : Names → List ℕ → ℕ → List Chunk → ℕ → ℕ → List ℕ
-numbered_bytes names file size chunks id k = option_map_or (chunk_bytes names file size) (find (is_numbered id (pos k)) chunks) []
-
--- the bytes of all chunks of a pointer's value, by rising number
-unfoldable pub joined_bytes : Names → List ℕ → ℕ → List Chunk → ToastPointer → List ℕ
-joined_bytes names file size chunks p = each_below (numbered_bytes names file size chunks p.value_id) (chunk_count (stored_size p))
-
--- the same in the TOAST table of a case, where it has one
+-- the bytes that a pointer stands for in the TOAST table of a case, where it has one
 abbrev pub bytes_in_toast : Names → ℕ → List Chunk → Option (List ℕ × ℕ) → ToastPointer → List ℕ
 bytes_in_toast names size chunks None p = []
 bytes_in_toast names size chunks (Some t) p = joined_bytes names t.0 size chunks p

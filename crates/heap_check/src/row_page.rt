@@ -16,6 +16,7 @@ ghost use Rattle.hot_chains.specs.Chains.{is_live_tuple};
 ghost use Rattle.hot_chains.specs.Table.{AreChains};
 ghost use Rattle.heap_tuples.specs.Places.{tuple_at};
 ghost use Rattle.case_file.specs.Record.{CaseRecord};
+ghost use Rattle.heap_check.specs.RowFits.{FitColumns, HasMissing};
 ghost use Rattle.heap_check.specs.RowPages.{AreStates, HasAttributes, IsRead, IsRow, rows_given};
 ghost use Rattle.heap_check.specs.RowValues.{IsReadable, IsThere, bytes_seen};
 ghost use Rattle.heap_check.specs.Rows.{cells_of, item_rows, root_item};
@@ -81,11 +82,12 @@ fn cells_at<F: Files>(
 ) -> Result<Option<Cells>, RowFault>
     requires readable { IfTold F.seen files.old (λ names. IsReadable names (option_copied values.now.toast) values.now.chunks.now) }
     requires columns { columns.now ≡ map (λ c. c.ctype) values.now.columns.now }
+    requires missing { All HasMissing values.now.columns.now }
     requires aligned { All HasAlignment columns.now }
     ensures told { Tells F.seen files.old result (λ found names. (list : List Attribute)
         → HasAttributes columns.now page.now item list → All (IsThere (option_copied values.now.toast) values.now.chunks.now) list
         → found ≡ Some (cells_of (bytes_seen names (option_copied values.now.toast) values.now.chunks.now) values.now.columns.now list)) }
-    ensures each { IfOk result (λ found. IfSome found (λ cells. length cells ≡ length values.now.columns.now)) }
+    ensures fits { IfOk result (λ found. IfSome found (FitColumns values.now.columns.now)) }
     ensures asked { Asked F.seen files.old files.new result RowFault.ReadFault }
 {
     let Some(tuple) = tuple_at(page, item) else {
@@ -256,6 +258,7 @@ impl RowPage {
     ) -> Result<Option<LiveRow>, RowFault>
         requires readable { IfTold F.seen files.old (λ names. IsReadable names (option_copied values.now.toast) values.now.chunks.now) }
         requires columns { columns.now ≡ map (λ c. c.ctype) values.now.columns.now }
+        requires missing { All HasMissing values.now.columns.now }
         requires aligned { All HasAlignment columns.now }
         requires first { 1 ≤ item }
         requires last { item ≤ length self.old.work.states.items }
@@ -263,7 +266,7 @@ impl RowPage {
             → IsKnown case names (option_copied values.now.toast) values.now.chunks.now self.old item
             → AreValuesOf case names values.now
             → rows_given found ≡ item_rows case names self.old.block self.old.bytes item) }
-        ensures rows { IfOk result (λ found. IfSome found (IsRow (length values.now.columns.now))) }
+        ensures rows { IfOk result (λ found. IfSome found (IsRow values.now.columns.now)) }
         ensures page { IsSamePage self.old self.new }
         ensures done { self.new.done ≡ self.old.done }
         ensures asked { Asked F.seen files.old files.new result RowFault.ReadFault }
@@ -295,6 +298,7 @@ impl RowPage {
     ) -> Result<Option<LiveRow>, RowFault>
         requires readable { IfTold F.seen files.old (λ names. IsReadable names (option_copied values.now.toast) values.now.chunks.now) }
         requires columns { columns.now ≡ map (λ c. c.ctype) values.now.columns.now }
+        requires missing { All HasMissing values.now.columns.now }
         requires aligned { All HasAlignment columns.now }
         requires first { 1 ≤ item }
         requires last { item ≤ length self.old.work.states.items }
@@ -302,7 +306,7 @@ impl RowPage {
             → IsKnown case names (option_copied values.now.toast) values.now.chunks.now self.old item
             → AreValuesOf case names values.now
             → rows_given found ≡ item_rows case names self.old.block self.old.bytes item) }
-        ensures rows { IfOk result (λ found. IfSome found (IsRow (length values.now.columns.now))) }
+        ensures rows { IfOk result (λ found. IfSome found (IsRow values.now.columns.now)) }
         ensures page { IsSamePage self.old self.new }
         ensures done { OnOk result (self.new.done ≡ item) }
         ensures left { OnErr result (self.new.done ≡ self.old.done) }
@@ -324,6 +328,7 @@ impl RowPage {
     ) -> Result<Option<LiveRow>, RowFault>
         requires readable { IfTold F.seen files.old (λ names. IsReadable names (option_copied values.now.toast) values.now.chunks.now) }
         requires columns { columns.now ≡ map (λ c. c.ctype) values.now.columns.now }
+        requires missing { All HasMissing values.now.columns.now }
         requires aligned { All HasAlignment columns.now }
         ensures first { Tells F.seen files.old result (λ found names. (case : CaseRecord)
             → IsInHand case names (option_copied values.now.toast) values.now.chunks.now self.old
@@ -335,7 +340,7 @@ impl RowPage {
             → AreValuesOf case names values.now
             → length self.old.work.states.items ≤ 2042
             → rows_in_hand case names self.new ≡ rows_in_hand case names self.old)) }
-        ensures rows { IfOk result (λ found. IfSome found (IsRow (length values.now.columns.now))) }
+        ensures rows { IfOk result (λ found. IfSome found (IsRow values.now.columns.now)) }
         ensures page { IsSamePage self.old self.new }
         ensures asked { Asked F.seen files.old files.new result RowFault.ReadFault }
     {

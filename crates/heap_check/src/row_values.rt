@@ -1,10 +1,12 @@
 //! The values of a live tuple as cells of its row.
-ghost use Rattle.std.specs.Prelude.{◌≡◌, ◌<◌, ◌≤◌, All, Some, length, map, IfOk, IfSome};
+ghost use Rattle.std.specs.Prelude.{◌≡◌, ◌<◌, ◌≤◌, All, None, Some, length, map, IfOk, IfSome};
+ghost use Rattle.key_orders.specs.Types.{fixed_length};
 ghost use Rattle.std.specs.Option.{option_copied};
 ghost use Rattle.outside.specs.Outside.{Asked, IfTold, Tells};
 ghost use Rattle.varlena_attrs.specs.Shown.{IsWithin, shown_at, shown_in};
 ghost use Rattle.heap_check.specs.RowFaults.{row_fault_of};
 ghost use Rattle.heap_check.specs.Rows.{cell_of, cells_of, external_cell};
+ghost use Rattle.heap_check.specs.RowFits.{FitColumns, FitsColumn, HasMissing};
 ghost use Rattle.heap_check.specs.RowValues.{FitTypes, FitsType, IsReadable, IsThere, IsWholeIn, bytes_seen};
 
 use crate::fault::RowFault;
@@ -41,9 +43,12 @@ fn external_cell<F: Files>(
     alloc: Global,
     files: &mut F,
     values: &RowValues<'_>,
+    column: &Column,
     p: ToastPointer,
 ) -> Result<Option<Cell>, RowFault>
     requires readable { IfTold F.seen files.old (λ names. IsReadable names (option_copied values.now.toast) values.now.chunks.now) }
+    requires varlena { fixed_length column.now.ctype ≡ None }
+    ensures fits { IfOk result (λ found. IfSome found (FitsColumn column.now)) }
     ensures told { Tells F.seen files.old result (λ found names. IsWholeIn (option_copied values.now.toast) values.now.chunks.now p
         → found ≡ Some (external_cell (bytes_seen names (option_copied values.now.toast) values.now.chunks.now p) p)) }
     ensures asked { Asked F.seen files.old files.new result RowFault.ReadFault }
@@ -71,6 +76,8 @@ fn cell_of<F: Files>(
     requires readable { IfTold F.seen files.old (λ names. IsReadable names (option_copied values.now.toast) values.now.chunks.now) }
     requires within { IsWithin (length body.now) place }
     requires fits { FitsType column.now.ctype (shown_at body.now place) }
+    requires missing { HasMissing column.now }
+    ensures fits { IfOk result (λ found. IfSome found (FitsColumn column.now)) }
     ensures told { Tells F.seen files.old result (λ found names. IsThere (option_copied values.now.toast) values.now.chunks.now (shown_at body.now place)
         → found ≡ Some (cell_of (bytes_seen names (option_copied values.now.toast) values.now.chunks.now) column.now (shown_at body.now place))) }
     ensures asked { Asked F.seen files.old files.new result RowFault.ReadFault }
@@ -84,7 +91,7 @@ fn cell_of<F: Files>(
         }
         AttrPlace::Packed { .. } => Ok(Some(Cell::Packed)),
         AttrPlace::External { start } => {
-            external_cell(alloc, files, values, pointer_at(body, start))
+            external_cell(alloc, files, values, column, pointer_at(body, start))
         }
     }
 }
@@ -101,9 +108,10 @@ pub(crate) fn cells_of<F: Files>(
     requires readable { IfTold F.seen files.old (λ names. IsReadable names (option_copied values.now.toast) values.now.chunks.now) }
     requires within { All (IsWithin (length body.now)) places.now }
     requires fit { FitTypes (map (λ c. c.ctype) values.now.columns.now) (shown_in body.now places.now) }
+    requires missing { All HasMissing values.now.columns.now }
     ensures told { Tells F.seen files.old result (λ found names. All (IsThere (option_copied values.now.toast) values.now.chunks.now) (shown_in body.now places.now)
         → found ≡ Some (cells_of (bytes_seen names (option_copied values.now.toast) values.now.chunks.now) values.now.columns.now (shown_in body.now places.now))) }
-    ensures each { IfOk result (λ found. IfSome found (λ cells. length cells ≡ length values.now.columns.now)) }
+    ensures fits { IfOk result (λ found. IfSome found (FitColumns values.now.columns.now)) }
     ensures asked { Asked F.seen files.old files.new result RowFault.ReadFault }
 {
     let mut cells = Cells::new(alloc);

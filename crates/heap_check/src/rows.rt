@@ -102,7 +102,7 @@ impl<'a> LiveRows<'a> {
         ensures first { Tells F.seen files.old result (λ found names. rows_left names self.old ≡ rows_given found ++ rows_left names self.new) }
         ensures done { Tells F.seen files.old result (λ found names. IsPageDoneBy names found self.new) }
         ensures left { OnErr result (IfTold F.seen files.old (λ names. rows_left names self.new ≡ rows_left names self.old)) }
-        ensures row { IfOk result (λ found. IfSome found (IsRow (length (case_of self.old).columns))) }
+        ensures row { IfOk result (λ found. IfSome found (IsRow (case_of self.old).columns)) }
         ensures told { IfTold F.seen files.old (λ names. AreRowsOf names self.new) }
         ensures heap { IsSameHeap self.old self.new }
         ensures next { self.new.next ≡ self.old.next }
@@ -158,7 +158,7 @@ impl<'a> LiveRows<'a> {
         ensures first { Tells F.seen files.old result (λ found names. rows_left names self.old ≡ rows_given found ++ rows_left names self.new) }
         ensures done { Tells F.seen files.old result (λ found names. IsPageDoneBy names found self.new) }
         ensures left { OnErr result (IfTold F.seen files.old (λ names. rows_left names self.new ≡ rows_left names self.old)) }
-        ensures row { IfOk result (λ found. IfSome found (IsRow (length (case_of self.old).columns))) }
+        ensures row { IfOk result (λ found. IfSome found (IsRow (case_of self.old).columns)) }
         ensures told { IfTold F.seen files.old (λ names. AreRowsOf names self.new) }
         ensures heap { IsSameHeap self.old self.new }
         ensures next { OnOk result (self.new.next ≡ self.old.next + 1) }
@@ -180,7 +180,7 @@ impl<'a> LiveRows<'a> {
         requires told { IfTold F.seen files.old (λ names. AreRowsOf names self.old) }
         ensures first { Tells F.seen files.old result (λ found names. IsFirst found (rows_left names self.old) (rows_left names self.new)) }
         ensures left { OnErr result (IfTold F.seen files.old (λ names. rows_left names self.new ≡ rows_left names self.old)) }
-        ensures row { IfOk result (λ found. IfSome found (IsRow (length (case_of self.old).columns))) }
+        ensures row { IfOk result (λ found. IfSome found (IsRow (case_of self.old).columns)) }
         ensures told { IfTold F.seen files.old (λ names. AreRowsOf names self.new) }
         ensures heap { IsSameHeap self.old self.new }
         ensures asked { Asked F.seen files.old files.new result RowFault.ReadFault }

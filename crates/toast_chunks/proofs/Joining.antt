@@ -14,7 +14,8 @@ use Rattle.toast_chunks.specs.InHand.{PushesChunk}
 use Rattle.toast_chunks.specs.Index.{FindsChunk}
 use Rattle.toast_chunks.specs.Pointer.{chunk_count, chunk_size, stored_size}
 use Rattle.toast_chunks.specs.Stored.{AllStand, StandsIn}
-use Rattle.toast_chunks.specs.Value.{bytes_at, bytes_of, joined_below, value_of_pointer}
+use Rattle.toast_chunks.specs.Value.{chunk_bytes, joined_below, joined_bytes, numbered_bytes, value_of_pointer}
+use Rattle.rel_files.specs.Relation.{base_of, size_of}
 use Rattle.toast_chunks.proofs.Counts.{one}
 use Rattle.toast_chunks.proofs.Finding.{in_list, is_whole-tells, numbered_once, unfit_found}
 
@@ -52,18 +53,18 @@ found_stands names toast chunks p k c w lt all finds =
     let has : has_size c.size (chunk_size (stored_size p) k) ≡ true = elim (cases_Bool (has_size c.size (chunk_size (stored_size p) k))) [ inl e ↦ e | inr e ↦ absurd (unfit_found chunks p k (Some c) lt finds e w) ] in
     subst P at (all finds.0 c lt_i) (sized c.size _ has)
 
-pub joined_next : (names : Names) (toast : Relation) (chunks : List Chunk) (p : ToastPointer) (k : ℕ) (c : Chunk) (old new : List ℕ) → is_whole chunks p ≡ true → k < chunk_count (stored_size p) → AllStand names toast chunks → FindsChunk chunks p.value_id (pos k) (Some c) → PushesChunk names toast c.tid old new → old ≡ joined_below names toast chunks p.value_id k → new ≡ joined_below names toast chunks p.value_id (k + 1)
+pub joined_next : (names : Names) (toast : Relation) (chunks : List Chunk) (p : ToastPointer) (k : ℕ) (c : Chunk) (old new : List ℕ) → is_whole chunks p ≡ true → k < chunk_count (stored_size p) → AllStand names toast chunks → FindsChunk chunks p.value_id (pos k) (Some c) → PushesChunk names toast c.tid old new → old ≡ joined_below names (base_of toast) (size_of toast) chunks p.value_id k → new ≡ joined_below names (base_of toast) (size_of toast) chunks p.value_id (k + 1)
 joined_next names toast chunks p k c old new whole lt all finds pushes so_far =
     let w = is_whole-tells chunks p whole in
     let stands = found_stands names toast chunks p k c w lt all finds in
     let is : find (is_numbered p.value_id (pos k)) chunks ≡ Some c = find_once (is_numbered p.value_id (pos k)) chunks finds.0 c (numbered_once chunks p w k lt) finds.1 finds.2 in
-    let bytes : bytes_at names toast chunks p.value_id k ≡ bytes_of names toast c = ap (λ (o : Option Chunk). option_map_or (bytes_of names toast) o []) is in
-    rw add-one (pushes stands.block stands.item.row ∙ ap (λ xs. xs ++ bytes_of names toast c) so_far ∙ ap (λ ys. joined_below names toast chunks p.value_id k ++ ys) (sym bytes))
+    let bytes : numbered_bytes names (base_of toast) (size_of toast) chunks p.value_id k ≡ chunk_bytes names (base_of toast) (size_of toast) c = ap (λ (o : Option Chunk). option_map_or (chunk_bytes names (base_of toast) (size_of toast)) o []) is in
+    rw add-one (pushes stands.block stands.item.row ∙ ap (λ xs. xs ++ chunk_bytes names (base_of toast) (size_of toast) c) so_far ∙ ap (λ ys. joined_below names (base_of toast) (size_of toast) chunks p.value_id k ++ ys) (sym bytes))
 
 -- each chunk of a whole value is found
 pub none_not_found : (chunks : List Chunk) (p : ToastPointer) (k : ℕ) → is_whole chunks p ≡ true → k < chunk_count (stored_size p) → FindsChunk chunks p.value_id (pos k) None → ⊥
 none_not_found chunks p k whole lt finds = unfit_found chunks p k None lt finds refl (is_whole-tells chunks p whole)
 
-pub joined_all : (names : Names) (toast : Relation) (chunks : List Chunk) (p : ToastPointer) (k : ℕ) (bytes : List ℕ) → k ≡ chunk_count (stored_size p) → bytes ≡ joined_below names toast chunks p.value_id k → bytes ≡ value_of_pointer names toast chunks p
-unfolding value_of_pointer
-joined_all names toast chunks p k bytes e h = h ∙ ap (joined_below names toast chunks p.value_id) e
+pub joined_all : (names : Names) (toast : Relation) (chunks : List Chunk) (p : ToastPointer) (k : ℕ) (bytes : List ℕ) → k ≡ chunk_count (stored_size p) → bytes ≡ joined_below names (base_of toast) (size_of toast) chunks p.value_id k → bytes ≡ value_of_pointer names toast chunks p
+unfolding joined_bytes
+joined_all names toast chunks p k bytes e h = h ∙ ap (joined_below names (base_of toast) (size_of toast) chunks p.value_id) e

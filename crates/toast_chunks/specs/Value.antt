@@ -13,23 +13,28 @@ use Rattle.toast_chunks.specs.Chunks.{is_numbered, is_whole}
 use Rattle.toast_chunks.specs.Pointer.{chunk_count, is_compressed, stored_size}
 use Rattle.toast_chunks.specs.Stored.{content_at}
 
--- the bytes of a chunk at its place in the relation
-abbrev pub bytes_of : Names → Relation → Chunk → List ℕ
-bytes_of names toast c =
-    unwrap_or (content_at (block_of names (base_of toast) (size_of toast) c.tid.block) c.tid.item) []
+-- the bytes of a chunk at its place in a file, whose full segments have so many blocks
+abbrev pub chunk_bytes : Names → List ℕ → ℕ → Chunk → List ℕ
+chunk_bytes names file size c = unwrap_or (content_at (block_of names file size c.tid.block) c.tid.item) []
 
 -- the bytes of chunk k of a value
-abbrev pub bytes_at : Names → Relation → List Chunk → ℕ → ℕ → List ℕ
-bytes_at names toast chunks id k = option_map_or (bytes_of names toast) (find (is_numbered id (pos k)) chunks) []
+abbrev pub numbered_bytes : Names → List ℕ → ℕ → List Chunk → ℕ → ℕ → List ℕ
+numbered_bytes names file size chunks id k =
+    option_map_or (chunk_bytes names file size) (find (is_numbered id (pos k)) chunks) []
 
 -- the bytes of the chunks 0 to n - 1 of a value
-abbrev pub joined_below : Names → Relation → List Chunk → ℕ → ℕ → List ℕ
-joined_below names toast chunks id zero = []
-joined_below names toast chunks id (suc n) = joined_below names toast chunks id n ++ bytes_at names toast chunks id n
+abbrev pub joined_below : Names → List ℕ → ℕ → List Chunk → ℕ → ℕ → List ℕ
+joined_below names file size chunks id zero = []
+joined_below names file size chunks id (suc n) =
+    joined_below names file size chunks id n ++ numbered_bytes names file size chunks id n
 
 -- the bytes of all chunks of a pointer's value, by rising number
-unfoldable pub value_of_pointer : Names → Relation → List Chunk → ToastPointer → List ℕ
-value_of_pointer names toast chunks p = joined_below names toast chunks p.value_id (chunk_count (stored_size p))
+unfoldable pub joined_bytes : Names → List ℕ → ℕ → List Chunk → ToastPointer → List ℕ
+joined_bytes names file size chunks p = joined_below names file size chunks p.value_id (chunk_count (stored_size p))
+
+-- the same in a relation
+abbrev pub value_of_pointer : Names → Relation → List Chunk → ToastPointer → List ℕ
+value_of_pointer names toast chunks p = joined_bytes names (base_of toast) (size_of toast) chunks p
 
 -- a value is broken, compressed, or whole
 abbrev pub IsState : List Chunk → ToastPointer → ToastState → Type 0

@@ -1,4 +1,8 @@
-use Rattle.std.proofs.Common.{◌≡◌, ◌<◌, length, sym, ap, ◌∙◌, arith}
+use Rattle.std.proofs.Common.{◌≡◌, ◌<◌, List, length, get_or, sym, ap, subst, ◌∙◌, arith}
+use Rattle.std.proofs.lemmas.List.Elements.{All-get_or}
+use Rattle.heap_check.specs.declared.row_cells.Cell.{Cell}
+use Rattle.heap_check.specs.RowFits.{HasMissing}
+use Rattle.heap_check.proofs.RowFits.{FitFirst, fit_all, fit_next, some_fits}
 use Rattle.std.specs.Option.{option_copied}
 use Rattle.varlena_attrs.specs.declared.places.AttrPlace.{AttrPlace}
 use Rattle.outside.proofs.Asking.{Passed-next, Passed-none}
@@ -11,6 +15,7 @@ pub loop-k-init : goal.loop-k-init
 loop-k-init g c = record {
   told = λ names told all. c.new-cells.ensures ∙ sym (each_below-none _);
   each = ap length c.new-cells.ensures;
+  fits = subst (λ (cells : List Cell). FitFirst c.args.values.now.columns.now cells) (sym c.new-cells.ensures) tt;
   asked = Passed-none;
 }
 
@@ -41,9 +46,21 @@ loop-k-preserved g c =
           let there = there_at (IsThere (option_copied c.args.values.now.toast) c.args.values.now.chunks.now) c.args.body.now c.args.places.now c.loop-k.k AttrPlace.Null (omega (arith, lt, long)) all in
           next_cell (bytes_seen names (option_copied c.args.values.now.toast) c.args.values.now.chunks.now) columns c.args.body.now c.args.places.now c.loop-k.k c.index-values-k.result AttrPlace.Null c.in_ok-cell.field-0 c.in-Some.cell c.loop-k.cells c.push.new.self lt (omega (arith, lt, long)) (c.loop-k.invariant.told names told all) (c.in_ok-cell.ensures.told names (c.loop-k.invariant.asked.same ∙ told) there) c.in-Some.is c.in_ok-push-in-Some.ensures.ok;
       each = length_next c.loop-k.cells c.push.new.self c.in-Some.cell c.loop-k.k c.loop-k.invariant.each c.in_ok-push-in-Some.ensures.ok;
+      fits = subst (λ (cells : List Cell). FitFirst columns cells) (sym c.in_ok-push-in-Some.ensures.ok)
+          (fit_next columns c.loop-k.cells c.loop-k.k c.index-values-k.result c.in-Some.cell c.loop-k.invariant.each lt c.loop-k.invariant.fits
+          (some_fits (get_or columns c.loop-k.k c.index-values-k.result) c.in_ok-cell.field-0 c.in-Some.cell c.in-Some.is c.in_ok-cell.ensures.fits));
       asked = Passed-next c.loop-k.invariant.asked c.in_ok-cell.ensures.asked;
     }
 
 pub returns-clause-told : goal.returns-clause-told
 returns-clause-told g c = λ names told all.
     all_cells (bytes_seen names (option_copied c.args.values.now.toast) c.args.values.now.chunks.now) c.args.values.now.columns.now _ c.loop-k.k c.loop-k.cells (omega (arith, c.loop-k-test.false, c.loop-k.auto.k-end)) (c.loop-k.invariant.told names told all)
+
+pub cell_of-requires-clause-missing : goal.cell_of-requires-clause-missing
+cell_of-requires-clause-missing g c =
+    All-get_or HasMissing c.args.values.now.columns.now c.loop-k.k c.index-values-k.result (omega (arith, c.loop-k-test.true, c.loop-k.auto.k-end)) c.requires.missing
+
+pub returns-clause-fits : goal.returns-clause-fits
+returns-clause-fits g c =
+    let long : length c.loop-k.cells ≡ length c.args.values.now.columns.now = omega (arith, c.loop-k.invariant.each, c.loop-k-test.false, c.loop-k.auto.k-end) in
+    fit_all c.args.values.now.columns.now c.loop-k.cells long c.loop-k.invariant.fits

@@ -3,7 +3,7 @@ use Rattle.liveness.specs.declared.states.ItemState.{ItemState}
 use Rattle.heap_check.specs.declared.row_values.RowValues.{RowValues}
 use Rattle.heap_check.specs.declared.rows.LiveRows.{LiveRows}
 use Rattle.heap_check.specs.RowCursor.{heap_of}
-use Rattle.heap_check.proofs.RowSources.{columns_aligned, done_by, first_told, given_by, kept_by, left_told, moved, readable}
+use Rattle.heap_check.proofs.RowSources.{columns_aligned, done_by, first_told, given_by, kept_by, left_told, missing_fit, moved, readable}
 use Rattle.heap_check.proofs.RowSteps.{known_same}
 use Rattle.heap_check.proofs.rows.LiveRows.next_in_hand.Goals as goal
 
@@ -39,3 +39,6 @@ returns-clause-left g c =
     let new : LiveRows = record { case = c.args.self.now.case; heap = c.args.self.now.heap; logs = c.args.self.now.logs; page = c.next_row.new.self; next = c.args.self.now.next } in
     kept_by c.next_row.result g.F.Files.seen c.args.files.now c.args.self.now new refl refl
     (left_told c.next_row.result g.F.Files.seen c.args.files.now c.args.self.now c.next_row.new.self values c.as_ref.ensures.value refl c.columns.ensures c.requires.told c.next_row.ensures.left)
+
+pub next_row-requires-clause-missing : goal.next_row-requires-clause-missing
+next_row-requires-clause-missing g c = missing_fit c.args.self.now.case.now c.columns.result.now c.sound.ensures c.columns.ensures
