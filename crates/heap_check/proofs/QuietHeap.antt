@@ -31,7 +31,6 @@ use Rattle.varlena_attrs.specs.declared.places.ToastPointer.{ToastPointer}
 use Rattle.liveness.specs.LogFiles.{LogFiles, log_files_of}
 use Rattle.liveness.specs.declared.states.ItemState.{ItemState}
 use Rattle.hot_chains.specs.Chains.{item_at}
-use Rattle.hot_chains.specs.Table.{AreChains}
 use Rattle.toast_chunks.specs.Chunks.{is_whole}
 use Rattle.heap_tuples.specs.Places.{tuple_at}
 use Rattle.toast_chunks.specs.declared.map.Chunk.{Chunk}
@@ -58,6 +57,7 @@ use Rattle.heap_check.specs.Heap.{IsQuiet, block_doubts, block_externals, block_
 use Rattle.heap_check.specs.Kept.{attributes_read, external_at, external_in, externals_by, externals_in, item_externals, item_state, state_in, live_attributes, states_of}
 use Rattle.heap_check.specs.Pages.{finding_at}
 use Rattle.heap_check.specs.RowPages.{AreStates, IsInHand, IsReadAs, rows_given, rows_in_hand}
+use Rattle.heap_check.specs.RowRoots.{AreRoots}
 use Rattle.heap_check.specs.RowValues.{IsThere}
 use Rattle.heap_check.specs.Rows.{block_rows, each_from, item_rows, page_rows}
 use Rattle.heap_check.specs.Values.{first_value_rule, is_stray_pointer, pointer_rule_of, value_rule, values_rule}
@@ -296,8 +296,8 @@ block_is : (case : CaseRecord) (names : Names) (block : ℕ) → page_rows case 
 unfolding block_rows
 block_is case names block = refl
 
-pub loaded : (case : CaseRecord) (names : Names) (toast : Option Relation) (chunks : List Chunk) (page : RowPage) (block : ℕ) → IsQuiet case names → block < heap_blocks case names → IsToastNamed case.segment_blocks case.toast toast → chunks ≡ chunks_of case names → page.block ≡ block → page.done ≡ 0 → page.bytes ≡ block_of names case.heap_file case.segment_blocks block → AreStates (table_of case names) block page.bytes page.work.states.items → AreChains block page.work.states.items page.work.chains → IsLoaded case names toast chunks page block
-loaded case names toast chunks page block quiet below named are at done bytes says chains =
+pub loaded : (case : CaseRecord) (names : Names) (toast : Option Relation) (chunks : List Chunk) (page : RowPage) (block : ℕ) → IsQuiet case names → block < heap_blocks case names → IsToastNamed case.segment_blocks case.toast toast → chunks ≡ chunks_of case names → page.block ≡ block → page.done ≡ 0 → page.bytes ≡ block_of names case.heap_file case.segment_blocks block → AreStates (table_of case names) block page.bytes page.work.states.items → AreRoots block page.work.states.items page.roots → IsLoaded case names toast chunks page block
+loaded case names toast chunks page block quiet below named are at done bytes says roots =
     let table : Table = table_of case names in
     let B : List ℕ = block_of names case.heap_file case.segment_blocks block in
     let q = subst (λ (p : List ℕ). IsQuietPage table block p) (sym bytes) (quiet_block case names block quiet below) in
@@ -312,7 +312,7 @@ loaded case names toast chunks page block quiet below named are at done bytes sa
           let verdict : item_verdict table page.bytes i ≡ Passes state = state_at table page.bytes i pass first within ∙ ap (λ (s : List ItemState). Passes (item_at s i)) (sym states) in
           record {
             states = states;
-            chains = subst (λ (b : ℕ). AreChains b page.work.states.items page.work.chains) (sym at) chains;
+            roots = subst (λ (b : ℕ). AreRoots b page.work.states.items page.roots) (sym at) roots;
             verdict = verdict;
             attributes = λ live.
                 let sound = sound_tuple table page.bytes i state verdict live in

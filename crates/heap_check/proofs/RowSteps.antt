@@ -7,14 +7,14 @@ use Rattle.case_file.specs.Record.{CaseRecord}
 use Rattle.liveness.specs.declared.states.ItemState.{ItemState}
 use Rattle.rel_files.specs.declared.relation.Relation.{Relation}
 use Rattle.toast_chunks.specs.declared.map.Chunk.{Chunk}
-use Rattle.hot_chains.specs.Table.{AreChains}
-use Rattle.hot_chains.specs.declared.table.Chains.{Chains}
 use Rattle.heap_check.specs.Below.{each_below, each_below-next, each_below-none, each_upto, each_upto-next, each_upto-none}
 use Rattle.heap_check.specs.Heap.{heap_blocks}
 use Rattle.hot_chains.specs.Chains.{is_live_tuple, item_at}
 use Rattle.heap_check.specs.Heap.{table_of}
 use Rattle.heap_check.specs.Kept.{live_attributes, states_of}
 use Rattle.heap_check.specs.RowCursor.{rows_left, rows_unread}
+use Rattle.heap_check.specs.declared.row_roots.Roots.{Roots}
+use Rattle.heap_check.specs.RowRoots.{AreRoots}
 use Rattle.heap_check.specs.RowPages.{HasAttributes, IsFirst, IsInHand, IsSamePage, rows_given, rows_in_hand}
 use Rattle.heap_check.specs.RowValues.{IsThere}
 use Rattle.heap_check.specs.Verdicts.{item_verdict}
@@ -110,7 +110,7 @@ same_as a b c first second = record {
   block = second.block ∙ first.block;
   bytes = second.bytes ∙ first.bytes;
   states = second.states ∙ first.states;
-  chains = second.chains ∙ first.chains;
+  roots = second.roots ∙ first.roots;
 }
 
 -- what is known of a page is known of it later
@@ -119,7 +119,7 @@ known_same case names toast chunks old new same known = λ i first last.
     let here = known i first (subst (λ (s : List ItemState). i ≤ length s) same.states last) in
     record {
       states = same.states ∙ here.states ∙ ap (λ (p : List ℕ). states_of (table_of case names) p) (sym same.bytes);
-      chains = subst (λ (c : Chains). AreChains new.block new.work.states.items c) (sym same.chains) (subst (λ (s : List ItemState). AreChains new.block s old.work.chains) (sym same.states) (subst (λ (b : ℕ). AreChains b old.work.states.items old.work.chains) (sym same.block) here.chains));
+      roots = subst (λ (r : Roots). AreRoots new.block new.work.states.items r) (sym same.roots) (subst (λ (s : List ItemState). AreRoots new.block s old.roots) (sym same.states) (subst (λ (b : ℕ). AreRoots b old.work.states.items old.roots) (sym same.block) here.roots));
       verdict = ap (λ (p : List ℕ). item_verdict (table_of case names) p i) same.bytes ∙ here.verdict ∙ ap (λ (s : List ItemState). Passes (item_at s i)) (sym same.states);
       attributes = subst (λ (s : List ItemState). is_live_tuple (item_at s i) ≡ true → HasAttributes (map (λ c. c.ctype) case.columns) new.bytes i (live_attributes (table_of case names) new.bytes i)) (sym same.states) (subst (λ (p : List ℕ). is_live_tuple (item_at old.work.states.items i) ≡ true → HasAttributes (map (λ c. c.ctype) case.columns) p i (live_attributes (table_of case names) p i)) (sym same.bytes) here.attributes);
       values = subst (λ (s : List ItemState). is_live_tuple (item_at s i) ≡ true → All (IsThere toast chunks) (live_attributes (table_of case names) new.bytes i)) (sym same.states) (subst (λ (p : List ℕ). is_live_tuple (item_at old.work.states.items i) ≡ true → All (IsThere toast chunks) (live_attributes (table_of case names) p i)) (sym same.bytes) here.values);

@@ -16,6 +16,7 @@ pub mod Faults
 pub mod Rows
 pub mod RowFaults
 pub mod RowFits
+pub mod RowRoots
 pub mod RowValues
 pub mod RowPages
 pub mod RowCursor

@@ -17,7 +17,6 @@ use Rattle.varlena_attrs.specs.declared.fault.AttrFault.TheVariants as fault
 use Rattle.varlena_attrs.specs.declared.places.ToastPointer.{ToastPointer}
 use Rattle.liveness.specs.declared.states.ItemState.{ItemState}
 use Rattle.hot_chains.specs.Chains.{is_live_tuple, item_at}
-use Rattle.hot_chains.specs.Table.{AreChains}
 use Rattle.heap_tuples.specs.Places.{IsTupleAt, tuple_at}
 use Rattle.toast_chunks.specs.declared.map.Chunk.{Chunk}
 use Rattle.heap_check.specs.declared.row_page.RowPage.{RowPage}
@@ -27,6 +26,7 @@ use Rattle.heap_check.specs.Heap.{items_doubts, items_findings, table_of}
 use Rattle.heap_check.specs.Kept.{live_attributes, states_of}
 use Rattle.heap_check.specs.declared.row_values.RowValues.{RowValues}
 use Rattle.heap_check.specs.RowFits.{FitColumns}
+use Rattle.heap_check.specs.RowRoots.{AreRoots}
 use Rattle.heap_check.specs.RowValues.{IsThere, bytes_seen}
 use Rattle.heap_check.specs.Rows.{each_from, item_rows, toast_bytes}
 use Rattle.heap_check.specs.Verdicts.{Table, head_at, item_verdict}
@@ -59,10 +59,10 @@ AreStates table block page states =
 
 -- The page in hand
 
--- what is known of item i of the page in hand: its state, its chain, and if it is live its values
+-- what is known of item i of the page in hand: its state, its root, and if it is live its values
 pub record IsKnown (case : CaseRecord) (names : Names) (toast : Option Relation) (chunks : List Chunk) (page : RowPage) (i : ℕ) : Type 0 where
   pub states : page.work.states.items ≡ states_of (table_of case names) page.bytes
-  pub chains : AreChains page.block page.work.states.items page.work.chains
+  pub roots : AreRoots page.block page.work.states.items page.roots
   pub verdict : item_verdict (table_of case names) page.bytes i ≡ Passes (item_at page.work.states.items i)
   pub attributes : is_live_tuple (item_at page.work.states.items i) ≡ true → HasAttributes (map (λ c. c.ctype) case.columns) page.bytes i (live_attributes (table_of case names) page.bytes i)
   pub values : is_live_tuple (item_at page.work.states.items i) ≡ true → All (IsThere toast chunks) (live_attributes (table_of case names) page.bytes i)
@@ -98,7 +98,7 @@ pub record IsSamePage (old new : RowPage) : Type 0 where
   pub block : new.block ≡ old.block
   pub bytes : new.bytes ≡ old.bytes
   pub states : new.work.states.items ≡ old.work.states.items
-  pub chains : new.work.chains ≡ old.work.chains
+  pub roots : new.roots ≡ old.roots
 
 -- the values are those of a case: its columns, and the bytes that stand in its TOAST table
 pub record AreValuesOf (case : CaseRecord) (names : Names) (values : RowValues) : Type 0 where

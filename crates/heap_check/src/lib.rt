@@ -15,6 +15,7 @@ mod page;
 mod row_cells;
 mod row_laws;
 mod row_page;
+mod row_roots;
 mod row_values;
 mod rows;
 mod storage;

@@ -11,27 +11,26 @@ ghost use Rattle.varlena_attrs.specs.Forms.{Attribute};
 ghost use Rattle.key_orders.specs.Types.{HasAlignment};
 ghost use Rattle.varlena_attrs.specs.Shown.{IsWithin, shown_in};
 ghost use Rattle.heap_tuples.specs.Tuples.{attributes_in};
-ghost use Rattle.liveness.specs.declared.states.ItemState.{ItemState as State};
 ghost use Rattle.hot_chains.specs.Chains.{is_live_tuple};
-ghost use Rattle.hot_chains.specs.Table.{AreChains};
 ghost use Rattle.heap_tuples.specs.Places.{tuple_at};
 ghost use Rattle.case_file.specs.Record.{CaseRecord};
 ghost use Rattle.heap_check.specs.RowFits.{FitColumns, HasMissing};
 ghost use Rattle.heap_check.specs.RowPages.{AreStates, HasAttributes, IsRead, IsRow, rows_given};
 ghost use Rattle.heap_check.specs.RowValues.{IsReadable, IsThere, bytes_seen};
-ghost use Rattle.heap_check.specs.Rows.{cells_of, item_rows, root_item};
+ghost use Rattle.heap_check.specs.RowRoots.{AreRoots};
+ghost use Rattle.heap_check.specs.Rows.{cells_of, item_rows};
 ghost use Rattle.heap_check.specs.Tables.{table_seen};
 
 use crate::fault::RowFault;
 use crate::items::judge_items;
 use crate::kept::Kept;
 use crate::row_cells::Cells;
+use crate::row_roots::Roots;
 use crate::row_values::{RowValues, cells_of};
 use crate::rows::LiveRow;
 use crate::table::TableRules;
 use crate::work::Work;
 use heap_tuples::{read_tuple, tuple_at};
-use hot_chains::Chains;
 use key_orders::{ColType, Tid};
 use liveness::{ItemState, Life, Memory, Remembering};
 use outside::{Files, NoMemory};
@@ -106,8 +105,10 @@ pub(crate) struct RowPage {
     /// Its block.
     pub(crate) block: u32,
     pub(crate) bytes: [u8; 8192],
-    /// The states of its items and their chains.
+    /// The states of its items.
     pub(crate) work: Work,
+    /// The roots from which they are found.
+    pub(crate) roots: Roots,
     /// How many of its items are done.
     pub(crate) done: u16,
 }
@@ -119,23 +120,6 @@ fn is_live(state: ItemState) -> bool
     match state {
         ItemState::Tuple { judged, .. } => judged.life == Life::Live,
         ItemState::Unused | ItemState::Dead | ItemState::Redirect(_) => false,
-    }
-}
-
-// The lowest root from which an item is found, or the item itself where there is none, which can't be of
-// a live tuple of a sound heap.
-#[tactic(auto, unfolding(hot_chains::specs::Table::root_in))]
-fn root_item(chains: &Chains, item: u16) -> u16
-    requires { 1 ≤ item }
-    ensures root { (block : ℕ) (items : List State) → item ≤ length items → AreChains block items chains.now → result ≡ root_item block items item }
-    ensures some { 1 ≤ result }
-{
-    if chains.len() < item as usize {
-        return item;
-    }
-    match chains.root_of(item) {
-        Some(root) => root,
-        None => item,
     }
 }
 
@@ -184,11 +168,12 @@ impl RowPage {
             block: 0,
             bytes: [0u8; 8192],
             work: Work::new(alloc)?,
+            roots: Roots::new(alloc),
             done: 0,
         })
     }
 
-    // Reads a block of the heap, and finds the states and the chains of its items.
+    // Reads a block of the heap, and finds the states and the roots of its items.
     fn read<F: Files>(
         &mut self,
         alloc: Global,
@@ -205,7 +190,7 @@ impl RowPage {
         ensures done { OnOk result (self.new.done ≡ 0) }
         ensures bytes { OnOk result (IfTold F.seen files.old (λ names. self.new.bytes ≡ block_of names (base_of heap.now) (size_of heap.now) block)) }
         ensures states { OnOk result (IfTold F.seen files.old (λ names. AreStates (table_seen names table.now) block self.new.bytes self.new.work.states.items)) }
-        ensures chains { OnOk result (AreChains block self.new.work.states.items self.new.work.chains) }
+        ensures roots { OnOk result (AreRoots block self.new.work.states.items self.new.roots) }
         ensures few { OnOk result (length self.new.work.states.items ≤ 2042) }
         ensures asked { Asked F.seen files.old files.new result RowFault.ReadFault }
     {
@@ -213,7 +198,7 @@ impl RowPage {
         self.done = 0;
         heap.read_block(files, block, &mut self.bytes)?;
         find_states(alloc, files, table, &self.bytes, block, &mut self.work)?;
-        self.work.chains.fill(block, &self.work.states)?;
+        self.roots.find(block, &self.work.states)?;
         Ok(())
     }
 
@@ -235,7 +220,7 @@ impl RowPage {
         ensures done { OnOk result (self.new.done ≡ 0) }
         ensures bytes { OnOk result (IfTold F.seen files.old (λ names. self.new.bytes ≡ block_of names (base_of heap.now) (size_of heap.now) block)) }
         ensures states { OnOk result (IfTold F.seen files.old (λ names. AreStates (table_seen names table.now) block self.new.bytes self.new.work.states.items)) }
-        ensures chains { OnOk result (AreChains block self.new.work.states.items self.new.work.chains) }
+        ensures roots { OnOk result (AreRoots block self.new.work.states.items self.new.roots) }
         ensures few { length self.new.work.states.items ≤ 2042 }
         ensures empty { OnErr result (self.new.work.states.items ≡ []) }
         ensures asked { Asked F.seen files.old files.new result RowFault.ReadFault }
@@ -279,7 +264,7 @@ impl RowPage {
             return Ok(None);
         };
         let block = self.block;
-        let root = root_item(&self.work.chains, item);
+        let root = self.roots.root_of(item);
         Ok(Some(LiveRow {
             tid: Tid { block, item },
             root: Tid { block, item: root },

@@ -32,4 +32,4 @@ returns-clause-told g c = λ names told case known are.
     let has = known_attributes case names toast chunks c.args.self.now c.args.item c.args.columns.now c.args.values.now.columns.now known c.requires.columns are.columns live in
     let list = live_attributes (table_of case names) c.args.self.now.bytes c.args.item in
     let cells = some_cells c.in_ok-cells.field-0 c.in-Some.cells _ c.in-Some.is (c.in_ok-cells.ensures.told names told list has (known.values live)) in
-    one_row case names c.args.self.now.block c.args.self.now.bytes c.args.item (item_at states c.args.item) states (bytes_seen names toast chunks) c.args.values.now.columns.now c.root_item-root.result c.in-Some.cells known.verdict live known.states (c.root_item-root.ensures.root c.args.self.now.block states c.requires.last known.chains) are.bytes are.columns cells
+    one_row case names c.args.self.now.block c.args.self.now.bytes c.args.item (item_at states c.args.item) states (bytes_seen names toast chunks) c.args.values.now.columns.now c.root_of-root.result c.in-Some.cells known.verdict live known.states (c.root_of-root.ensures.root c.args.self.now.block states c.requires.last known.roots) are.bytes are.columns cells

@@ -32,7 +32,7 @@ returns-clause-left g c = λ names told.
     let below = heap_count case names c.args.self.now.next heap.files.heap here.heap.files.heap c.requires.inside in
     let bytes = c.in_ok-take.ensures.bytes names told ∙ ap (λ (f : List ℕ). block_of names f (size_of heap.files.heap) c.args.self.now.next) here.belong.heap.named ∙ ap (λ (n : ℕ). block_of names case.heap_file n c.args.self.now.next) here.belong.heap.sized in
     let states = case_states names case c.heap_rules-table.result c.args.self.now.next c.take.new.self.bytes c.take.new.self.work.states.items rules.rel (rules.columns ∙ c.new-columns.ensures ∙ c.column_types.ensures) rules.toast rules.map (rules.logs ∙ here.logs) (c.in_ok-take.ensures.states names told) in
-    let load = loaded case names heap.files.toast heap.chunks c.take.new.self c.args.self.now.next here.quiet below here.belong.toast here.heap.chunks c.in_ok-take.ensures.block c.in_ok-take.ensures.done bytes states c.in_ok-take.ensures.chains in
+    let load = loaded case names heap.files.toast heap.chunks c.take.new.self c.args.self.now.next here.quiet below here.belong.toast here.heap.chunks c.in_ok-take.ensures.block c.in_ok-take.ensures.done bytes states c.in_ok-take.ensures.roots in
     let new : LiveRows = record { case = c.args.self.now.case; heap = c.args.self.now.heap; logs = c.args.self.now.logs; page = c.take.new.self; next = c.args.self.now.next + 1 } in
     unread_next names c.args.self.now new (c.requires.done names told) refl refl below load.rows
 
@@ -45,5 +45,5 @@ returns-clause-told g c = λ names told.
     let below = heap_count case names c.args.self.now.next heap.files.heap here.heap.files.heap c.requires.inside in
     let bytes = c.in_ok-take.ensures.bytes names told ∙ ap (λ (f : List ℕ). block_of names f (size_of heap.files.heap) c.args.self.now.next) here.belong.heap.named ∙ ap (λ (n : ℕ). block_of names case.heap_file n c.args.self.now.next) here.belong.heap.sized in
     let states = case_states names case c.heap_rules-table.result c.args.self.now.next c.take.new.self.bytes c.take.new.self.work.states.items rules.rel (rules.columns ∙ c.new-columns.ensures ∙ c.column_types.ensures) rules.toast rules.map (rules.logs ∙ here.logs) (c.in_ok-take.ensures.states names told) in
-    let load = loaded case names heap.files.toast heap.chunks c.take.new.self c.args.self.now.next here.quiet below here.belong.toast here.heap.chunks c.in_ok-take.ensures.block c.in_ok-take.ensures.done bytes states c.in_ok-take.ensures.chains in
+    let load = loaded case names heap.files.toast heap.chunks c.take.new.self c.args.self.now.next here.quiet below here.belong.toast here.heap.chunks c.in_ok-take.ensures.block c.in_ok-take.ensures.done bytes states c.in_ok-take.ensures.roots in
     moved names c.args.self.now c.take.new.self (c.args.self.now.next + 1) here c.take.ensures.few load.hand
