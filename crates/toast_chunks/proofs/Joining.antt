@@ -1,5 +1,5 @@
 -- One more chunk of a whole value.
-use Rattle.std.proofs.Common.{◌≡◌, ℕ, zero, suc, ◌+◌, ◌<◌, ◌≤◌, Bool, true, List, [], ◌∷◌, ◌++◌, get_or, refl, ap, sym, subst, ◌∙◌, inl, inr, arith, add-one}
+use Rattle.std.proofs.Common.{◌≡◌, ℕ, zero, suc, ◌+◌, ◌<◌, ◌≤◌, Bool, true, List, [], ◌∷◌, ◌++◌, get_or, refl, ap, sym, subst, ◌∙◌, inl, inr, arith, add-one, append_assoc}
 use Rattle.std.specs.Prelude.{pos, count_by, find, slice_get, Option, Some, None, IsSome}
 use Rattle.std.specs.Option.{option_map_or}
 use Rattle.std.proofs.lemmas.Bool.{cases_Bool, cond-false, cond-true, false≢true}
@@ -10,7 +10,7 @@ use Rattle.rel_files.specs.declared.relation.Relation.{Relation}
 use Rattle.varlena_attrs.specs.declared.places.ToastPointer.{ToastPointer}
 use Rattle.toast_chunks.specs.declared.map.Chunk.{Chunk}
 use Rattle.toast_chunks.specs.Chunks.{IsWhole, has_size, is_numbered, is_whole}
-use Rattle.toast_chunks.specs.InHand.{PushesChunk}
+use Rattle.toast_chunks.specs.InHand.{Grows, PushesChunk}
 use Rattle.toast_chunks.specs.Index.{FindsChunk}
 use Rattle.toast_chunks.specs.Pointer.{chunk_count, chunk_size, stored_size}
 use Rattle.toast_chunks.specs.Stored.{AllStand, StandsIn}
@@ -53,18 +53,29 @@ found_stands names toast chunks p k c w lt all finds =
     let has : has_size c.size (chunk_size (stored_size p) k) ≡ true = elim (cases_Bool (has_size c.size (chunk_size (stored_size p) k))) [ inl e ↦ e | inr e ↦ absurd (unfit_found chunks p k (Some c) lt finds e w) ] in
     subst P at (all finds.0 c lt_i) (sized c.size _ has)
 
-pub joined_next : (names : Names) (toast : Relation) (chunks : List Chunk) (p : ToastPointer) (k : ℕ) (c : Chunk) (old new : List ℕ) → is_whole chunks p ≡ true → k < chunk_count (stored_size p) → AllStand names toast chunks → FindsChunk chunks p.value_id (pos k) (Some c) → PushesChunk names toast c.tid old new → old ≡ joined_below names (base_of toast) (size_of toast) chunks p.value_id k → new ≡ joined_below names (base_of toast) (size_of toast) chunks p.value_id (k + 1)
-joined_next names toast chunks p k c old new whole lt all finds pushes so_far =
+pub joined_next : (names : Names) (toast : Relation) (chunks : List Chunk) (p : ToastPointer) (k : ℕ) (c : Chunk) (begun old new : List ℕ) → is_whole chunks p ≡ true → k < chunk_count (stored_size p) → AllStand names toast chunks → FindsChunk chunks p.value_id (pos k) (Some c) → PushesChunk names toast c.tid old new → old ≡ begun ++ joined_below names (base_of toast) (size_of toast) chunks p.value_id k → new ≡ begun ++ joined_below names (base_of toast) (size_of toast) chunks p.value_id (k + 1)
+joined_next names toast chunks p k c begun old new whole lt all finds pushes so_far =
     let w = is_whole-tells chunks p whole in
     let stands = found_stands names toast chunks p k c w lt all finds in
     let is : find (is_numbered p.value_id (pos k)) chunks ≡ Some c = find_once (is_numbered p.value_id (pos k)) chunks finds.0 c (numbered_once chunks p w k lt) finds.1 finds.2 in
     let bytes : numbered_bytes names (base_of toast) (size_of toast) chunks p.value_id k ≡ chunk_bytes names (base_of toast) (size_of toast) c = ap (λ (o : Option Chunk). option_map_or (chunk_bytes names (base_of toast) (size_of toast)) o []) is in
-    rw add-one (pushes stands.block stands.item.row ∙ ap (λ xs. xs ++ chunk_bytes names (base_of toast) (size_of toast) c) so_far ∙ ap (λ ys. joined_below names (base_of toast) (size_of toast) chunks p.value_id k ++ ys) (sym bytes))
+    let before = joined_below names (base_of toast) (size_of toast) chunks p.value_id k in
+    rw add-one (
+      pushes stands.block stands.item.row
+      ∙ ap (λ xs. xs ++ chunk_bytes names (base_of toast) (size_of toast) c) so_far
+      ∙ append_assoc begun before (chunk_bytes names (base_of toast) (size_of toast) c)
+      ∙ ap (λ ys. begun ++ (before ++ ys)) (sym bytes)
+    )
+
+-- what was added before and what is added after it are added together
+pub grown : (a b c : List ℕ) → Grows a b → Grows b c → Grows a c
+grown a b c first second =
+    (first.0 ++ second.0, second.1 ∙ ap (λ xs. xs ++ second.0) first.1 ∙ append_assoc a first.0 second.0)
 
 -- each chunk of a whole value is found
 pub none_not_found : (chunks : List Chunk) (p : ToastPointer) (k : ℕ) → is_whole chunks p ≡ true → k < chunk_count (stored_size p) → FindsChunk chunks p.value_id (pos k) None → ⊥
 none_not_found chunks p k whole lt finds = unfit_found chunks p k None lt finds refl (is_whole-tells chunks p whole)
 
-pub joined_all : (names : Names) (toast : Relation) (chunks : List Chunk) (p : ToastPointer) (k : ℕ) (bytes : List ℕ) → k ≡ chunk_count (stored_size p) → bytes ≡ joined_below names (base_of toast) (size_of toast) chunks p.value_id k → bytes ≡ value_of_pointer names toast chunks p
+pub joined_all : (names : Names) (toast : Relation) (chunks : List Chunk) (p : ToastPointer) (k : ℕ) (begun bytes : List ℕ) → k ≡ chunk_count (stored_size p) → bytes ≡ begun ++ joined_below names (base_of toast) (size_of toast) chunks p.value_id k → bytes ≡ begun ++ value_of_pointer names toast chunks p
 unfolding joined_bytes
-joined_all names toast chunks p k bytes e h = h ∙ ap (joined_below names (base_of toast) (size_of toast) chunks p.value_id) e
+joined_all names toast chunks p k begun bytes e h = h ∙ ap (λ n. begun ++ joined_below names (base_of toast) (size_of toast) chunks p.value_id n) e

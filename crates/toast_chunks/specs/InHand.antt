@@ -12,6 +12,10 @@ abbrev pub IsInHand : Names → Relation → Option ℕ → List ℕ → Type 0
 IsInHand names toast None page = Unit {0}
 IsInHand names toast (Some b) page = page ≡ block_of names (base_of toast) (size_of toast) b
 
+-- some bytes were added at the end, or none
+abbrev pub Grows : List ℕ → List ℕ → Type 0
+Grows old new = (more : List ℕ) × (new ≡ old ++ more)
+
 -- where a row stands at a place of the relation, the bytes of its chunk are added
 abbrev pub PushesChunk : Names → Relation → Tid → List ℕ → List ℕ → Type 0
 PushesChunk names toast tid old new =

@@ -1,8 +1,9 @@
 //! The value of a pointer.
-ghost use Rattle.std.specs.Prelude.{◌≡◌, ◌≤◌, true, IfOk};
+ghost use Rattle.std.specs.Prelude.{◌≡◌, ◌++◌, ◌≤◌, true, IfOk, OnOk};
 ghost use Rattle.outside.specs.Outside.{Asked, IfTold, Tells};
 ghost use Rattle.rel_files.specs.Relation.{IsAttached};
 ghost use Rattle.toast_chunks.specs.Chunks.{is_whole};
+ghost use Rattle.toast_chunks.specs.InHand.{Grows};
 ghost use Rattle.toast_chunks.specs.Stored.{AllStand};
 ghost use Rattle.toast_chunks.specs.Value.{HasBytes, IsState, value_of_pointer};
 
@@ -27,7 +28,60 @@ pub enum ToastState {
     Broken,
 }
 
-// The bytes of a whole value's chunks, joined by their numbers.
+/// Memory in which chunks are read. It serves one value after another.
+#[derive(Drop)]
+pub struct ChunkReader {
+    page: [u8; 8192],
+    attrs: AttrBuffer,
+}
+
+impl ChunkReader {
+    /// Nothing is read yet.
+    pub fn new(alloc: Global) -> ChunkReader {
+        ChunkReader {
+            page: [0u8; 8192],
+            attrs: AttrBuffer::new(alloc),
+        }
+    }
+}
+
+/// Adds the bytes of a whole value's chunks to others, joined by their numbers. After an error a part of
+/// them may stand there.
+pub fn push_value<F: Files>(
+    files: &mut F,
+    toast: &Relation,
+    map: &ToastMap,
+    p: ToastPointer,
+    reader: &mut ChunkReader,
+    bytes: &mut Vec<u8>,
+) -> Result<(), ToastFault>
+    requires attached { IfTold F.seen files.old (λ names. IsAttached names toast.now) }
+    requires stand { IfTold F.seen files.old (λ names. AllStand names toast.now map.now) }
+    requires whole { is_whole map.now p ≡ true }
+    ensures bytes { OnOk result (IfTold F.seen files.old (λ names.
+        bytes.new.items ≡ bytes.old.items ++ value_of_pointer names toast.now map.now p)) }
+    ensures grows { Grows bytes.old.items bytes.new.items }
+    ensures asked { Asked F.seen files.old files.new result ToastFault.ReadFault }
+{
+    let mut in_hand = None;
+    for k in 0..chunk_count(stored_size(p)) {
+        match map.find(p.value_id, k) {
+            Some(chunk) => push_chunk(
+                files,
+                toast,
+                chunk.tid,
+                &mut reader.page,
+                &mut in_hand,
+                &mut reader.attrs,
+                bytes,
+            )?,
+            None => {}
+        }
+    }
+    Ok(())
+}
+
+// The bytes of a whole value.
 fn joined<F: Files>(
     alloc: Global,
     files: &mut F,
@@ -41,25 +95,10 @@ fn joined<F: Files>(
     ensures bytes { Tells F.seen files.old result (λ bytes names. bytes ≡ value_of_pointer names toast.now map.now p) }
     ensures asked { Asked F.seen files.old files.new result ToastFault.ReadFault }
 {
-    let mut page = [0u8; 8192];
-    let mut in_hand = None;
-    let mut buffer = AttrBuffer::new(alloc);
-    let mut bytes = Octets::new(alloc);
-    for k in 0..chunk_count(stored_size(p)) {
-        match map.find(p.value_id, k) {
-            Some(chunk) => push_chunk(
-                files,
-                toast,
-                chunk.tid,
-                &mut page,
-                &mut in_hand,
-                &mut buffer,
-                &mut bytes,
-            )?,
-            None => {}
-        }
-    }
-    Ok(bytes)
+    let mut reader = ChunkReader::new(alloc);
+    let mut bytes = Vec::new(alloc);
+    push_value(files, toast, map, p, &mut reader, &mut bytes)?;
+    Ok(Octets::from_vec(bytes))
 }
 
 /// The value of a pointer, by the chunks of a map, which stand in the TOAST table that is given. `Broken`

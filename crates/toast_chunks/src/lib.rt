@@ -17,7 +17,7 @@ mod stored;
 mod tests;
 mod value_chunks;
 
-pub use detoast::{ToastState, value};
+pub use detoast::{ChunkReader, ToastState, push_value, value};
 pub use fault::ToastFault;
 pub use laws::tests_are_sentences;
 pub use map::{Chunk, ToastMap};

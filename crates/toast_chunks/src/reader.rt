@@ -2,11 +2,11 @@
 ghost use Rattle.std.specs.Prelude.{◌≡◌, ◌<◌, OnOk, Some};
 ghost use Rattle.outside.specs.Outside.{Asked, IfTold};
 ghost use Rattle.rel_files.specs.Relation.{IsAttached, count_of};
-ghost use Rattle.toast_chunks.specs.InHand.{IsInHand, PushesChunk};
+ghost use Rattle.toast_chunks.specs.InHand.{Grows, IsInHand, PushesChunk};
 
 use crate::fault::ToastFault;
 use crate::stored::content_at;
-use key_orders::{Octets, Tid};
+use key_orders::Tid;
 use outside::Files;
 use rel_files::Relation;
 use varlena_attrs::AttrBuffer;
@@ -43,13 +43,14 @@ pub(crate) fn push_chunk<F: Files>(
     page: &mut [u8; 8192],
     in_hand: &mut Option<u32>,
     buffer: &mut AttrBuffer,
-    bytes: &mut Octets,
+    bytes: &mut Vec<u8>,
 ) -> Result<(), ToastFault>
     requires attached { IfTold F.seen files.old (λ names. IsAttached names toast.now) }
     requires hand { IfTold F.seen files.old (λ names. IsInHand names toast.now in_hand.old page.old) }
     ensures hand { IfTold F.seen files.old (λ names. IsInHand names toast.now in_hand.new page.new) }
     ensures bytes { OnOk result (IfTold F.seen files.old (λ names.
-        PushesChunk names toast.now tid bytes.old bytes.new)) }
+        PushesChunk names toast.now tid bytes.old.items bytes.new.items)) }
+    ensures grows { Grows bytes.old.items bytes.new.items }
     ensures asked { Asked F.seen files.old files.new result ToastFault.ReadFault }
 {
     if toast.blocks() <= tid.block {
@@ -57,8 +58,10 @@ pub(crate) fn push_chunk<F: Files>(
     }
     take_page(files, toast, tid.block, page, in_hand)?;
     match content_at(page, tid.item, buffer)? {
-        Some(content) => bytes.push_slice(content)?,
-        None => {}
+        Some(content) => match bytes.extend_from_slice(content) {
+            Ok(()) => Ok(()),
+            Err(_) => Err(ToastFault::NoMemory),
+        },
+        None => Ok(()),
     }
-    Ok(())
 }
