@@ -30,18 +30,25 @@ pub record IsOther (tree : Tree) (b : ℕ) : Type 0 where
 pub data BreaksTree (tree : Tree) (long : Option ℕ) : Rule → Place → Type 0 where
   long_segment : (k : ℕ) → long ≡ Some k → BreaksTree tree long S1 (Segment (Index tree.number) k)
   no_blocks : tree.blocks ≡ 0 → BreaksTree tree long M1 (block_place tree 0)
-  other_layout : 0 < tree.blocks → has_other_version (tree.block 0) ≡ true → BreaksTree tree long P1 (block_place tree 0)
-  unknown_flag : 0 < tree.blocks → has_unknown_page_flag (tree.block 0) ≡ true → BreaksTree tree long P2 (block_place tree 0)
-  bad_places : 0 < tree.blocks → has_bad_places Meta (tree.block 0) ≡ true → BreaksTree tree long P3 (block_place tree 0)
+  other_layout : 0 < tree.blocks → has_other_version (tree.block 0) ≡ true
+      → BreaksTree tree long P1 (block_place tree 0)
+  unknown_flag : 0 < tree.blocks → has_unknown_page_flag (tree.block 0) ≡ true
+      → BreaksTree tree long P2 (block_place tree 0)
+  bad_places : 0 < tree.blocks → has_bad_places Meta (tree.block 0) ≡ true
+      → BreaksTree tree long P3 (block_place tree 0)
   stray_byte : 0 < tree.blocks → is_new_but_written (tree.block 0) ≡ true → BreaksTree tree long P4 (block_place tree 0)
   no_metapage : 0 < tree.blocks → is_no_metapage (tree.block 0) ≡ true → BreaksTree tree long M1 (block_place tree 0)
-  bad_root : 0 < tree.blocks → (meta_of (tree.block 0)).version ≡ 4 → has_bad_root tree.blocks (meta_of (tree.block 0)) ≡ true → BreaksTree tree long M2 (block_place tree 0)
-  in_block : (b : ℕ) (rule : Rule) (place : Place) → IsOther tree b → BreaksBlock tree b rule place → BreaksTree tree long rule place
+  bad_root : 0 < tree.blocks → (meta_of (tree.block 0)).version ≡ 4
+      → has_bad_root tree.blocks (meta_of (tree.block 0)) ≡ true → BreaksTree tree long M2 (block_place tree 0)
+  in_block : (b : ℕ) (rule : Rule) (place : Place) → IsOther tree b → BreaksBlock tree b rule place
+      → BreaksTree tree long rule place
 
 -- what of it can't be judged: all of it where its version isn't 4
 pub data DoubtsTree (tree : Tree) : Reason → Place → Type 0 where
-  old_version : first_rule tree.blocks (tree.block 0) ≡ None → (meta_of (tree.block 0)).version ≢ 4 → DoubtsTree tree U4 (block_place tree 0)
-  of_block : (b : ℕ) (reason : Reason) (place : Place) → IsOther tree b → DoubtsBlock tree b reason place → DoubtsTree tree reason place
+  old_version : first_rule tree.blocks (tree.block 0) ≡ None → (meta_of (tree.block 0)).version ≢ 4
+      → DoubtsTree tree U4 (block_place tree 0)
+  of_block : (b : ℕ) (reason : Reason) (place : Place) → IsOther tree b → DoubtsBlock tree b reason place
+      → DoubtsTree tree reason place
 
 -- the same of index n of a case
 abbrev pub Breaks : CaseRecord → Names → ℕ → Rule → Place → Type 0

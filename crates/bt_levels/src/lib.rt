@@ -9,6 +9,8 @@ mod judge;
 mod laws;
 mod meta;
 mod sound;
+#[cfg(test)]
+mod tests;
 
 pub use check::check_tree;
 pub use files::TreeFile;

@@ -28,13 +28,19 @@ pub record IsJudgedItem (page : List ℕ) (i : ℕ) : Type 0 where
 
 -- a rule that is asked of the page, of its siblings or of an item is broken there
 pub data BreaksBlock (tree : Tree) (b : ℕ) : Rule → Place → Type 0 where
-  alone : (rule : Rule) → Contains (lone_rules (is_idle (tree.block b))) rule → breaks_lone_rule (tree.block b) rule ≡ true → BreaksBlock tree b rule (block_place tree b)
-  siblings : IsJudged (tree.block b) → breaks_siblings tree.blocks tree.block b ≡ true → BreaksBlock tree b B12 (block_place tree b)
-  item : (i : ℕ) (rule : Rule) → IsJudgedItem (tree.block b) i → Contains (item_rules tree.specs tree.more (tree.block b) i) rule → breaks_item tree (tree.block b) i rule ≡ true → BreaksBlock tree b rule (item_place tree b i)
+  alone : (rule : Rule) → Contains (lone_rules (is_idle (tree.block b))) rule
+      → breaks_lone_rule (tree.block b) rule ≡ true → BreaksBlock tree b rule (block_place tree b)
+  siblings : IsJudged (tree.block b) → breaks_siblings tree.blocks tree.block b ≡ true
+      → BreaksBlock tree b B12 (block_place tree b)
+  item : (i : ℕ) (rule : Rule) → IsJudgedItem (tree.block b) i
+      → Contains (item_rules tree.specs tree.more (tree.block b) i) rule → breaks_item tree (tree.block b) i rule ≡ true
+      → BreaksBlock tree b rule (item_place tree b i)
 
 -- an item breaks none of its own rules, and has a compressed value
 pub data DoubtsBlock (tree : Tree) (b : ℕ) : Reason → Place → Type 0 where
-  packed : (i : ℕ) → IsJudgedItem (tree.block b) i → is_half_dead (opaque_of (tree.block b)) ≡ false → own_rule tree.specs tree.more (tree.block b) i ≡ None → has_packed tree.specs tree.more (tuple_of (tree.block b) i) ≡ true → DoubtsBlock tree b U5 (item_place tree b i)
+  packed : (i : ℕ) → IsJudgedItem (tree.block b) i → is_half_dead (opaque_of (tree.block b)) ≡ false
+      → own_rule tree.specs tree.more (tree.block b) i ≡ None
+      → has_packed tree.specs tree.more (tuple_of (tree.block b) i) ≡ true → DoubtsBlock tree b U5 (item_place tree b i)
 
 -- nothing is listed
 pub record AreEmpty (lists : Lists) : Type 0 where
@@ -47,4 +53,5 @@ pub data IsFoundAt (lists : Lists) (place : Place) : Type 0 where
 
 -- the place is among those that can't be judged
 pub data IsDoubtedAt (lists : Lists) (place : Place) : Type 0 where
-  doubted : (reason : Reason) → Contains lists.unjudged (record { reason = reason; place = place }) → IsDoubtedAt lists place
+  doubted : (reason : Reason) → Contains lists.unjudged (record { reason = reason; place = place })
+      → IsDoubtedAt lists place

@@ -19,8 +19,10 @@ ghost use Rattle.bt_pages.specs.Trees.{Tree};
 /// - `complete`, `certain`: where nothing is listed, no rule is broken and nothing is in doubt.
 /// - `kept`: and then a page that is part of the tree keeps all that the image of an index is built on.
 pub fn blocks_are_judged()
-    ensures sound { (tree : Tree) (b : ℕ) → All (λ f. BreaksBlock tree b f.rule f.place) (block_lists tree b).findings }
-    ensures doubts { (tree : Tree) (b : ℕ) → All (λ u. DoubtsBlock tree b u.reason u.place) (block_lists tree b).unjudged }
+    ensures sound { (tree : Tree) (b : ℕ)
+        → All (λ f. BreaksBlock tree b f.rule f.place) (block_lists tree b).findings }
+    ensures doubts { (tree : Tree) (b : ℕ)
+        → All (λ u. DoubtsBlock tree b u.reason u.place) (block_lists tree b).unjudged }
     ensures listed { (tree : Tree) (b : ℕ) (rule : Rule) (place : Place)
         → BreaksBlock tree b rule place → IsFoundAt (block_lists tree b) place }
     ensures doubted { (tree : Tree) (b : ℕ) (reason : Reason) (place : Place)

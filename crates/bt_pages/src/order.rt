@@ -33,6 +33,7 @@ pub struct Step<'p> {
 }
 
 // Whether item i isn't above the one before it, if there is one.
+#[inline]
 fn is_low(
     page: PageView<'_>,
     i: u16,
@@ -53,6 +54,7 @@ fn is_low(
 }
 
 // Reads item i, where it is plain.
+#[inline]
 pub fn read_item<'p>(
     page: PageView<'p>,
     i: u16,
