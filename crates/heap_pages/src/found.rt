@@ -73,9 +73,8 @@ fn add_late_column(
     attr: AttrPlace,
 ) -> Result<(), NoMemory>
     requires { IsWithin (length body.now) attr }
-    ensures {
-        OnOk result (late.new ≡ joined late.old
-            (late_in (toasted table.now) place (Some (shown_at body.now attr)))) }
+    ensures { OnOk result (late.new ≡ joined late.old
+        (late_in (toasted table.now) place (Some (shown_at body.now attr)))) }
 {
     match attr {
         AttrPlace::External { start } => add_late(late, table, place, pointer_at(body, start)),
@@ -113,9 +112,8 @@ fn add_chunk(
 ) -> Result<(), NoMemory>
     requires within { All (IsWithin (length body.now)) places.now }
     requires page { length body.now ≤ 8192 }
-    ensures {
-        OnOk result (chunks.new ≡ chunks.old
-            ++ chunk_by tid.block tid.item (row_of (shown_in body.now places.now))) }
+    ensures { OnOk result (chunks.new ≡ chunks.old
+        ++ chunk_by tid.block tid.item (row_of (shown_in body.now places.now))) }
 {
     match chunk_row(body, places) {
         None => Ok(()),

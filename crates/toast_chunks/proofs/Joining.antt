@@ -61,10 +61,10 @@ joined_next names toast chunks p k c begun old new whole lt all finds pushes so_
     let bytes : numbered_bytes names (base_of toast) (size_of toast) chunks p.value_id k ≡ chunk_bytes names (base_of toast) (size_of toast) c = ap (λ (o : Option Chunk). option_map_or (chunk_bytes names (base_of toast) (size_of toast)) o []) is in
     let before = joined_below names (base_of toast) (size_of toast) chunks p.value_id k in
     rw add-one (
-      pushes stands.block stands.item.row
-      ∙ ap (λ xs. xs ++ chunk_bytes names (base_of toast) (size_of toast) c) so_far
-      ∙ append_assoc begun before (chunk_bytes names (base_of toast) (size_of toast) c)
-      ∙ ap (λ ys. begun ++ (before ++ ys)) (sym bytes)
+    pushes stands.block stands.item.row
+    ∙ ap (λ xs. xs ++ chunk_bytes names (base_of toast) (size_of toast) c) so_far
+    ∙ append_assoc begun before (chunk_bytes names (base_of toast) (size_of toast) c)
+    ∙ ap (λ ys. begun ++ (before ++ ys)) (sym bytes)
     )
 
 -- what was added before and what is added after it are added together
