@@ -12,7 +12,7 @@ use Rattle.tuple_head.specs.declared.HeapHead.{HeapHead}
 use Rattle.tuple_head.proofs.Exact.{none_is_exact}
 use Rattle.varlena_attrs.specs.Forms.{Attribute}
 use Rattle.varlena_attrs.specs.Reading.{Outcome}
-use Rattle.heap_tuples.specs.Tuples.{attributes_in}
+use Rattle.heap_tuples.specs.Tuples.{IsReadAs, attributes_in}
 use Rattle.varlena_attrs.specs.declared.fault.AttrFault.TheVariants as fault
 use Rattle.liveness.specs.Life.{judged_of}
 use Rattle.liveness.specs.declared.states.ItemState.{ItemState}
@@ -26,7 +26,6 @@ use Rattle.reports.specs.declared.places.Reason.TheVariants as reason
 use Rattle.heap_check.specs.declared.verdict.ItemVerdict.{ItemVerdict}
 use Rattle.heap_check.specs.declared.verdict.ItemVerdict.TheVariants.{Passes, Breaks, InDoubt}
 use Rattle.heap_check.specs.Kept.{attributes_by, attributes_by_life, attributes_read, live_attributes}
-use Rattle.heap_check.specs.RowPages.{IsReadAs}
 use Rattle.heap_check.specs.Storage.{overlaps_lower_item}
 use Rattle.heap_check.specs.Values.{values_rule}
 use Rattle.heap_check.specs.Verdicts.{Table, flag_verdict, head_at, header_verdict, item_verdict, life_verdict, normal_verdict, tuple_verdict, values_verdict}

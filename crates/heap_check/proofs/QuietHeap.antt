@@ -26,7 +26,7 @@ use Rattle.case_file.specs.declared.case.Column.{Column}
 use Rattle.tuple_head.specs.declared.HeapHead.{HeapHead}
 use Rattle.varlena_attrs.specs.Forms.{Attribute, External, Missing, Null, Packed, Plain}
 use Rattle.varlena_attrs.specs.Reading.{Outcome}
-use Rattle.heap_tuples.specs.Tuples.{attributes_in}
+use Rattle.heap_tuples.specs.Tuples.{IsReadAs, attributes_in}
 use Rattle.varlena_attrs.specs.declared.places.ToastPointer.{ToastPointer}
 use Rattle.liveness.specs.LogFiles.{LogFiles, log_files_of}
 use Rattle.liveness.specs.declared.states.ItemState.{ItemState}
@@ -56,7 +56,7 @@ use Rattle.heap_check.specs.Tables.{bits_seen, table_seen, table_with}
 use Rattle.heap_check.specs.Heap.{IsQuiet, block_doubts, block_externals, block_findings, block_limit, chunks_of, doubts_by_rule, doubts_of, external_findings, externals_of, file_findings, findings_by_rule, findings_of, heap_blocks, heap_doubts, heap_findings, items_doubts, items_findings, joint_findings, kept_by_rule, log_files_in, page_doubts, page_externals, page_findings, table_of, value_findings, with_joint}
 use Rattle.heap_check.specs.Kept.{attributes_read, external_at, external_in, externals_by, externals_in, item_externals, item_state, state_in, live_attributes, states_of}
 use Rattle.heap_check.specs.Pages.{finding_at}
-use Rattle.heap_check.specs.RowPages.{AreStates, IsInHand, IsReadAs, rows_given, rows_in_hand}
+use Rattle.heap_check.specs.RowPages.{AreStates, IsInHand, rows_given, rows_in_hand}
 use Rattle.heap_check.specs.RowRoots.{AreRoots}
 use Rattle.heap_check.specs.RowValues.{IsThere}
 use Rattle.heap_check.specs.Rows.{block_rows, each_from, item_rows, page_rows}

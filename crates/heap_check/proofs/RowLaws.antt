@@ -29,7 +29,7 @@ use Rattle.hot_chains.specs.Chains.{IsRootOf, Reaches, is_live, is_live_tuple, i
 use Rattle.hot_chains.specs.Quiet.{HasOneRoot, IsLiveItem}
 use Rattle.hot_chains.proofs.Whole.{root_is_right}
 use Rattle.heap_tuples.specs.Places.{tuple_at}
-use Rattle.heap_tuples.specs.Tuples.{attributes_in, body_of, nulls_of}
+use Rattle.heap_tuples.specs.Tuples.{IsReadAs, attributes_in, body_of, nulls_of}
 use Rattle.toast_chunks.specs.Chunks.{IsWhole}
 use Rattle.toast_chunks.specs.Pointer.{is_compressed}
 use Rattle.heap_check.specs.declared.row_cells.Cell.{Cell}
@@ -42,7 +42,6 @@ use Rattle.heap_check.specs.Heap.{IsQuiet, chunks_of, heap_blocks, kept_by_rule,
 use Rattle.heap_check.specs.Kept.{live_attributes}
 use Rattle.heap_check.specs.Quiet.{IsStateOf, dead, redirect, tuple as of_tuple, unused}
 use Rattle.heap_check.specs.RowLaws.{AreAttributesOf, AreCellsOf, AreLiveTuples, IsBefore, IsCellOf, IsLiveAt, IsRowOfTuple, IsWholeRow, RowsAreLive, TidsRise, in_lower_block, in_place, in_same_block, in_toast_table, no_columns, of_missing, of_null, one_more, packed_in_place, packed_in_toast_table, states_at}
-use Rattle.heap_check.specs.RowPages.{IsReadAs}
 use Rattle.heap_check.specs.RowValues.{FitTypes}
 use Rattle.heap_check.specs.Rows.{block_rows, cell_at, cell_of, cells_of, external_cell, item_rows, page_rows, root_item, row_at, row_by, rows_of, toast_bytes}
 use Rattle.heap_check.specs.Verdicts.{Table, item_verdict}

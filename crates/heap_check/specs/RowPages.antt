@@ -1,6 +1,5 @@
 -- The page of a heap from which rows are taken.
 use Rattle.std.specs.Prelude.{◌≡◌, ℕ, ◌+◌, ◌-◌, ◌≤◌, true, false, List, [], ◌∷◌, All, length, map, Option, Some, None}
-use Rattle.std.specs.Prelude.{Ok, Err}
 use Rattle.std.specs.Option.{option_copied}
 use Rattle.outside.specs.Outside.{Names}
 use Rattle.page_layout.specs.Page.{item_of, page_rule_of}
@@ -11,9 +10,7 @@ use Rattle.case_file.specs.Record.{CaseRecord}
 use Rattle.case_file.specs.declared.case.Column.{Column}
 use Rattle.tuple_head.specs.Head.{has_misplaced_attributes}
 use Rattle.varlena_attrs.specs.Forms.{Attribute}
-use Rattle.varlena_attrs.specs.Reading.{Outcome}
-use Rattle.heap_tuples.specs.Tuples.{attributes_in}
-use Rattle.varlena_attrs.specs.declared.fault.AttrFault.TheVariants as fault
+use Rattle.heap_tuples.specs.Tuples.{IsReadAs, attributes_in}
 use Rattle.varlena_attrs.specs.declared.places.ToastPointer.{ToastPointer}
 use Rattle.liveness.specs.declared.states.ItemState.{ItemState}
 use Rattle.hot_chains.specs.Chains.{is_live_tuple, item_at}
@@ -31,24 +28,11 @@ use Rattle.heap_check.specs.RowValues.{IsThere, bytes_seen}
 use Rattle.heap_check.specs.Rows.{each_from, item_rows, toast_bytes}
 use Rattle.heap_check.specs.Verdicts.{Table, head_at, item_verdict}
 
--- these attributes were read; of want of memory nothing is said
-abbrev pub IsReadAs : Outcome → List Attribute → Type 0
-IsReadAs (Ok found) list = found ≡ list
-IsReadAs (Err (fault.PastEnd column)) list = ⊥
-IsReadAs (Err (fault.BadHeader column)) list = ⊥
-IsReadAs (Err (fault.BadTag column)) list = ⊥
-IsReadAs (Err fault.NoMemory) list = Unit {0}
-
--- and its attributes are these
+-- the item is a tuple, whose attributes are these
 pub record HasAttributes (columns : List ColType) (page : List ℕ) (i : ℕ) (list : List Attribute) : Type 0 where
   pub tuple : IsTupleAt page i
   pub header : has_misplaced_attributes (item_of page i).len (head_at page i) ≡ false
   pub read : IsReadAs (attributes_in columns (tuple_at page i)) list
-
--- attributes that can be read were read
-abbrev pub IsRead : List ColType → List ℕ → Option (List ℕ) → Type 0
-IsRead columns tuple (Some body) = Unit {0}
-IsRead columns tuple None = (list : List Attribute) → IsReadAs (attributes_in columns tuple) list → ⊥
 
 -- States
 

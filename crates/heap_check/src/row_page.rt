@@ -15,7 +15,7 @@ ghost use Rattle.hot_chains.specs.Chains.{is_live_tuple};
 ghost use Rattle.heap_tuples.specs.Places.{tuple_at};
 ghost use Rattle.case_file.specs.Record.{CaseRecord};
 ghost use Rattle.heap_check.specs.RowFits.{FitColumns, HasMissing};
-ghost use Rattle.heap_check.specs.RowPages.{AreStates, HasAttributes, IsRead, IsRow, rows_given};
+ghost use Rattle.heap_check.specs.RowPages.{AreStates, HasAttributes, IsRow, rows_given};
 ghost use Rattle.heap_check.specs.RowValues.{IsReadable, IsThere, bytes_seen};
 ghost use Rattle.heap_check.specs.RowRoots.{AreRoots};
 ghost use Rattle.heap_check.specs.Rows.{cells_of, item_rows};
@@ -30,7 +30,7 @@ use crate::row_values::{RowValues, cells_of};
 use crate::rows::LiveRow;
 use crate::table::TableRules;
 use crate::work::Work;
-use heap_tuples::{read_tuple, tuple_at};
+use heap_tuples::{try_read_tuple, tuple_at};
 use key_orders::{ColType, Tid};
 use liveness::{ItemState, Life, Memory, Remembering};
 use outside::{Files, NoMemory};
@@ -38,35 +38,10 @@ use page_layout::{PageKind, PageView};
 use rel_files::Relation;
 use reports::Report;
 use std::alloc::Global;
-use tuple_head::heap_head;
-use varlena_attrs::{AttrBuffer, AttrFault};
+use varlena_attrs::AttrBuffer;
 
 // How many items a page may have.
 const MAX_ITEMS: usize = 2042;
-
-// Reads the attributes of a tuple, if they can be read, and gives its body.
-fn read_attributes<'p>(
-    columns: &[ColType],
-    tuple: &'p [u8],
-    attrs: &mut AttrBuffer,
-) -> Result<Option<&'p [u8]>, NoMemory>
-    requires long { 24 ≤ length tuple.now }
-    requires aligned { All HasAlignment columns.now }
-    ensures value { IfOk result (λ found. IfSome found (λ body. attributes_in columns.now tuple.now ≡ Ok (shown_in body.now attrs.new))) }
-    ensures within { IfOk result (λ found. IfSome found (λ body. All (IsWithin (length body.now)) attrs.new)) }
-    ensures read { IfOk result (λ found. has_misplaced_attributes (length tuple.now) (tuple_head_of tuple.now) ≡ false → IsRead columns.now tuple.now (option_copied found)) }
-{
-    let head = heap_head(tuple);
-    let hoff = head.hoff as usize;
-    if hoff < 23 || tuple.len() < hoff {
-        return Ok(None);
-    }
-    match read_tuple(attrs, columns, tuple, head) {
-        Ok(body) => Ok(Some(body)),
-        Err(AttrFault::NoMemory) => Err(NoMemory),
-        Err(_) => Ok(None),
-    }
-}
 
 // The cells of the tuple at an item of a page; none where they can't be read, which can't be of a live
 // tuple of a sound heap.
@@ -92,7 +67,7 @@ fn cells_at<F: Files>(
     let Some(tuple) = tuple_at(page, item) else {
         return Ok(None);
     };
-    let Some(body) = read_attributes(columns, tuple, attrs)? else {
+    let Some(body) = try_read_tuple(attrs, columns, tuple)? else {
         return Ok(None);
     };
     cells_of(alloc, files, values, body, attrs.as_slice())

@@ -1,14 +1,15 @@
 //! The attributes of a heap tuple, whose header is given.
-ghost use Rattle.std.specs.Prelude.{◌≡◌, ◌≤◌, Ok, [], length, OnOk, OnErr, IfOk, IfErr, All};
+ghost use Rattle.std.specs.Prelude.{◌≡◌, ◌≤◌, false, Ok, [], length, OnOk, OnErr, IfOk, IfErr, IfSome, All};
 ghost use Rattle.std.specs.Option.{option_copied};
 ghost use Rattle.key_orders.specs.Types.{HasAlignment};
-ghost use Rattle.tuple_head.specs.Head.{tuple_head_of};
+ghost use Rattle.tuple_head.specs.Head.{has_misplaced_attributes, tuple_head_of};
 ghost use Rattle.varlena_attrs.specs.Inline.{are_inline};
 ghost use Rattle.varlena_attrs.specs.Shown.{FaultIn, IsWithin, shown_in};
-ghost use Rattle.heap_tuples.specs.Tuples.{attributes_in, body_of, nulls_of};
+ghost use Rattle.heap_tuples.specs.Tuples.{IsRead, attributes_in, body_of, nulls_of};
 
 use key_orders::ColType;
-use tuple_head::HeapHead;
+use outside::NoMemory;
+use tuple_head::{HeapHead, heap_head};
 use varlena_attrs::{AttrBuffer, AttrFault, ColumnLayout};
 
 // The null bits, where there are some: from byte 23 up to the header's end.
@@ -60,6 +61,33 @@ pub fn read_tuple<'p>(
     let body = body_of(tuple, head);
     buffer.read(columns, body, nulls_of(tuple, head), head.natts())?;
     Ok(body)
+}
+
+/// Reads the attributes of a heap tuple of 24 bytes or more into a buffer. The answer is the tuple's body,
+/// in which the places lie, and `None` where its header doesn't end within it or a column can't be read.
+pub fn try_read_tuple<'p>(
+    buffer: &mut AttrBuffer,
+    columns: &[ColType],
+    tuple: &'p [u8],
+) -> Result<Option<&'p [u8]>, NoMemory>
+    requires long { 24 ≤ length tuple.now }
+    requires aligned { All HasAlignment columns.now }
+    ensures value { IfOk result (λ found. IfSome found (λ body.
+        attributes_in columns.now tuple.now ≡ Ok (shown_in body.now buffer.new))) }
+    ensures within { IfOk result (λ found. IfSome found (λ body. All (IsWithin (length body.now)) buffer.new)) }
+    ensures read { IfOk result (λ found. has_misplaced_attributes (length tuple.now) (tuple_head_of tuple.now) ≡ false
+        → IsRead columns.now tuple.now (option_copied found)) }
+{
+    let head = heap_head(tuple);
+    let hoff = head.hoff as usize;
+    if hoff < 23 || tuple.len() < hoff {
+        return Ok(None);
+    }
+    match read_tuple(buffer, columns, tuple, head) {
+        Ok(body) => Ok(Some(body)),
+        Err(AttrFault::NoMemory) => Err(NoMemory),
+        Err(_) => Ok(None),
+    }
 }
 
 /// Whether the attributes of a heap tuple, whose header is given and ends within the tuple, can be

@@ -9,10 +9,9 @@ ghost use Rattle.varlena_attrs.specs.Shown.{IsWithin, shown_in};
 ghost use Rattle.heap_tuples.specs.Tuples.{attributes_in};
 
 use crate::rows::{TOAST_COLUMNS, content_in};
-use heap_tuples::{read_tuple, tuple_at};
+use heap_tuples::{try_read_tuple, tuple_at};
 use outside::NoMemory;
-use tuple_head::heap_head;
-use varlena_attrs::{AttrBuffer, AttrFault, AttrPlace};
+use varlena_attrs::{AttrBuffer, AttrPlace};
 
 // The bytes of the chunk that a row's tuple has.
 fn content_of<'p>(tuple: &'p [u8], buffer: &mut AttrBuffer) -> Result<Option<&'p [u8]>, NoMemory>
@@ -20,15 +19,9 @@ fn content_of<'p>(tuple: &'p [u8], buffer: &mut AttrBuffer) -> Result<Option<&'p
     ensures { IfOk result (λ content. has_misplaced_attributes (length tuple.now) (tuple_head_of tuple.now) ≡ false
         → option_copied content ≡ content_of (attributes_in toast_columns tuple.now)) }
 {
-    let head = heap_head(tuple);
-    let hoff = head.hoff as usize;
-    if hoff < 23 || tuple.len() < hoff {
-        return Ok(None);
-    }
-    match read_tuple(buffer, &TOAST_COLUMNS, tuple, head) {
-        Ok(body) => Ok(chunk_content(body, buffer.as_slice())),
-        Err(AttrFault::NoMemory) => Err(NoMemory),
-        Err(_) => Ok(None),
+    match try_read_tuple(buffer, &TOAST_COLUMNS, tuple)? {
+        Some(body) => Ok(chunk_content(body, buffer.as_slice())),
+        None => Ok(None),
     }
 }
 

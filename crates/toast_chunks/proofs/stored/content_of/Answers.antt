@@ -1,12 +1,12 @@
-use Rattle.std.proofs.Common.{◌≡◌, length, ap, arith}
-use Rattle.tuple_head.specs.declared.HeapHead.{HeapHead}
-use Rattle.tuple_head.specs.Head.{tuple_head_of}
-use Rattle.toast_chunks.proofs.Placed.{placed}
-use Rattle.toast_chunks.proofs.stored.content_of.Goals.{then-hoff-lt23-via-then-hoff-lt23, then-hoff-lt23-via-else-hoff-lt23+then-tuple-hoff}
+use Rattle.std.proofs.Common.{Bor, List, ℕ, None, subst}
+use Rattle.std.specs.Prelude.{Option}
+use Rattle.std.specs.Option.{option_copied}
+use Rattle.heap_tuples.specs.Tuples.{IsRead, attributes_in}
+use Rattle.toast_chunks.specs.Rows.{toast_columns}
+use Rattle.toast_chunks.proofs.Placed.{nothing_read}
 use Rattle.toast_chunks.proofs.stored.content_of.Goals as goal
 
-pub returns-then-hoff-lt23 : goal.returns-then-hoff-lt23
-returns-then-hoff-lt23 c = λ h.
-    let fits = placed (length c.args.tuple.now) (tuple_head_of c.args.tuple.now) h in
-    let hoff : c.heap_head-head.result.hoff ≡ (tuple_head_of c.args.tuple.now).hoff = ap (λ (d : HeapHead). d.hoff) c.heap_head-head.ensures in
-    absurd (elim c.then-hoff-lt23.branch [ then-hoff-lt23-via-then-hoff-lt23 w ↦ omega (arith, fits.0, fits.1, hoff) | then-hoff-lt23-via-else-hoff-lt23+then-tuple-hoff w ↦ omega (arith, fits.0, fits.1, hoff) ])
+pub returns-in-None : goal.returns-in-None
+returns-in-None c = λ placed.
+    nothing_read (attributes_in toast_columns c.args.tuple.now)
+    (subst (λ (o : Option (Bor (List ℕ))). IsRead toast_columns c.args.tuple.now (option_copied o)) c.in-None.is (c.in_ok-body.ensures.read placed))

@@ -1,9 +1,9 @@
 use Rattle.std.proofs.Common.{◌≡◌, length, ap, arith}
 use Rattle.tuple_head.specs.declared.HeapHead.{HeapHead}
 use Rattle.tuple_head.specs.Head.{tuple_head_of}
-use Rattle.toast_chunks.proofs.Placed.{placed}
-use Rattle.heap_check.proofs.row_page.read_attributes.Goals.{then-hoff-lt23-via-then-hoff-lt23, then-hoff-lt23-via-else-hoff-lt23+then-tuple-hoff}
-use Rattle.heap_check.proofs.row_page.read_attributes.Goals as goal
+use Rattle.heap_tuples.proofs.Placed.{placed}
+use Rattle.heap_tuples.proofs.attributes.try_read_tuple.Goals.{then-hoff-lt23-via-then-hoff-lt23, then-hoff-lt23-via-else-hoff-lt23+then-tuple-hoff}
+use Rattle.heap_tuples.proofs.attributes.try_read_tuple.Goals as goal
 
 pub returns-then-hoff-lt23-clause-read : goal.returns-then-hoff-lt23-clause-read
 returns-then-hoff-lt23-clause-read c = λ h list is.
