@@ -1,5 +1,5 @@
 -- What is found of a page by itself is what it breaks.
-use Rattle.std.proofs.Common.{◌≡◌, ℕ, zero, suc, ◌≤◌, Bool, true, false, List, [], ◌++◌, refl, subst, ap, ◌∙◌}
+use Rattle.std.proofs.Common.{◌≡◌, ℕ, zero, suc, ◌≤◌, Bool, true, false, List, [], refl, sym, subst, ap, ◌∙◌, arith}
 use Rattle.std.specs.Prelude.{Option, Some, None, if◌then◌else◌}
 use Rattle.std.specs.List.{All}
 use Rattle.std.proofs.lemmas.Bool.{both_ways}
@@ -8,15 +8,16 @@ use Rattle.page_layout.specs.Page.{count_of, item_of, page_rule_of, upper_of}
 use Rattle.page_layout.specs.declared.page.PageKind.TheVariants.{Heap}
 use Rattle.page_layout.specs.declared.rules.Rule.{Rule}
 use Rattle.page_layout.specs.declared.rules.Rule.TheVariants.{H1}
-use Rattle.reports.proofs.Parts.{All-upto, upto_is_empty}
-use Rattle.reports.specs.Added.{each_upto, finding_at, report_lists}
+use Rattle.reports.proofs.Parts.{All-upto, among_upto}
+use Rattle.reports.specs.Added.{IsListed, each_upto, finding_at, found, report_lists}
 use Rattle.reports.specs.Lists.{Lists}
 use Rattle.reports.specs.declared.places.Finding.{Finding}
 use Rattle.reports.specs.declared.places.Place.{Place}
 use Rattle.reports.specs.declared.places.Place.TheVariants.{Block, Item}
 use Rattle.reports.specs.declared.places.Rel.TheVariants.{Heap as heap}
 use Rattle.heap_pages.specs.Alone.{BreaksAlone, header, misplaced, lone_item_found, lone_item_rule, lone_page_found}
-use Rattle.heap_pages.proofs.HeaderLaws.{All-finding_at, no_finding_at, no_header_is_broken, page_rule_is_broken}
+use Rattle.heap_pages.proofs.HeaderLaws.{All-finding_at, no_header_is_broken, page_rule_is_broken, place_of_header}
+use Rattle.heap_pages.proofs.PageLaws.{listed_at, listed_in}
 
 abbrev by_rule : ℕ → List ℕ → Option Rule → Lists
 by_rule block page (Some rule) = finding_at (Block heap block) (Some rule)
@@ -39,18 +40,18 @@ abbrev Broken : ℕ → List ℕ → Finding → Type 0
 Broken block page f = BreaksAlone block page f.rule f.place
 
 -- each finding of an item is a broken rule
-item_sound : (block : ℕ) (page : List ℕ) (i : ℕ) → 1 ≤ i → i ≤ count_of page → All (Broken block page) (lone_item_found block page i).findings
+item_sound : (block : ℕ) (page : List ℕ) (i : ℕ) → page_rule_of Heap page ≡ None → 1 ≤ i → i ≤ count_of page → All (Broken block page) (lone_item_found block page i).findings
 unfolding lone_item_found lone_item_rule
-item_sound block page i some le =
+item_sound block page i keeps some le =
     All-finding_at (Broken block page) (Item heap block i) (lone_item_rule page i) (λ rule e.
     let broken = item_is_broken (is_misplaced_heap_item (upper_of page) (item_of page i)) rule e in
-    subst (λ (q : Rule). BreaksAlone block page q (Item heap block i)) broken.1 (misplaced i some le broken.0))
+    subst (λ (q : Rule). BreaksAlone block page q (Item heap block i)) broken.1 (misplaced i keeps some le broken.0))
 
 sound_by : (block : ℕ) (page : List ℕ) (found : Option Rule) → page_rule_of Heap page ≡ found → All (Broken block page) (by_rule block page found).findings
 sound_by block page (Some rule) e =
     All-finding_at (Broken block page) (Block heap block) (Some rule) (λ q same. header q (Block heap block) (page_rule_is_broken Heap heap block page q (e ∙ same)))
 sound_by block page None e =
-    All-upto report_lists (λ l. l.findings) refl (λ a b. refl) (Broken block page) (lone_item_found block page) (count_of page) (item_sound block page)
+    All-upto report_lists (λ l. l.findings) refl (λ a b. refl) (Broken block page) (lone_item_found block page) (count_of page) (λ i. item_sound block page i e)
 
 -- each finding of a page is a broken rule
 pub lone_page_sound : (block : ℕ) (page : List ℕ) → All (Broken block page) (lone_page_found block page).findings
@@ -73,21 +74,26 @@ certain_by block page None = items_certain block page (count_of page)
 pub lone_page_certain : (block : ℕ) (page : List ℕ) → (lone_page_found block page).unjudged ≡ []
 lone_page_certain block page = rw (as_by_rule block page (page_rule_of Heap page) refl) (certain_by block page (page_rule_of Heap page))
 
-item_complete : (block : ℕ) (page : List ℕ) (i : ℕ) → (lone_item_found block page i).findings ≡ [] → is_misplaced_heap_item (upper_of page) (item_of page i) ≡ true → ⊥
+item_listed : (block : ℕ) (page : List ℕ) (i : ℕ) → is_misplaced_heap_item (upper_of page) (item_of page i) ≡ true → IsListed (lone_item_found block page i) (Item heap block i)
 unfolding lone_item_found lone_item_rule
-item_complete block page i none broken =
-    both_ways _ (no_item_is_broken (is_misplaced_heap_item (upper_of page) (item_of page i)) (no_finding_at (Item heap block i) (lone_item_rule page i) none)) broken
+item_listed block page i broken =
+    listed_at (Item heap block i) (lone_item_rule page i) (λ none. both_ways _ (no_item_is_broken (is_misplaced_heap_item (upper_of page) (item_of page i)) none) broken)
 
-complete_by : (block : ℕ) (page : List ℕ) (found : Option Rule) → page_rule_of Heap page ≡ found → (by_rule block page found).findings ≡ [] → (rule : Rule) (place : Place) → BreaksAlone block page rule place → ⊥
-complete_by block page (Some r) e none rule place broken = cc
-complete_by block page None e none _ _ (header rule place broken) = no_header_is_broken Heap heap block page e rule place broken
-complete_by block page None e none _ _ (misplaced i some le t) =
-    item_complete block page i (upto_is_empty report_lists (λ l. l.findings) refl (λ a b. refl) (lone_item_found block page) (count_of page) i none some le) t
+listed_by : (block : ℕ) (page : List ℕ) (rule_found : Option Rule) → page_rule_of Heap page ≡ rule_found → (rule : Rule) (place : Place) → BreaksAlone block page rule place → IsListed (by_rule block page rule_found) place
+listed_by block page (Some r) e _ _ (header rule place broken) =
+    subst (λ (p : Place). IsListed (finding_at (Block heap block) (Some r)) p) (sym (place_of_header Heap heap block page rule place broken)) (found r (0, omega arith, refl))
+listed_by block page None e _ _ (header rule place broken) = absurd (no_header_is_broken Heap heap block page e rule place broken)
+listed_by block page (Some r) e _ _ (misplaced i keeps some le t) = cc
+listed_by block page None e _ _ (misplaced i keeps some le t) =
+    listed_in (lone_item_found block page i) _ (Item heap block i)
+    (λ f has. among_upto report_lists (λ l. l.findings) refl (λ a b. refl) (lone_item_found block page) (count_of page) i f some le has)
+    (λ u has. among_upto report_lists (λ l. l.unjudged) refl (λ a b. refl) (lone_item_found block page) (count_of page) i u some le has)
+    (item_listed block page i t)
 
--- a page without a finding breaks no rule
-pub lone_page_complete : (block : ℕ) (page : List ℕ) → (lone_page_found block page).findings ≡ [] → (rule : Rule) (place : Place) → BreaksAlone block page rule place → ⊥
-lone_page_complete block page none =
-    complete_by block page (page_rule_of Heap page) refl (rw (as_by_rule block page (page_rule_of Heap page) refl) at none)
+-- where a page breaks a rule, the place is listed
+pub lone_page_listed : (block : ℕ) (page : List ℕ) (rule : Rule) (place : Place) → BreaksAlone block page rule place → IsListed (lone_page_found block page) place
+lone_page_listed block page rule place broken =
+    subst (λ (l : Lists). IsListed l place) (sym (as_by_rule block page (page_rule_of Heap page) refl)) (listed_by block page (page_rule_of Heap page) refl rule place broken)
 
 -- the finding of an item, by the rule that the code has found
 pub lone_is : (block : ℕ) (page : List ℕ) (i : ℕ) (rule : Option Rule) → rule ≡ lone_item_rule page i → finding_at (Item heap block i) rule ≡ lone_item_found block page i

@@ -1,10 +1,8 @@
 -- The chunks that are kept of a page of a TOAST table are its rows, each once.
-use Rattle.std.proofs.Common.{◌≡◌, ℕ, zero, suc, ◌+◌, ◌<◌, ◌≤◌, List, [], ◌∷◌, ◌++◌, refl, sym, subst, ap, ◌∙◌, arith, append-nil, ◌⊎◌, inl, inr}
+use Rattle.std.proofs.Common.{◌≡◌, ℕ, List, [], ◌∷◌, refl, sym, subst, ap, ◌∙◌, arith, append-nil, inl, inr}
 use Rattle.std.specs.Prelude.{Option, Some, None, AllPairs, Contains}
 use Rattle.std.specs.List.{All}
-use Rattle.std.proofs.lemmas.List.Elements.{All-append, All-cons, All-contains, All-contains_itself, All-nil, All-weaker, Contains-append_left, Contains-get_or}
-use Rattle.std.proofs.lemmas.List.Kept.{AllPairs-cons}
-use Rattle.outside.specs.Adds.{Joins, each_below}
+use Rattle.std.proofs.lemmas.List.Elements.{All-append, All-cons, All-contains, All-nil, All-weaker, Contains-append_left}
 use Rattle.key_orders.specs.declared.Tid.{Tid}
 use Rattle.page_layout.specs.Page.{count_of, page_rule_of}
 use Rattle.page_layout.specs.declared.page.PageKind.TheVariants.{Heap}
@@ -16,7 +14,6 @@ use Rattle.toast_chunks.specs.declared.map.Chunk.{Chunk}
 use Rattle.toast_chunks.specs.declared.rows.ChunkRow.{ChunkRow}
 use Rattle.reports.proofs.Pairs.{pairs-none, pairs-one, pairs-upto}
 use Rattle.reports.proofs.Parts.{All-upto, among_upto}
-use Rattle.reports.specs.Added.{each_upto}
 use Rattle.heap_pages.specs.Broken.{AllPass}
 use Rattle.heap_pages.specs.Found.{chunk_by, chunks_left, found_parts, item_found, items_found, live_attributes}
 use Rattle.heap_pages.specs.Left.{IsRowOn, IsRowOnPage}
@@ -24,7 +21,7 @@ use Rattle.heap_pages.specs.Pages.{found_by_rule, page_found}
 use Rattle.heap_pages.specs.Table.{Table}
 use Rattle.heap_pages.specs.declared.table.TableKind.{TableKind}
 use Rattle.heap_pages.specs.declared.table.TableKind.TheVariants as kind
-use Rattle.heap_pages.proofs.LeftLaws.{IsRead, IsReadOrNone, live_is_read, read_is_live}
+use Rattle.heap_pages.proofs.LeftLaws.{IsReadOrNone, live_is_read, read_is_live}
 use Rattle.heap_pages.proofs.PageLaws.{each_passes}
 
 -- A chunk is that of its row
@@ -45,7 +42,7 @@ among_chunk c block i list is place =
     let same : record { id = c.id; seq = c.seq; tid = record { block = block; item = i }; size = c.size } ≡ c = ap (λ (t : Tid). record { id = c.id; seq = c.seq; tid = t; size = c.size }) (sym place) in
     subst P (sym is) (0, omega arith, same)
 
-module _ (table : Table) (block : ℕ) (page : List ℕ) where
+module _ (table : Table) (chunks : List Chunk) (block : ℕ) (page : List ℕ) where
   row_by : (i : ℕ) (list : List Attribute) → IsReadOrNone table page i list → All (IsRowOnPage table block page) (chunk_by block i (row_of list))
   row_by i list (inl none) = All-chunk_by (IsRowOnPage table block page) block i (row_of list) (λ row e. absurd (no_row list row none e))
   row_by i list (inr is) =
@@ -55,19 +52,19 @@ module _ (table : Table) (block : ℕ) (page : List ℕ) where
   rows_by_kind kind.Heap i list is = All-nil (IsRowOnPage table block page)
   rows_by_kind kind.Toast i list is = row_by i list is
 
-  items_are_rows : All (IsRowOnPage table block page) (items_found table block page).chunks
+  items_are_rows : All (IsRowOnPage table block page) (items_found table chunks block page).chunks
   unfolding items_found item_found
   items_are_rows =
-      All-upto found_parts (λ f. f.chunks) refl (λ a b. refl) (IsRowOnPage table block page) (item_found table block page) (count_of page) (λ i first last.
+      All-upto found_parts (λ f. f.chunks) refl (λ a b. refl) (IsRowOnPage table block page) (item_found table chunks block page) (count_of page) (λ i first last.
       All-append (IsRowOnPage table block page) (chunks_left table.kind block i (live_attributes table page i)) []
       (rows_by_kind table.kind i (live_attributes table page i) (live_is_read table page i first last)) (All-nil (IsRowOnPage table block page)))
 
-  rows_by_rule : (bits : MapBits) (rule : Option Rule) → All (IsRowOnPage table block page) (found_by_rule table bits block page rule).chunks
+  rows_by_rule : (bits : MapBits) (rule : Option Rule) → All (IsRowOnPage table block page) (found_by_rule table chunks bits block page rule).chunks
   rows_by_rule bits (Some rule) = All-nil (IsRowOnPage table block page)
-  rows_by_rule bits None = All-append (IsRowOnPage table block page) (items_found table block page).chunks [] items_are_rows (All-nil (IsRowOnPage table block page))
+  rows_by_rule bits None = All-append (IsRowOnPage table block page) (items_found table chunks block page).chunks [] items_are_rows (All-nil (IsRowOnPage table block page))
 
   -- each chunk of a page is a row of it
-  pub page_chunks_are_rows : (bits : MapBits) → All (IsRowOnPage table block page) (page_found table bits block page).chunks
+  pub page_chunks_are_rows : (bits : MapBits) → All (IsRowOnPage table block page) (page_found table chunks bits block page).chunks
   unfolding page_found
   page_chunks_are_rows bits = rows_by_rule bits (page_rule_of Heap page)
 
@@ -80,18 +77,18 @@ module _ (table : Table) (block : ℕ) (page : List ℕ) where
         let Q : List Attribute → Type 0 = λ list. Contains (chunk_by block i (row_of list)) c in
         subst P (sym is_toast) (subst Q (sym read) (among_chunk c block i is.list is.row is.place))
 
-    row_on_items : (i : ℕ) (c : Chunk) → IsRowOn table block page i c → Contains (items_found table block page).chunks c
+    row_on_items : (i : ℕ) (c : Chunk) → IsRowOn table block page i c → Contains (items_found table chunks block page).chunks c
     unfolding items_found item_found
     row_on_items i c is =
-        among_upto found_parts (λ x. x.chunks) refl (λ a b. refl) (item_found table block page) (count_of page) i c is.live.item.first is.live.item.last
+        among_upto found_parts (λ x. x.chunks) refl (λ a b. refl) (item_found table chunks block page) (count_of page) i c is.live.item.first is.live.item.last
         (Contains-append_left (chunks_left table.kind block i (live_attributes table page i)) [] c (row_on_item i c is))
 
-    on_page_by : (rule : Option Rule) (c : Chunk) → rule ≡ None → Contains (items_found table block page).chunks c → Contains (found_by_rule table bits block page rule).chunks c
+    on_page_by : (rule : Option Rule) (c : Chunk) → rule ≡ None → Contains (items_found table chunks block page).chunks c → Contains (found_by_rule table chunks bits block page rule).chunks c
     on_page_by (Some rule) c e has = cc
-    on_page_by None c e has = Contains-append_left (items_found table block page).chunks [] c has
+    on_page_by None c e has = Contains-append_left (items_found table chunks block page).chunks [] c has
 
     -- each row of a page of a TOAST table whose items all pass is among its chunks
-    pub page_rows_are_chunks : (c : Chunk) → IsRowOnPage table block page c → Contains (page_found table bits block page).chunks c
+    pub page_rows_are_chunks : (c : Chunk) → IsRowOnPage table block page c → Contains (page_found table chunks bits block page).chunks c
     unfolding page_found
     page_rows_are_chunks c is = on_page_by (page_rule_of Heap page) c pass.header (row_on_items is.0 c is.1)
 
@@ -121,45 +118,45 @@ apart_by_kind : (what : TableKind) (block i : ℕ) (list : List Attribute) → A
 apart_by_kind kind.Heap block i list = pairs-none Differ
 apart_by_kind kind.Toast block i list = apart_by_row block i (row_of list)
 
-module _ (table : Table) (block : ℕ) (page : List ℕ) where
-  item_is : (i : ℕ) → (item_found table block page i).chunks ≡ chunks_left table.kind block i (live_attributes table page i)
+module _ (table : Table) (chunks : List Chunk) (block : ℕ) (page : List ℕ) where
+  item_is : (i : ℕ) → (item_found table chunks block page i).chunks ≡ chunks_left table.kind block i (live_attributes table page i)
   unfolding item_found
   item_is i = append-nil (chunks_left table.kind block i (live_attributes table page i))
 
-  item_placed : (i : ℕ) → All (IsAt block i) (item_found table block page i).chunks
+  item_placed : (i : ℕ) → All (IsAt block i) (item_found table chunks block page i).chunks
   item_placed i = subst (All (IsAt block i)) (sym (item_is i)) (placed_by_kind table.kind block i (live_attributes table page i))
 
-  items_apart : AllPairs Differ (items_found table block page).chunks
+  items_apart : AllPairs Differ (items_found table chunks block page).chunks
   unfolding items_found
   items_apart =
-      pairs-upto found_parts (λ f. f.chunks) refl (λ a b. refl) Differ (item_found table block page) (count_of page)
+      pairs-upto found_parts (λ f. f.chunks) refl (λ a b. refl) Differ (item_found table chunks block page) (count_of page)
       (λ i first last. subst (AllPairs Differ) (sym (item_is i)) (apart_by_kind table.kind block i (live_attributes table page i)))
       (λ i j c d lt first second same.
-      let here = All-contains (IsAt block i) (item_found table block page i).chunks c (item_placed i) first in
-      let there = All-contains (IsAt block j) (item_found table block page j).chunks d (item_placed j) second in
+      let here = All-contains (IsAt block i) (item_found table chunks block page i).chunks c (item_placed i) first in
+      let there = All-contains (IsAt block j) (item_found table chunks block page j).chunks d (item_placed j) second in
       let e : i ≡ j = sym here.1 ∙ ap (λ (t : Tid). t.item) same ∙ there.1 in
       absurd (omega (arith, lt, e)))
 
-  items_placed : All (λ c. c.tid.block ≡ block) (items_found table block page).chunks
+  items_placed : All (λ c. c.tid.block ≡ block) (items_found table chunks block page).chunks
   unfolding items_found
   items_placed =
-      All-upto found_parts (λ f. f.chunks) refl (λ a b. refl) (λ c. c.tid.block ≡ block) (item_found table block page) (count_of page)
-      (λ i first last. All-weaker (IsAt block i) (λ c. c.tid.block ≡ block) (λ c at. at.0) (item_found table block page i).chunks (item_placed i))
+      All-upto found_parts (λ f. f.chunks) refl (λ a b. refl) (λ c. c.tid.block ≡ block) (item_found table chunks block page) (count_of page)
+      (λ i first last. All-weaker (IsAt block i) (λ c. c.tid.block ≡ block) (λ c at. at.0) (item_found table chunks block page i).chunks (item_placed i))
 
-  chunks_by : (bits : MapBits) (rule : Option Rule) → AllPairs Differ (found_by_rule table bits block page rule).chunks
+  chunks_by : (bits : MapBits) (rule : Option Rule) → AllPairs Differ (found_by_rule table chunks bits block page rule).chunks
   chunks_by bits (Some rule) = pairs-none Differ
-  chunks_by bits None = subst (AllPairs Differ) (sym (append-nil (items_found table block page).chunks)) items_apart
+  chunks_by bits None = subst (AllPairs Differ) (sym (append-nil (items_found table chunks block page).chunks)) items_apart
 
   -- no two chunks of a page have the same place
-  pub page_chunks_apart : (bits : MapBits) → AllPairs (λ (c d : Chunk). ¬ (c.tid ≡ d.tid)) (page_found table bits block page).chunks
+  pub page_chunks_apart : (bits : MapBits) → AllPairs (λ (c d : Chunk). ¬ (c.tid ≡ d.tid)) (page_found table chunks bits block page).chunks
   unfolding page_found
   page_chunks_apart bits = chunks_by bits (page_rule_of Heap page)
 
-  placed_by : (bits : MapBits) (rule : Option Rule) → All (λ c. c.tid.block ≡ block) (found_by_rule table bits block page rule).chunks
+  placed_by : (bits : MapBits) (rule : Option Rule) → All (λ c. c.tid.block ≡ block) (found_by_rule table chunks bits block page rule).chunks
   placed_by bits (Some rule) = All-nil (λ c. c.tid.block ≡ block)
-  placed_by bits None = subst (All (λ c. c.tid.block ≡ block)) (sym (append-nil (items_found table block page).chunks)) items_placed
+  placed_by bits None = subst (All (λ c. c.tid.block ≡ block)) (sym (append-nil (items_found table chunks block page).chunks)) items_placed
 
   -- and they stand in its block
-  pub page_chunks_placed : (bits : MapBits) → All (λ (c : Chunk). c.tid.block ≡ block) (page_found table bits block page).chunks
+  pub page_chunks_placed : (bits : MapBits) → All (λ (c : Chunk). c.tid.block ≡ block) (page_found table chunks bits block page).chunks
   unfolding page_found
   page_chunks_placed bits = placed_by bits (page_rule_of Heap page)

@@ -8,13 +8,13 @@ use Rattle.tuple_head.specs.declared.HeapHead.{HeapHead}
 use Rattle.varlena_attrs.specs.Forms.{Attribute, Null, Missing, Plain, Packed, External}
 use Rattle.varlena_attrs.specs.Inline.{all_inline, are_inline, is_inline}
 use Rattle.varlena_attrs.specs.Reading.{Outcome}
+use Rattle.toast_chunks.specs.declared.map.Chunk.{Chunk}
 use Rattle.reports.specs.Added.{nothing, report_lists}
 use Rattle.reports.specs.Lists.{Lists}
 use Rattle.reports.specs.declared.places.Place.{Place}
 use Rattle.reports.specs.declared.places.Place.TheVariants.{Column}
 use Rattle.heap_pages.specs.Found.{FoundLists, attributes_read, both_found, found_parts, kept_by_values, late_at, late_in, late_of}
 use Rattle.heap_pages.specs.Found.{leaves_nothing, left_by, nothing_found}
-use Rattle.heap_pages.specs.Table.{Toasted}
 use Rattle.heap_pages.specs.Values.{first_value_rule, value_rule, values_rule}
 use Rattle.heap_pages.specs.declared.table.TableKind.{TableKind}
 use Rattle.heap_pages.specs.declared.table.TableKind.TheVariants as kind
@@ -46,36 +46,36 @@ outcome_breaks_none oid head (Err fault) e = absurd cc
 
 -- Nothing left
 
-inline_is_nothing : (toast : Option Toasted) (place : Place) (a : Attribute) → is_inline a ≡ true → late_in toast place (Some a) ≡ nothing
-inline_is_nothing toast place Null e = refl
-inline_is_nothing toast place Missing e = refl
-inline_is_nothing toast place (Plain content) e = refl
-inline_is_nothing toast place (Packed piece) e = refl
-inline_is_nothing toast place (External pointer) e = absurd cc
+inline_is_nothing : (toast : Option ℕ) (chunks : List Chunk) (place : Place) (a : Attribute) → is_inline a ≡ true → late_in toast chunks place (Some a) ≡ nothing
+inline_is_nothing toast chunks place Null e = refl
+inline_is_nothing toast chunks place Missing e = refl
+inline_is_nothing toast chunks place (Plain content) e = refl
+inline_is_nothing toast chunks place (Packed piece) e = refl
+inline_is_nothing toast chunks place (External pointer) e = absurd cc
 
-nothing_at : (toast : Option Toasted) (place : Place) (list : List Attribute) (k : ℕ) → all_inline list ≡ true → late_in toast place (slice_get list k) ≡ nothing
+nothing_at : (toast : Option ℕ) (chunks : List Chunk) (place : Place) (list : List Attribute) (k : ℕ) → all_inline list ≡ true → late_in toast chunks place (slice_get list k) ≡ nothing
 unfolding all_inline
-nothing_at toast place [] k e = refl
-nothing_at toast place (a ∷ list) zero e = inline_is_nothing toast place a (both (is_inline a) (all_inline list) e).0
-nothing_at toast place (a ∷ list) (suc k) e = nothing_at toast place list k (both (is_inline a) (all_inline list) e).1
+nothing_at toast chunks place [] k e = refl
+nothing_at toast chunks place (a ∷ list) zero e = inline_is_nothing toast chunks place a (both (is_inline a) (all_inline list) e).0
+nothing_at toast chunks place (a ∷ list) (suc k) e = nothing_at toast chunks place list k (both (is_inline a) (all_inline list) e).1
 
 nothing_of_each : (f : ℕ → Lists) (n : ℕ) → ((k : ℕ) → f k ≡ nothing) → each_below report_lists f n ≡ nothing
 unfolding each_below
 nothing_of_each f zero none = refl
 nothing_of_each f (suc n) none = rw (nothing_of_each f n none, none n) refl
 
-nothing_in : (toast : Option Toasted) (block item : ℕ) (list : List Attribute) → all_inline list ≡ true → late_of toast block item list ≡ nothing
+nothing_in : (toast : Option ℕ) (chunks : List Chunk) (block item : ℕ) (list : List Attribute) → all_inline list ≡ true → late_of toast chunks block item list ≡ nothing
 unfolding late_of late_at
-nothing_in toast block item list e =
-    nothing_of_each (late_at toast block item list) (length list) (λ k. nothing_at toast (Column block item (k + 1)) list k e)
+nothing_in toast chunks block item list e =
+    nothing_of_each (late_at toast chunks block item list) (length list) (λ k. nothing_at toast chunks (Column block item (k + 1)) list k e)
 
-nothing_read : (toast : Option Toasted) (block item : ℕ) (outcome : Outcome) → are_inline outcome ≡ true → late_of toast block item (attributes_read outcome) ≡ nothing
-nothing_read toast block item (Ok list) e = nothing_in toast block item list e
-nothing_read toast block item (Err fault) e = absurd cc
+nothing_read : (toast : Option ℕ) (chunks : List Chunk) (block item : ℕ) (outcome : Outcome) → are_inline outcome ≡ true → late_of toast chunks block item (attributes_read outcome) ≡ nothing
+nothing_read toast chunks block item (Ok list) e = nothing_in toast chunks block item list e
+nothing_read toast chunks block item (Err fault) e = absurd cc
 
-left_is_nothing : (kind : TableKind) (toast : Option Toasted) (block item : ℕ) (outcome : Outcome) → leaves_nothing kind outcome ≡ true → left_by kind toast block item (kept_by_values None outcome) ≡ nothing_found
-left_is_nothing kind.Heap toast block item outcome e = ap (λ (lists : Lists). record { listed = nothing; late = lists; chunks = [] }) (nothing_read toast block item outcome e)
-left_is_nothing kind.Toast toast block item outcome e = absurd cc
+left_is_nothing : (kind : TableKind) (toast : Option ℕ) (chunks : List Chunk) (block item : ℕ) (outcome : Outcome) → leaves_nothing kind outcome ≡ true → left_by kind toast chunks block item (kept_by_values None outcome) ≡ nothing_found
+left_is_nothing kind.Heap toast chunks block item outcome e = ap (λ (lists : Lists). record { listed = nothing; late = lists; chunks = [] }) (nothing_read toast chunks block item outcome e)
+left_is_nothing kind.Toast toast chunks block item outcome e = absurd cc
 
 -- Where a tuple leaves nothing
 
@@ -83,6 +83,6 @@ pub leaves_no_rule : (kind : TableKind) (oid : Option ℕ) (head : HeapHead) (ou
 leaves_no_rule kind.Heap oid head outcome e = outcome_breaks_none oid head outcome e
 leaves_no_rule kind.Toast oid head outcome e = absurd cc
 
-pub leaves_none : (kind : TableKind) (toast : Option Toasted) (block item : ℕ) (outcome : Outcome) (old : FoundLists) → leaves_nothing kind outcome ≡ true → old ≡ both_found old (left_by kind toast block item (kept_by_values None outcome))
-leaves_none kind toast block item outcome old e =
-    sym (ap (both_found old) (left_is_nothing kind toast block item outcome e) ∙ found_parts.with_none old)
+pub leaves_none : (kind : TableKind) (toast : Option ℕ) (chunks : List Chunk) (block item : ℕ) (outcome : Outcome) (old : FoundLists) → leaves_nothing kind outcome ≡ true → old ≡ both_found old (left_by kind toast chunks block item (kept_by_values None outcome))
+leaves_none kind toast chunks block item outcome old e =
+    sym (ap (both_found old) (left_is_nothing kind toast chunks block item outcome e) ∙ found_parts.with_none old)

@@ -1,6 +1,6 @@
 -- What is found of an item is what is broken there.
-use Rattle.std.proofs.Common.{◌≡◌, ℕ, ◌≤◌, Bool, true, false, List, [], length, refl, sym, subst, ◌∙◌, ap, arith, ◌⊎◌, inl, inr}
-use Rattle.std.specs.Prelude.{Option, Some, None, Contains, if◌then◌else◌}
+use Rattle.std.proofs.Common.{◌≡◌, ℕ, ◌≤◌, Bool, true, false, List, [], length, refl, subst, arith, ◌⊎◌, inl, inr}
+use Rattle.std.specs.Prelude.{Option, Some, None, if◌then◌else◌}
 use Rattle.std.specs.List.{All}
 use Rattle.std.proofs.lemmas.Bool.{both_ways}
 use Rattle.std.proofs.lemmas.List.Elements.{All-nil, All-cons}
@@ -15,7 +15,7 @@ use Rattle.tuple_head.specs.declared.HeapHead.{HeapHead}
 use Rattle.tuple_head.proofs.Exact.{first_is_broken, none_is_exact}
 use Rattle.heap_tuples.specs.Places.{tuple_at}
 use Rattle.heap_tuples.specs.Tuples.{attributes_in}
-use Rattle.liveness.specs.Life.{BreaksRule, IsDeleted, IsInDoubt, IsInserted, judged_of}
+use Rattle.liveness.specs.Life.{BreaksRule, IsInDoubt, judged_of}
 use Rattle.liveness.specs.declared.states.Doubt.{Doubt}
 use Rattle.liveness.specs.declared.states.Doubt.TheVariants as doubt
 use Rattle.liveness.specs.declared.states.ItemState.{ItemState}
@@ -24,16 +24,14 @@ use Rattle.liveness.specs.declared.states.Life.{Life}
 use Rattle.liveness.specs.declared.states.Life.TheVariants as life
 use Rattle.reports.specs.Added.{IsListed, found, in_doubt}
 use Rattle.reports.specs.Lists.{Lists}
-use Rattle.reports.specs.declared.places.Finding.{Finding}
 use Rattle.reports.specs.declared.places.Place.{Place}
 use Rattle.reports.specs.declared.places.Place.TheVariants.{Item}
 use Rattle.reports.specs.declared.places.Reason.{Reason}
-use Rattle.reports.specs.declared.places.UnjudgedPlace.{UnjudgedPlace}
 use Rattle.heap_pages.specs.Broken.{BreaksAt, misplaced, overlapping, in_header, in_logs, past_end, bad_length, bad_tag, stray_pointer, bad_pointer}
 use Rattle.heap_pages.specs.Broken.{BreaksItem, at_item, DoubtsItem, doubt_at_item, HoldsLiveTuple, IsNormalItem}
 use Rattle.heap_pages.specs.Found.{verdict_lists}
 use Rattle.heap_pages.specs.Storage.{overlaps_lower_item}
-use Rattle.heap_pages.specs.Table.{Table, logs_in, oid_of, rel_of}
+use Rattle.heap_pages.specs.Table.{Table, logs_in, rel_of}
 use Rattle.heap_pages.specs.Values.{values_rule}
 use Rattle.heap_pages.specs.Verdicts.{flag_verdict, head_at, header_verdict, item_verdict, life_verdict, normal_verdict, reason_of}
 use Rattle.heap_pages.specs.Verdicts.{tuple_verdict, values_verdict}
@@ -83,7 +81,7 @@ module _ (table : Table) (page : List ℕ) (i : ℕ) (at : IsNormalItem page i) 
   live_here : life_at table page i ≡ life.Live → HoldsLiveTuple table page i
   live_here is = let says = live_is table.names table.logs (head_at page i) is in record { item = at; inserted = says.0; kept = says.1 }
 
-  values_tell : (judged : Judged) (found : Option Rule) → life_at table page i ≡ life.Live → KeepsForm table page i → values_rule (oid_of table.toast) (head_at page i) (attributes_in table.columns (tuple_at page i)) ≡ found → Tells table page i (values_verdict (head_at page i) judged found)
+  values_tell : (judged : Judged) (found : Option Rule) → life_at table page i ≡ life.Live → KeepsForm table page i → values_rule table.toast (head_at page i) (attributes_in table.columns (tuple_at page i)) ≡ found → Tells table page i (values_verdict (head_at page i) judged found)
   values_tell judged (Some rule) live form is = values_break table page i _ rule (live_here live) refl is
   values_tell judged None live form is = record {
     form = form;
@@ -93,7 +91,7 @@ module _ (table : Table) (page : List ℕ) (i : ℕ) (at : IsNormalItem page i) 
     values = λ holds. is;
   }
 
-  life_tells : (judged : Judged) (l : Life) → life_at table page i ≡ l → KeepsForm table page i → Tells table page i (life_verdict (oid_of table.toast) table.columns (tuple_at page i) (head_at page i) judged l)
+  life_tells : (judged : Judged) (l : Life) → life_at table page i ≡ l → KeepsForm table page i → Tells table page i (life_verdict table.toast table.columns (tuple_at page i) (head_at page i) judged l)
   life_tells judged life.Live is form = values_tell judged _ is form refl
   life_tells judged life.Dead is form = record {
     form = form;

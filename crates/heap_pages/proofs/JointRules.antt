@@ -1,5 +1,5 @@
 -- What is asked of all items of a page together, as the code finds it.
-use Rattle.std.proofs.Common.{◌≡◌, ℕ, ◌+◌, ◌≤◌, Bool, true, false, not, List, [], ◌∷◌, ◌++◌, ◌∙◌, refl, sym, ap, length, arith, append-nil, add-one, zero, suc}
+use Rattle.std.proofs.Common.{◌≡◌, ℕ, ◌+◌, ◌≤◌, true, false, List, [], ◌∷◌, ◌++◌, ◌∙◌, refl, sym, ap, length, arith, append-nil, add-one, zero, suc}
 use Rattle.std.specs.Prelude.{Option, None, ◌==◌, ◌&&◌}
 use Rattle.std.proofs.lemmas.Grind.{common_steps}
 use Rattle.std.proofs.lemmas.List.{length-append, nil_from_length}
@@ -61,7 +61,7 @@ abbrev pub Counts : Type 0
 Counts = ℕ × ℕ
 
 -- the counts of a report
-abbrev counts_of : FoundLists → Counts
+abbrev pub counts_of : FoundLists → Counts
 counts_of f = (length f.listed.findings, length f.listed.unjudged)
 
 module _ (old found mid : FoundLists) (before now : Counts) (was : ◌≡◌ {A = Counts} before (counts_of old)) (is : ◌≡◌ {A = Counts} now (counts_of mid)) (added : mid ≡ both_found old found) where
@@ -83,7 +83,7 @@ module _ (old found mid : FoundLists) (before now : Counts) (was : ◌≡◌ {A 
       (sym (ap (λ (d : Counts). d.1) is) ∙ second_agrees _ _ _ _ same ∙ ap (λ (d : Counts). d.1) was)
 
   -- and where they differ, something is
-  some_listed : false ≡ ((now.0 == before.0) && (now.1 == before.1)) → found.listed.findings ≡ [] → found.listed.unjudged ≡ [] → ⊥
+  pub some_listed : false ≡ ((now.0 == before.0) && (now.1 == before.1)) → found.listed.findings ≡ [] → found.listed.unjudged ≡ [] → ⊥
   some_listed differs none sure =
       both_agree _ _ _ _
       (ap (λ (d : Counts). d.0) is ∙ no_longer old.listed.findings mid.listed.findings found.listed.findings findings_added none ∙ sym (ap (λ (d : Counts). d.0) was))

@@ -1,10 +1,9 @@
 -- What the logs say of a tuple, by the sentences.
-use Rattle.std.proofs.Common.{◌≡◌, ℕ, Bool, false, true, ◌⊎◌, inl, inr, subst}
+use Rattle.std.proofs.Common.{◌≡◌, subst}
 use Rattle.outside.specs.Outside.{Names}
 use Rattle.page_layout.specs.declared.rules.Rule.{Rule}
-use Rattle.tuple_head.specs.Head.{is_old_form}
 use Rattle.tuple_head.specs.declared.HeapHead.{HeapHead}
-use Rattle.liveness.specs.Life.{BreaksRule, IsDeleted, IsInDoubt, IsInserted, SaysTrue, judged_of, life_of}
+use Rattle.liveness.specs.Life.{BreaksRule, IsDeleted, IsInDoubt, IsInserted, SaysTrue, life_of}
 use Rattle.liveness.specs.LogFiles.{LogFiles, logs_of}
 use Rattle.liveness.specs.declared.states.Doubt.{Doubt}
 use Rattle.liveness.specs.declared.states.Life.{Life}

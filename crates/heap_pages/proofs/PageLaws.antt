@@ -1,5 +1,5 @@
 -- What is found of a page of a table is what is broken there, and where a rule is broken the place is listed.
-use Rattle.std.proofs.Common.{◌≡◌, ℕ, ◌≤◌, List, [], ◌∷◌, ◌++◌, length, refl, sym, subst, ap, ◌∙◌, arith}
+use Rattle.std.proofs.Common.{◌≡◌, ℕ, ◌≤◌, List, [], ◌∷◌, length, refl, sym, subst, ap, ◌∙◌, arith}
 use Rattle.std.specs.Prelude.{Option, Some, None, Contains, is_some}
 use Rattle.std.specs.List.{All}
 use Rattle.std.proofs.lemmas.List.Elements.{All-append, All-head, All-nil, All-weaker, Contains-append_left, Contains-append_right}
@@ -10,11 +10,12 @@ use Rattle.hot_chains.specs.Chains.{chain_rule}
 use Rattle.hot_chains.specs.Sentences.{IsChainRuleBroken}
 use Rattle.hot_chains.proofs.Told.{first_told, none_told}
 use Rattle.liveness.specs.declared.states.ItemState.{ItemState}
+use Rattle.toast_chunks.specs.declared.map.Chunk.{Chunk}
 use Rattle.vis_map.proofs.Exact.{first_is_broken, none_is_exact}
 use Rattle.vis_map.specs.Rules.{IsMapRuleBroken, map_rule_of}
 use Rattle.vis_map.specs.declared.bits.MapBits.{MapBits}
-use Rattle.reports.proofs.Parts.{All-upto, among_upto, first_is_empty, second_is_empty, upto_is_empty}
-use Rattle.reports.specs.Added.{IsListed, each_upto, finding_at, found, in_doubt, joined, nothing, report_lists}
+use Rattle.reports.proofs.Parts.{All-upto, among_upto, first_is_empty, second_is_empty}
+use Rattle.reports.specs.Added.{IsListed, each_upto, finding_at, found, in_doubt, nothing, report_lists}
 use Rattle.reports.specs.Lists.{Lists}
 use Rattle.reports.specs.declared.places.Finding.{Finding}
 use Rattle.reports.specs.declared.places.Place.{Place}
@@ -22,22 +23,22 @@ use Rattle.reports.specs.declared.places.Place.TheVariants.{Block, Item}
 use Rattle.reports.specs.declared.places.Reason.{Reason}
 use Rattle.reports.specs.declared.places.UnjudgedPlace.{UnjudgedPlace}
 use Rattle.heap_pages.specs.Alone.{BreaksHeader}
-use Rattle.heap_pages.specs.Broken.{AllPass, BreaksAt, BreaksItem, at_item, BreaksPage, in_page_header, on_item, in_visibility, in_chain, DoubtsItem, doubt_at_item, DoubtsPage}
-use Rattle.heap_pages.specs.Found.{FoundLists, found_parts, item_found, items_found, states_of, verdict_lists}
+use Rattle.heap_pages.specs.Broken.{AllPass, BreaksItem, at_item, BreaksPage, in_page_header, on_item, in_visibility, in_chain, DoubtsItem, doubt_at_item, DoubtsPage}
+use Rattle.heap_pages.specs.Found.{found_parts, item_found, items_found, states_of, verdict_lists}
 use Rattle.heap_pages.specs.Pages.{chain_found, found_by_rule, if_silent, is_flagged_visible, joint_found, page_found}
 use Rattle.heap_pages.specs.States.{AreStatesOf}
 use Rattle.heap_pages.specs.Table.{Table, rel_of}
 use Rattle.heap_pages.specs.Verdicts.{item_verdict}
 use Rattle.heap_pages.specs.declared.verdict.ItemVerdict.{ItemVerdict}
 use Rattle.heap_pages.specs.declared.verdict.ItemVerdict.TheVariants.{Passes, Breaks, InDoubt}
-use Rattle.heap_pages.proofs.HeaderLaws.{All-finding_at, no_finding_at, no_header_is_broken, page_rule_is_broken, place_of_header, rule_holds}
+use Rattle.heap_pages.proofs.HeaderLaws.{All-finding_at, no_header_is_broken, page_rule_is_broken, place_of_header, rule_holds}
 use Rattle.heap_pages.proofs.ItemLaws.{broken_at, doubted_at, item_doubt_listed, item_doubts_sound, item_listed, item_sound}
 use Rattle.heap_pages.proofs.JointRules.{silent_is}
 use Rattle.heap_pages.proofs.StateLaws.{EachPasses, states_are_one, states_are_there}
 
 -- Lists that come where nothing was found
 
-silent_sound : {X : Type 0} (P : X → Type 0) (part : Lists → List X) (findings : List Finding) (unjudged : List UnjudgedPlace) (lists : Lists) → part nothing ≡ [] → (findings ≡ [] → unjudged ≡ [] → All P (part lists)) → All P (part (if_silent findings unjudged lists))
+pub silent_sound : {X : Type 0} (P : X → Type 0) (part : Lists → List X) (findings : List Finding) (unjudged : List UnjudgedPlace) (lists : Lists) → part nothing ≡ [] → (findings ≡ [] → unjudged ≡ [] → All P (part lists)) → All P (part (if_silent findings unjudged lists))
 silent_sound P part [] [] lists none each = each refl refl
 silent_sound P part [] (u ∷ unjudged) lists none each = subst (All P) (sym none) (All-nil P)
 silent_sound P part (f ∷ findings) unjudged lists none each = subst (All P) (sym none) (All-nil P)
@@ -48,12 +49,12 @@ listed_in lists all place first second (found rule among) = found rule (first (r
 listed_in lists all place first second (in_doubt reason among) = in_doubt reason (second (record { reason = reason; place = place }) among)
 
 -- a rule that is found at a place is listed
-listed_at : (place : Place) (rule : Option Rule) → (rule ≡ None → ⊥) → IsListed (finding_at place rule) place
+pub listed_at : (place : Place) (rule : Option Rule) → (rule ≡ None → ⊥) → IsListed (finding_at place rule) place
 listed_at place None broken = absurd (broken refl)
 listed_at place (Some rule) broken = found rule (0, omega arith, refl)
 
 -- nothing is listed where there are no lists
-none_listed : (lists : Lists) (place : Place) → lists.findings ≡ [] → lists.unjudged ≡ [] → IsListed lists place → ⊥
+pub none_listed : (lists : Lists) (place : Place) → lists.findings ≡ [] → lists.unjudged ≡ [] → IsListed lists place → ⊥
 none_listed lists place none sure (found rule among) = no_member none among
   where
     no_member : {xs : List Finding} {x : Finding} → xs ≡ [] → Contains xs x → ⊥
@@ -66,7 +67,7 @@ none_listed lists place none sure (in_doubt reason among) = no_doubt sure among
     no_doubt {xs = y ∷ ys} e has = cc
 
 -- a list each of whose members would be absurd is empty
-no_members : {X : Type 0} (P : X → Type 0) (xs : List X) → All P xs → ((x : X) → P x → ⊥) → xs ≡ []
+pub no_members : {X : Type 0} (P : X → Type 0) (xs : List X) → All P xs → ((x : X) → P x → ⊥) → xs ≡ []
 no_members P [] all absurdly = refl
 no_members P (x ∷ xs) all absurdly = absurd (absurdly x (All-head P x xs all))
 
@@ -79,32 +80,33 @@ module _ (table : Table) (block : ℕ) (page : List ℕ) where
   abbrev DoubtsHere : UnjudgedPlace → Type 0
   DoubtsHere u = DoubtsItem table block page u.reason u.place
 
-  items_sound : All BreaksHere (items_found table block page).listed.findings
+module _ (table : Table) (chunks : List Chunk) (block : ℕ) (page : List ℕ) where
+  items_sound : All (BreaksHere table block page) (items_found table chunks block page).listed.findings
   unfolding items_found item_found
-  items_sound = All-upto found_parts (λ f. f.listed.findings) refl (λ a b. refl) BreaksHere (item_found table block page) (count_of page) (item_sound table block page)
+  items_sound = All-upto found_parts (λ f. f.listed.findings) refl (λ a b. refl) (BreaksHere table block page) (item_found table chunks block page) (count_of page) (item_sound table block page)
 
-  items_doubts_sound : All DoubtsHere (items_found table block page).listed.unjudged
+  items_doubts_sound : All (DoubtsHere table block page) (items_found table chunks block page).listed.unjudged
   unfolding items_found item_found
-  items_doubts_sound = All-upto found_parts (λ f. f.listed.unjudged) refl (λ a b. refl) DoubtsHere (item_found table block page) (count_of page) (item_doubts_sound table block page)
+  items_doubts_sound = All-upto found_parts (λ f. f.listed.unjudged) refl (λ a b. refl) (DoubtsHere table block page) (item_found table chunks block page) (count_of page) (item_doubts_sound table block page)
 
   -- what is listed of an item is listed of all
-  on_page : (i : ℕ) (place : Place) → 1 ≤ i → i ≤ count_of page → IsListed (verdict_lists (Item (rel_of table.kind) block i) (item_verdict table page i)) place → IsListed (items_found table block page).listed place
+  on_page : (i : ℕ) (place : Place) → 1 ≤ i → i ≤ count_of page → IsListed (verdict_lists (Item (rel_of table.kind) block i) (item_verdict table page i)) place → IsListed (items_found table chunks block page).listed place
   unfolding items_found item_found
   on_page i place first last is =
-      listed_in _ (each_upto found_parts (item_found table block page) (count_of page)).listed place
-      (λ f has. among_upto found_parts (λ x. x.listed.findings) refl (λ a b. refl) (item_found table block page) (count_of page) i f first last has)
-      (λ u has. among_upto found_parts (λ x. x.listed.unjudged) refl (λ a b. refl) (item_found table block page) (count_of page) i u first last has)
+      listed_in _ (each_upto found_parts (item_found table chunks block page) (count_of page)).listed place
+      (λ f has. among_upto found_parts (λ x. x.listed.findings) refl (λ a b. refl) (item_found table chunks block page) (count_of page) i f first last has)
+      (λ u has. among_upto found_parts (λ x. x.listed.unjudged) refl (λ a b. refl) (item_found table chunks block page) (count_of page) i u first last has)
       is
 
   -- where an item breaks a rule, or is in doubt, its place is listed
-  pub items_listed : (rule : Rule) (place : Place) → BreaksItem table block page rule place → IsListed (items_found table block page).listed place
+  pub items_listed : (rule : Rule) (place : Place) → BreaksItem table block page rule place → IsListed (items_found table chunks block page).listed place
   items_listed _ _ (at_item i rule at broken) = on_page i _ at.first at.last (item_listed table block page i rule at broken)
 
-  pub items_doubt_listed : (reason : Reason) (place : Place) → DoubtsItem table block page reason place → IsListed (items_found table block page).listed place
+  pub items_doubt_listed : (reason : Reason) (place : Place) → DoubtsItem table block page reason place → IsListed (items_found table chunks block page).listed place
   items_doubt_listed _ _ (doubt_at_item i d at doubted) = on_page i _ at.first at.last (item_doubt_listed table block page i d at doubted)
 
   -- where nothing is listed of them, all pass
-  pub all_pass : page_rule_of Heap page ≡ None → (items_found table block page).listed.findings ≡ [] → (items_found table block page).listed.unjudged ≡ [] → AllPass table block page
+  pub all_pass : page_rule_of Heap page ≡ None → (items_found table chunks block page).listed.findings ≡ [] → (items_found table chunks block page).listed.unjudged ≡ [] → AllPass table block page
   all_pass header none sure = record {
     header = header;
     unbroken = λ rule place broken. none_listed _ place none sure (items_listed rule place broken);
@@ -112,19 +114,20 @@ module _ (table : Table) (block : ℕ) (page : List ℕ) where
   }
 
   module _ (pass : AllPass table block page) where
-    no_findings : (items_found table block page).listed.findings ≡ []
-    no_findings = no_members BreaksHere _ items_sound (λ f broken. pass.unbroken f.rule f.place broken)
+    pub no_findings : (items_found table chunks block page).listed.findings ≡ []
+    no_findings = no_members (BreaksHere table block page) _ items_sound (λ f broken. pass.unbroken f.rule f.place broken)
 
-    no_doubts : (items_found table block page).listed.unjudged ≡ []
-    no_doubts = no_members DoubtsHere _ items_doubts_sound (λ u doubted. pass.certain u.reason u.place doubted)
+    pub no_doubts : (items_found table chunks block page).listed.unjudged ≡ []
+    no_doubts = no_members (DoubtsHere table block page) _ items_doubts_sound (λ u doubted. pass.certain u.reason u.place doubted)
 
-    passes_by : (i : ℕ) (verdict : ItemVerdict) → 1 ≤ i → i ≤ count_of page → item_verdict table page i ≡ verdict → (state : ItemState) × (item_verdict table page i ≡ Passes state)
-    passes_by i (Passes state) first last e = (state, e)
-    passes_by i (Breaks rule) first last e = absurd (pass.unbroken rule _ (broken_at table block page i rule first last e))
-    passes_by i (InDoubt reason) first last e = absurd (pass.certain reason _ (doubted_at table block page i reason first last e))
+module _ (table : Table) (block : ℕ) (page : List ℕ) (pass : AllPass table block page) where
+  passes_by : (i : ℕ) (verdict : ItemVerdict) → 1 ≤ i → i ≤ count_of page → item_verdict table page i ≡ verdict → (state : ItemState) × (item_verdict table page i ≡ Passes state)
+  passes_by i (Passes state) first last e = (state, e)
+  passes_by i (Breaks rule) first last e = absurd (pass.unbroken rule _ (broken_at table block page i rule first last e))
+  passes_by i (InDoubt reason) first last e = absurd (pass.certain reason _ (doubted_at table block page i reason first last e))
 
-    pub each_passes : EachPasses table page
-    each_passes i first last = passes_by i (item_verdict table page i) first last refl
+  pub each_passes : EachPasses table page
+  each_passes i first last = passes_by i (item_verdict table page i) first last refl
 
 -- All items together
 
@@ -177,62 +180,62 @@ module _ (table : Table) (bits : MapBits) (block : ℕ) (page : List ℕ) where
 
 -- A page
 
-module _ (table : Table) (bits : MapBits) (block : ℕ) (page : List ℕ) where
-  sound_by : (rule : Option Rule) → page_rule_of Heap page ≡ rule → All (BreaksOn table bits block page) (found_by_rule table bits block page rule).listed.findings
+module _ (table : Table) (chunks : List Chunk) (bits : MapBits) (block : ℕ) (page : List ℕ) where
+  sound_by : (rule : Option Rule) → page_rule_of Heap page ≡ rule → All (BreaksOn table bits block page) (found_by_rule table chunks bits block page rule).listed.findings
   sound_by (Some rule) is =
       All-finding_at (BreaksOn table bits block page) (Block (rel_of table.kind) block) (Some rule) (λ q same.
       in_page_header q (Block (rel_of table.kind) block) (page_rule_is_broken Heap (rel_of table.kind) block page q (is ∙ same)))
   sound_by None is =
-      All-append (BreaksOn table bits block page) (items_found table block page).listed.findings _
-      (All-weaker (BreaksHere table block page) (BreaksOn table bits block page) (λ f broken. on_item f.rule f.place is broken) _ (items_sound table block page))
-      (silent_sound (BreaksOn table bits block page) (λ l. l.findings) (items_found table block page).listed.findings (items_found table block page).listed.unjudged (joint table bits block page) refl
-      (λ none sure. joint_sound table bits block page (all_pass table block page is none sure)))
+      All-append (BreaksOn table bits block page) (items_found table chunks block page).listed.findings _
+      (All-weaker (BreaksHere table block page) (BreaksOn table bits block page) (λ f broken. on_item f.rule f.place is broken) _ (items_sound table chunks block page))
+      (silent_sound (BreaksOn table bits block page) (λ l. l.findings) (items_found table chunks block page).listed.findings (items_found table chunks block page).listed.unjudged (joint table bits block page) refl
+      (λ none sure. joint_sound table bits block page (all_pass table chunks block page is none sure)))
 
   -- each finding of a page is a rule that it breaks
-  pub page_sound : All (λ f. BreaksPage table bits block page f.rule f.place) (page_found table bits block page).listed.findings
+  pub page_sound : All (λ f. BreaksPage table bits block page f.rule f.place) (page_found table chunks bits block page).listed.findings
   unfolding page_found
   page_sound = sound_by (page_rule_of Heap page) refl
 
   abbrev DoubtsOn : UnjudgedPlace → Type 0
   DoubtsOn u = DoubtsPage table block page u.reason u.place
 
-  doubts_by : (rule : Option Rule) → page_rule_of Heap page ≡ rule → All DoubtsOn (found_by_rule table bits block page rule).listed.unjudged
+  doubts_by : (rule : Option Rule) → page_rule_of Heap page ≡ rule → All DoubtsOn (found_by_rule table chunks bits block page rule).listed.unjudged
   doubts_by (Some rule) is = All-nil DoubtsOn
   doubts_by None is =
-      All-append DoubtsOn (items_found table block page).listed.unjudged _
-      (All-weaker (DoubtsHere table block page) DoubtsOn (λ u doubted. record { header = is; item = doubted }) _ (items_doubts_sound table block page))
-      (silent_sound DoubtsOn (λ l. l.unjudged) (items_found table block page).listed.findings (items_found table block page).listed.unjudged (joint table bits block page) refl
+      All-append DoubtsOn (items_found table chunks block page).listed.unjudged _
+      (All-weaker (DoubtsHere table block page) DoubtsOn (λ u doubted. record { header = is; item = doubted }) _ (items_doubts_sound table chunks block page))
+      (silent_sound DoubtsOn (λ l. l.unjudged) (items_found table chunks block page).listed.findings (items_found table chunks block page).listed.unjudged (joint table bits block page) refl
       (λ none sure. All-weaker (λ (u : UnjudgedPlace). ⊥) DoubtsOn (λ u no. absurd no) _ (joint_certain table bits block page)))
 
   -- each doubt of a page is one
-  pub page_doubts_sound : All (λ u. DoubtsPage table block page u.reason u.place) (page_found table bits block page).listed.unjudged
+  pub page_doubts_sound : All (λ u. DoubtsPage table block page u.reason u.place) (page_found table chunks bits block page).listed.unjudged
   unfolding page_found
   page_doubts_sound = doubts_by (page_rule_of Heap page) refl
 
   -- what the items list is listed of the page
-  items_on_page : (rule : Option Rule) (place : Place) → rule ≡ None → IsListed (items_found table block page).listed place → IsListed (found_by_rule table bits block page rule).listed place
+  items_on_page : (rule : Option Rule) (place : Place) → rule ≡ None → IsListed (items_found table chunks block page).listed place → IsListed (found_by_rule table chunks bits block page rule).listed place
   items_on_page (Some rule) place e is = cc
   items_on_page None place e is =
-      listed_in (items_found table block page).listed _ place
-      (λ f has. Contains-append_left (items_found table block page).listed.findings _ f has)
-      (λ u has. Contains-append_left (items_found table block page).listed.unjudged _ u has) is
+      listed_in (items_found table chunks block page).listed _ place
+      (λ f has. Contains-append_left (items_found table chunks block page).listed.findings _ f has)
+      (λ u has. Contains-append_left (items_found table chunks block page).listed.unjudged _ u has) is
 
   -- and what they list together, where all pass
-  joint_on_page : (rule : Option Rule) (place : Place) → rule ≡ None → AllPass table block page → IsListed (joint table bits block page) place → IsListed (found_by_rule table bits block page rule).listed place
+  joint_on_page : (rule : Option Rule) (place : Place) → rule ≡ None → AllPass table block page → IsListed (joint table bits block page) place → IsListed (found_by_rule table chunks bits block page rule).listed place
   joint_on_page (Some rule) place e pass is = cc
   joint_on_page None place e pass is =
-      let items = (items_found table block page).listed in
-      let shown : if_silent items.findings items.unjudged (joint table bits block page) ≡ joint table bits block page = silent_is items.findings items.unjudged (joint table bits block page) (no_findings table block page pass) (no_doubts table block page pass) in
+      let items = (items_found table chunks block page).listed in
+      let shown : if_silent items.findings items.unjudged (joint table bits block page) ≡ joint table bits block page = silent_is items.findings items.unjudged (joint table bits block page) (no_findings table chunks block page pass) (no_doubts table chunks block page pass) in
       let here : IsListed (if_silent items.findings items.unjudged (joint table bits block page)) place = subst (λ (l : Lists). IsListed l place) (sym shown) is in
       listed_in (if_silent items.findings items.unjudged (joint table bits block page)) _ place
       (λ f has. Contains-append_right items.findings _ f has)
       (λ u has. Contains-append_right items.unjudged _ u has) here
 
-  header_by : (rule : Option Rule) → (rule ≡ None → ⊥) → IsListed (found_by_rule table bits block page rule).listed (Block (rel_of table.kind) block)
+  header_by : (rule : Option Rule) → (rule ≡ None → ⊥) → IsListed (found_by_rule table chunks bits block page rule).listed (Block (rel_of table.kind) block)
   header_by None broken = absurd (broken refl)
   header_by (Some rule) broken = found rule (0, omega arith, refl)
 
-  header_listed : (rule : Rule) (place : Place) → BreaksHeader Heap (rel_of table.kind) block page rule place → IsListed (page_found table bits block page).listed (Block (rel_of table.kind) block)
+  header_listed : (rule : Rule) (place : Place) → BreaksHeader Heap (rel_of table.kind) block page rule place → IsListed (page_found table chunks bits block page).listed (Block (rel_of table.kind) block)
   unfolding page_found
   header_listed rule place broken = header_by (page_rule_of Heap page) (λ none. no_header_is_broken Heap (rel_of table.kind) block page none rule place broken)
 
@@ -261,12 +264,12 @@ module _ (table : Table) (bits : MapBits) (block : ℕ) (page : List ℕ) where
       (listed_at _ (chain_rule block s i) (λ none. (none_told block s i first).0 none rule broken))
 
   -- where a page breaks a rule, its lists name the place
-  pub page_listed : (rule : Rule) (place : Place) → BreaksPage table bits block page rule place → IsListed (page_found table bits block page).listed place
+  pub page_listed : (rule : Rule) (place : Place) → BreaksPage table bits block page rule place → IsListed (page_found table chunks bits block page).listed place
   unfolding page_found
   page_listed _ _ (in_page_header rule place broken) =
-      let P : Place → Type 0 = λ p. IsListed (page_found table bits block page).listed p in
+      let P : Place → Type 0 = λ p. IsListed (page_found table chunks bits block page).listed p in
       subst P (sym (place_of_header Heap (rel_of table.kind) block page rule place broken)) (header_listed rule place broken)
-  page_listed _ _ (on_item rule place header broken) = items_on_page (page_rule_of Heap page) place header (items_listed table block page rule place broken)
+  page_listed _ _ (on_item rule place header broken) = items_on_page (page_rule_of Heap page) place header (items_listed table chunks block page rule place broken)
   page_listed _ _ (in_visibility rule s pass are broken) =
       joint_on_page (page_rule_of Heap page) _ pass.header pass
       (visibility_listed rule (subst (λ (x : List ItemState). IsMapRuleBroken bits (is_flagged_visible page) x rule) (of_page s pass are) broken))
@@ -275,9 +278,9 @@ module _ (table : Table) (bits : MapBits) (block : ℕ) (page : List ℕ) where
       (chain_listed i rule pass first last (subst (λ (x : List ItemState). IsChainRuleBroken block x i rule) (of_page s pass are) broken))
 
   -- and where an item of it is in doubt
-  pub page_doubt_listed : (reason : Reason) (place : Place) → DoubtsPage table block page reason place → IsListed (page_found table bits block page).listed place
+  pub page_doubt_listed : (reason : Reason) (place : Place) → DoubtsPage table block page reason place → IsListed (page_found table chunks bits block page).listed place
   unfolding page_found
-  page_doubt_listed reason place doubted = items_on_page (page_rule_of Heap page) place doubted.header (items_doubt_listed table block page reason place doubted.item)
+  page_doubt_listed reason place doubted = items_on_page (page_rule_of Heap page) place doubted.header (items_doubt_listed table chunks block page reason place doubted.item)
 
 -- A page of which nothing is listed
 
@@ -285,17 +288,17 @@ pub record IsQuietPage (table : Table) (bits : MapBits) (block : ℕ) (page : Li
   pub pass : AllPass table block page
   pub joint : (joint_found (rel_of table.kind) block bits (is_flagged_visible page) (states_of table page)).findings ≡ []
 
-quiet_by : (table : Table) (bits : MapBits) (block : ℕ) (page : List ℕ) (rule : Option Rule) → page_rule_of Heap page ≡ rule → (found_by_rule table bits block page rule).listed.findings ≡ [] → (found_by_rule table bits block page rule).listed.unjudged ≡ [] → IsQuietPage table bits block page
-quiet_by table bits block page (Some rule) is none sure = cc
-quiet_by table bits block page None is none sure =
-    let items = (items_found table block page).listed in
+quiet_by : (table : Table) (chunks : List Chunk) (bits : MapBits) (block : ℕ) (page : List ℕ) (rule : Option Rule) → page_rule_of Heap page ≡ rule → (found_by_rule table chunks bits block page rule).listed.findings ≡ [] → (found_by_rule table chunks bits block page rule).listed.unjudged ≡ [] → IsQuietPage table bits block page
+quiet_by table chunks bits block page (Some rule) is none sure = cc
+quiet_by table chunks bits block page None is none sure =
+    let items = (items_found table chunks block page).listed in
     let no_finding = first_is_empty items.findings _ none in
     let no_doubt = first_is_empty items.unjudged _ sure in
     record {
-      pass = all_pass table block page is no_finding no_doubt;
+      pass = all_pass table chunks block page is no_finding no_doubt;
       joint = subst (λ (l : Lists). l.findings ≡ []) (silent_is items.findings items.unjudged (joint table bits block page) no_finding no_doubt) (second_is_empty items.findings _ none);
     }
 
-pub page_is_quiet : (table : Table) (bits : MapBits) (block : ℕ) (page : List ℕ) → (page_found table bits block page).listed.findings ≡ [] → (page_found table bits block page).listed.unjudged ≡ [] → IsQuietPage table bits block page
+pub page_is_quiet : (table : Table) (chunks : List Chunk) (bits : MapBits) (block : ℕ) (page : List ℕ) → (page_found table chunks bits block page).listed.findings ≡ [] → (page_found table chunks bits block page).listed.unjudged ≡ [] → IsQuietPage table bits block page
 unfolding page_found
-page_is_quiet table bits block page none sure = quiet_by table bits block page (page_rule_of Heap page) refl none sure
+page_is_quiet table chunks bits block page none sure = quiet_by table chunks bits block page (page_rule_of Heap page) refl none sure

@@ -1,10 +1,10 @@
 -- The states of a page are those of its items.
 use Rattle.std.proofs.Common.{◌≡◌, ℕ, zero, suc, ◌+◌, ◌-◌, ◌≤◌, ◌<◌, Bool, true, false, List, [], ◌∷◌, ◌++◌, length, get_or, refl, sym, subst, ap, ◌∙◌, arith, ◌⊎◌, inl, inr}
-use Rattle.std.specs.Prelude.{Option, Some, None, if◌then◌else◌, nat_eq}
+use Rattle.std.specs.Prelude.{Option, Some, None, if◌then◌else◌}
 use Rattle.std.proofs.lemmas.Bool.{cond-false, ne_eqb}
 use Rattle.std.proofs.lemmas.List.{get_or_append_left, get_or_push, length-append}
 use Rattle.outside.specs.Adds.{one_list}
-use Rattle.page_layout.specs.Items.{is_misplaced_heap_item, is_normal}
+use Rattle.page_layout.specs.Items.{is_misplaced_heap_item}
 use Rattle.page_layout.specs.Page.{count_of, item_of, upper_of}
 use Rattle.page_layout.specs.declared.page.LineFlag.{LineFlag}
 use Rattle.page_layout.specs.declared.page.LineFlag.TheVariants as flag
@@ -24,7 +24,7 @@ use Rattle.reports.specs.declared.places.Reason.TheVariants.{U1}
 use Rattle.heap_pages.specs.Found.{item_state, state_in, states_of}
 use Rattle.heap_pages.specs.States.{AreStatesOf, IsStateOf, unused, dead, redirect, tuple}
 use Rattle.heap_pages.specs.Storage.{overlaps_lower_item}
-use Rattle.heap_pages.specs.Table.{Table, logs_in, oid_of}
+use Rattle.heap_pages.specs.Table.{Table, logs_in}
 use Rattle.heap_pages.specs.Values.{values_rule}
 use Rattle.heap_pages.specs.Verdicts.{flag_verdict, head_at, header_verdict, item_verdict, life_verdict, normal_verdict, tuple_verdict, values_verdict}
 use Rattle.heap_pages.specs.declared.verdict.ItemVerdict.{ItemVerdict}
@@ -47,8 +47,8 @@ module _ (table : Table) (page : List ℕ) (i : ℕ) where
   values_show (Some rule) is = tt
   values_show None is = tuple is
 
-  life_shows : (l : Life) → (item_of page i).flag ≡ flag.Normal → Shows table page i (life_verdict (oid_of table.toast) table.columns (tuple_at page i) (head_at page i) (judged_of (logs_in table) (head_at page i)) l)
-  life_shows life.Live is = values_show (values_rule (oid_of table.toast) (head_at page i) (attributes_in table.columns (tuple_at page i))) is
+  life_shows : (l : Life) → (item_of page i).flag ≡ flag.Normal → Shows table page i (life_verdict table.toast table.columns (tuple_at page i) (head_at page i) (judged_of (logs_in table) (head_at page i)) l)
+  life_shows life.Live is = values_show (values_rule table.toast (head_at page i) (attributes_in table.columns (tuple_at page i))) is
   life_shows life.Dead is = tuple is
   life_shows (life.Unjudged u) is = tt
   life_shows (life.Broken rule) is = tt

@@ -1,19 +1,15 @@
 -- A page of which nothing is listed is true.
-use Rattle.std.proofs.Common.{◌≡◌, ℕ, ◌+◌, ◌-◌, ◌≤◌, ◌<◌, Bool, true, false, List, length, get_or, refl, sym, subst, ap, ◌∙◌, arith}
-use Rattle.std.specs.Prelude.{is_some, nat_eq}
+use Rattle.std.proofs.Common.{◌≡◌, ℕ, ◌-◌, ◌≤◌, List, length, get_or, refl, sym, subst, ap, ◌∙◌, arith}
+use Rattle.std.specs.Prelude.{is_some}
 use Rattle.std.specs.List.{All}
-use Rattle.std.proofs.lemmas.Bool.{both_ways, cond-false, ne_eqb}
+use Rattle.std.proofs.lemmas.Bool.{cond-false, ne_eqb}
 use Rattle.std.proofs.lemmas.List.Elements.{All-get_or}
-use Rattle.page_layout.specs.Items.{is_normal}
-use Rattle.page_layout.specs.Page.{count_of, item_of}
+use Rattle.page_layout.specs.Page.{item_of}
 use Rattle.page_layout.specs.declared.page.LineFlag.{LineFlag}
 use Rattle.page_layout.specs.declared.page.LineFlag.TheVariants as flag
-use Rattle.tuple_head.specs.Head.{needs_freezing}
 use Rattle.liveness.specs.Life.{judged_of}
 use Rattle.liveness.specs.declared.states.ItemState.{ItemState}
-use Rattle.liveness.specs.declared.states.ItemState.TheVariants.{Unused, Dead, Redirect, Tuple}
-use Rattle.liveness.specs.declared.states.Life.{Life}
-use Rattle.liveness.specs.declared.states.Life.TheVariants as life
+use Rattle.liveness.specs.declared.states.ItemState.TheVariants.{Unused, Dead, Tuple}
 use Rattle.hot_chains.proofs.Law.{one_root}
 use Rattle.hot_chains.specs.Chains.{chain_rule, is_live, is_live_tuple, item_at}
 use Rattle.hot_chains.specs.Quiet.{HasOneRoot, IsLiveItem, KeepsChainRules}
@@ -22,9 +18,9 @@ use Rattle.vis_map.specs.Rules.{map_rule_of}
 use Rattle.vis_map.specs.Truth.{AreTrue, IsAllFrozen, IsAllVisible, IsSettled, IsVisible}
 use Rattle.vis_map.specs.declared.bits.MapBits.{MapBits}
 use Rattle.reports.proofs.Parts.{first_is_empty, second_is_empty, upto_is_empty}
-use Rattle.reports.specs.Added.{each_upto, finding_at, report_lists}
+use Rattle.reports.specs.Added.{finding_at, report_lists}
 use Rattle.reports.specs.declared.places.Place.TheVariants.{Block, Item}
-use Rattle.heap_pages.specs.Broken.{AllPass, HoldsLiveTuple, IsNormalItem}
+use Rattle.heap_pages.specs.Broken.{HoldsLiveTuple, IsNormalItem}
 use Rattle.heap_pages.specs.Found.{states_of}
 use Rattle.heap_pages.specs.Pages.{chain_found, is_flagged_visible, joint_found}
 use Rattle.heap_pages.specs.States.{AreStatesOf, IsStateOf, unused, dead, redirect, tuple}
@@ -34,14 +30,9 @@ use Rattle.heap_pages.specs.Verdicts.{head_at}
 use Rattle.heap_pages.proofs.HeaderLaws.{no_finding_at}
 use Rattle.heap_pages.proofs.ItemLaws.{live_passes}
 use Rattle.heap_pages.proofs.LifeLaws.{live_is}
+use Rattle.heap_pages.proofs.ItemRules.{flag_is_normal}
 use Rattle.heap_pages.proofs.PageLaws.{IsQuietPage, each_passes}
 use Rattle.heap_pages.proofs.StateLaws.{passes_there, states_are_one, states_are_there}
-
-flag_is_normal : (f : LineFlag) → is_normal f ≡ true → f ≡ flag.Normal
-flag_is_normal flag.Normal e = refl
-flag_is_normal flag.Unused e = cc
-flag_is_normal flag.Redirect e = cc
-flag_is_normal flag.Dead e = cc
 
 -- the state of a normal item, and of a dead one
 tuple_by : (table : Table) (page : List ℕ) (i : ℕ) (f : LineFlag) (s : ItemState) → (item_of page i).flag ≡ f → f ≡ flag.Normal → IsStateOf table page i s → s ≡ Tuple (head_at page i) (judged_of (logs_in table) (head_at page i))

@@ -17,7 +17,7 @@ use Rattle.toast_chunks.specs.Pointer.{KeepsPointerRule, keeps_pointer_rule}
 use Rattle.heap_tuples.specs.Places.{tuple_at}
 use Rattle.toast_chunks.proofs.Pointers.{pointer-sentence}
 use Rattle.heap_pages.specs.Broken.{BreaksAt, HasExternal, HoldsLiveTuple, past_end, bad_length, bad_tag, stray_pointer, bad_pointer}
-use Rattle.heap_pages.specs.Table.{Table, oid_of}
+use Rattle.heap_pages.specs.Table.{Table}
 use Rattle.heap_pages.specs.Values.{first_value_rule, is_stray_pointer, pointer_rule_of, value_rule, values_rule}
 use Rattle.heap_pages.specs.Verdicts.{head_at}
 
@@ -90,7 +90,7 @@ no_value_breaks toast head (a ∷ list) e =
 -- The values of an item
 
 module _ (table : Table) (page : List ℕ) (i : ℕ) where
-  has_broken : (list : List Attribute) (rule : Rule) → HoldsLiveTuple table page i → attributes_in table.columns (tuple_at page i) ≡ Ok list → (p : ToastPointer) → Contains list (External p) → BreaksPointer (oid_of table.toast) (head_at page i) p rule → BreaksAt table page i rule
+  has_broken : (list : List Attribute) (rule : Rule) → HoldsLiveTuple table page i → attributes_in table.columns (tuple_at page i) ≡ Ok list → (p : ToastPointer) → Contains list (External p) → BreaksPointer table.toast (head_at page i) p rule → BreaksAt table page i rule
   has_broken list _ live read p among (stray is) =
       stray_pointer p (record { live = live; list = list; read = read; among = among }) is
   has_broken list _ live read p among (bad is) =
@@ -98,9 +98,9 @@ module _ (table : Table) (page : List ℕ) (i : ℕ) where
       (λ keeps. both_ways (keeps_pointer_rule p) is ((pointer-sentence p).1 keeps))
 
   -- the rule that the values of a live tuple break is broken
-  pub values_break : (outcome : Outcome) (rule : Rule) → HoldsLiveTuple table page i → attributes_in table.columns (tuple_at page i) ≡ outcome → values_rule (oid_of table.toast) (head_at page i) outcome ≡ Some rule → BreaksAt table page i rule
+  pub values_break : (outcome : Outcome) (rule : Rule) → HoldsLiveTuple table page i → attributes_in table.columns (tuple_at page i) ≡ outcome → values_rule table.toast (head_at page i) outcome ≡ Some rule → BreaksAt table page i rule
   values_break (Ok list) rule live read e =
-      let found = first_breaks (oid_of table.toast) (head_at page i) list list rule (All-contains_itself list) e in
+      let found = first_breaks table.toast (head_at page i) list list rule (All-contains_itself list) e in
       has_broken list rule live read found.pointer found.among found.breaks
   values_break (Err (PastEnd column)) rule live read e =
       let same : H17 ≡ rule = cc in subst (BreaksAt table page i) same (past_end column live read)
@@ -112,15 +112,15 @@ module _ (table : Table) (page : List ℕ) (i : ℕ) where
 
   -- the values of a tuple break no rule
   abbrev pub KeepsValues : Type 0
-  KeepsValues = values_rule (oid_of table.toast) (head_at page i) (attributes_in table.columns (tuple_at page i)) ≡ None
+  KeepsValues = values_rule table.toast (head_at page i) (attributes_in table.columns (tuple_at page i)) ≡ None
 
   -- then its attributes can be read
-  pub read_is_kept : (outcome : Outcome) → KeepsValues → attributes_in table.columns (tuple_at page i) ≡ outcome → values_rule (oid_of table.toast) (head_at page i) outcome ≡ None
-  read_is_kept outcome keeps e = subst (λ (o : Outcome). values_rule (oid_of table.toast) (head_at page i) o ≡ None) e keeps
+  pub read_is_kept : (outcome : Outcome) → KeepsValues → attributes_in table.columns (tuple_at page i) ≡ outcome → values_rule table.toast (head_at page i) outcome ≡ None
+  read_is_kept outcome keeps e = subst (λ (o : Outcome). values_rule table.toast (head_at page i) o ≡ None) e keeps
 
   -- and each of its pointers keeps H19 and H20
-  pub external_keeps : (p : ToastPointer) → KeepsValues → HasExternal table page i p → (is_stray_pointer (oid_of table.toast) (head_at page i) p ≡ false) × KeepsPointerRule p
+  pub external_keeps : (p : ToastPointer) → KeepsValues → HasExternal table page i p → (is_stray_pointer table.toast (head_at page i) p ≡ false) × KeepsPointerRule p
   external_keeps p keeps has =
-      let each = no_value_breaks (oid_of table.toast) (head_at page i) has.list (read_is_kept (Ok has.list) keeps has.read) in
-      let both = pointer_keeps (oid_of table.toast) (head_at page i) p (All-contains (λ a. value_rule (oid_of table.toast) (head_at page i) a ≡ None) has.list (External p) each has.among) in
+      let each = no_value_breaks table.toast (head_at page i) has.list (read_is_kept (Ok has.list) keeps has.read) in
+      let both = pointer_keeps table.toast (head_at page i) p (All-contains (λ a. value_rule table.toast (head_at page i) a ≡ None) has.list (External p) each has.among) in
       (both.0, (pointer-sentence p).0 both.1)

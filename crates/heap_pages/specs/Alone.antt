@@ -23,11 +23,12 @@ pub data BreaksHeader (kind : PageKind) (rel : Rel) (block : ℕ) (page : List �
   bad_places : has_bad_places kind page ≡ true → BreaksHeader kind rel block page P3 (Block rel block)
   stray_byte : is_new_but_written page ≡ true → BreaksHeader kind rel block page P4 (Block rel block)
 
--- what a page of the heap may break without a look at its tuples
+-- what a page of the heap may break without a look at its tuples; its items are asked where its header breaks no rule
 pub data BreaksAlone (block : ℕ) (page : List ℕ) : Rule → Place → Type 0 where
   header : (rule : Rule) (place : Place) → BreaksHeader Heap heap block page rule place
       → BreaksAlone block page rule place
-  misplaced : (i : ℕ) → 1 ≤ i → i ≤ count_of page → is_misplaced_heap_item (upper_of page) (item_of page i) ≡ true
+  misplaced : (i : ℕ) → page_rule_of Heap page ≡ None → 1 ≤ i → i ≤ count_of page
+      → is_misplaced_heap_item (upper_of page) (item_of page i) ≡ true
       → BreaksAlone block page H1 (Item heap block i)
 
 -- The lists, in the order in which a report has them

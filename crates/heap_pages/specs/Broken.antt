@@ -25,7 +25,7 @@ use Rattle.heap_pages.specs.Alone.{BreaksHeader}
 use Rattle.heap_pages.specs.Pages.{is_flagged_visible}
 use Rattle.heap_pages.specs.States.{AreStatesOf}
 use Rattle.heap_pages.specs.Storage.{OverlapsLowerItem}
-use Rattle.heap_pages.specs.Table.{Table, oid_of, rel_of}
+use Rattle.heap_pages.specs.Table.{Table, rel_of}
 use Rattle.heap_pages.specs.Values.{is_stray_pointer}
 use Rattle.heap_pages.specs.Verdicts.{head_at, reason_of}
 
@@ -64,7 +64,7 @@ pub data BreaksAt (table : Table) (page : List ℕ) (i : ℕ) : Rule → Type 0 
   bad_tag : (column : ℕ) → HoldsLiveTuple table page i
       → attributes_in table.columns (tuple_at page i) ≡ Err (BadTag column) → BreaksAt table page i H18
   stray_pointer : (pointer : ToastPointer) → HasExternal table page i pointer
-      → is_stray_pointer (oid_of table.toast) (head_at page i) pointer ≡ true → BreaksAt table page i H19
+      → is_stray_pointer table.toast (head_at page i) pointer ≡ true → BreaksAt table page i H19
   bad_pointer : (pointer : ToastPointer) → HasExternal table page i pointer
       → ¬ KeepsPointerRule pointer → BreaksAt table page i H20
 
@@ -75,7 +75,8 @@ pub data BreaksItem (table : Table) (block : ℕ) (page : List ℕ) : Rule → P
 -- why the tuple of a normal item may be in doubt: a header of old form, or what the logs say
 pub data DoubtsItem (table : Table) (block : ℕ) (page : List ℕ) : Reason → Place → Type 0 where
   doubt_at_item : (i : ℕ) (doubt : Doubt) → IsNormalItem page i
-      → IsInDoubt table.names table.logs (head_at page i) doubt → DoubtsItem table block page (reason_of doubt) (Item (rel_of table.kind) block i)
+      → IsInDoubt table.names table.logs (head_at page i) doubt
+      → DoubtsItem table block page (reason_of doubt) (Item (rel_of table.kind) block i)
 
 -- A page
 

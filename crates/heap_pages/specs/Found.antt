@@ -25,7 +25,7 @@ use Rattle.reports.specs.Added.{doubt_at, each_upto, finding_at, joined, nothing
 use Rattle.reports.specs.Lists.{Lists}
 use Rattle.reports.specs.declared.places.Place.{Place}
 use Rattle.reports.specs.declared.places.Place.TheVariants.{Column, Item}
-use Rattle.heap_pages.specs.Table.{Table, Toasted, rel_of}
+use Rattle.heap_pages.specs.Table.{Table, rel_of}
 use Rattle.heap_pages.specs.Verdicts.{item_verdict}
 use Rattle.heap_pages.specs.declared.table.TableKind.{TableKind}
 use Rattle.heap_pages.specs.declared.table.TableKind.TheVariants as kind
@@ -101,26 +101,26 @@ abbrev pub value_rule_late : List Chunk → ToastPointer → Option Rule
 value_rule_late chunks pointer = if is_whole chunks pointer then None else Some H21
 
 -- asked of a value where there is a TOAST table; where there is none, the value breaks H19
-abbrev pub late_by : Option Toasted → Place → ToastPointer → Lists
-late_by None place pointer = nothing
-late_by (Some t) place pointer = finding_at place (value_rule_late t.chunks pointer)
+abbrev pub late_by : Option ℕ → List Chunk → Place → ToastPointer → Lists
+late_by None chunks place pointer = nothing
+late_by (Some oid) chunks place pointer = finding_at place (value_rule_late chunks pointer)
 
 -- what the value at a place gives
-abbrev pub late_in : Option Toasted → Place → Option Attribute → Lists
-late_in toast place (Some (External pointer)) = late_by toast place pointer
-late_in toast place (Some Null) = nothing
-late_in toast place (Some Missing) = nothing
-late_in toast place (Some (Plain content)) = nothing
-late_in toast place (Some (Packed piece)) = nothing
-late_in toast place None = nothing
+abbrev pub late_in : Option ℕ → List Chunk → Place → Option Attribute → Lists
+late_in toast chunks place (Some (External pointer)) = late_by toast chunks place pointer
+late_in toast chunks place (Some Null) = nothing
+late_in toast chunks place (Some Missing) = nothing
+late_in toast chunks place (Some (Plain content)) = nothing
+late_in toast chunks place (Some (Packed piece)) = nothing
+late_in toast chunks place None = nothing
 
 -- what column k of a tuple gives, counted from 0; places count columns from 1
-unfoldable pub late_at : Option Toasted → ℕ → ℕ → List Attribute → ℕ → Lists
-late_at toast block item list k = late_in toast (Column block item (k + 1)) (slice_get list k)
+unfoldable pub late_at : Option ℕ → List Chunk → ℕ → ℕ → List Attribute → ℕ → Lists
+late_at toast chunks block item list k = late_in toast chunks (Column block item (k + 1)) (slice_get list k)
 
 -- what those of a tuple with these attributes give
-unfoldable pub late_of : Option Toasted → ℕ → ℕ → List Attribute → Lists
-late_of toast block item list = each_below report_lists (late_at toast block item list) (length list)
+unfoldable pub late_of : Option ℕ → List Chunk → ℕ → ℕ → List Attribute → Lists
+late_of toast chunks block item list = each_below report_lists (late_at toast chunks block item list) (length list)
 
 -- Chunks
 
@@ -133,18 +133,21 @@ chunk_by block item (Some row) =
 -- What is found of an item
 
 -- a live tuple of a heap has values that may not be whole, one of a TOAST table is a chunk
-abbrev pub late_left : TableKind → Option Toasted → ℕ → ℕ → List Attribute → Lists
-late_left kind.Heap toast block item list = late_of toast block item list
-late_left kind.Toast toast block item list = nothing
+abbrev pub late_left : TableKind → Option ℕ → List Chunk → ℕ → ℕ → List Attribute → Lists
+late_left kind.Heap toast chunks block item list = late_of toast chunks block item list
+late_left kind.Toast toast chunks block item list = nothing
 
 abbrev pub chunks_left : TableKind → ℕ → ℕ → List Attribute → List Chunk
 chunks_left kind.Heap block item list = []
 chunks_left kind.Toast block item list = chunk_by block item (row_of list)
 
 -- what the attributes of a live tuple leave
-abbrev pub left_by : TableKind → Option Toasted → ℕ → ℕ → List Attribute → FoundLists
-left_by what toast block item list =
-    record { listed = nothing; late = late_left what toast block item list; chunks = chunks_left what block item list }
+abbrev pub left_by : TableKind → Option ℕ → List Chunk → ℕ → ℕ → List Attribute → FoundLists
+left_by what toast chunks block item list = record {
+  listed = nothing;
+  late = late_left what toast chunks block item list;
+  chunks = chunks_left what block item list;
+}
 
 -- what the verdict on a place says
 abbrev pub verdict_lists : Place → ItemVerdict → Lists
@@ -152,14 +155,15 @@ verdict_lists place (Passes state) = nothing
 verdict_lists place (Breaks rule) = finding_at place (Some rule)
 verdict_lists place (InDoubt reason) = doubt_at place (Some reason)
 
-unfoldable pub item_found : Table → ℕ → List ℕ → ℕ → FoundLists
-item_found table block page i =
-    both_found (left_by table.kind table.toast block i (live_attributes table page i))
+-- these chunks stand in its TOAST table
+unfoldable pub item_found : Table → List Chunk → ℕ → List ℕ → ℕ → FoundLists
+item_found table chunks block page i =
+    both_found (left_by table.kind table.toast chunks block i (live_attributes table page i))
     (only_listed (verdict_lists (Item (rel_of table.kind) block i) (item_verdict table page i)))
 
 -- what all items of a page give, each by itself
-unfoldable pub items_found : Table → ℕ → List ℕ → FoundLists
-items_found table block page = each_upto found_parts (item_found table block page) (count_of page)
+unfoldable pub items_found : Table → List Chunk → ℕ → List ℕ → FoundLists
+items_found table chunks block page = each_upto found_parts (item_found table chunks block page) (count_of page)
 
 -- The states of the items, for what is asked of all of them together
 

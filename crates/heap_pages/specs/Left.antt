@@ -13,7 +13,7 @@ use Rattle.page_layout.specs.declared.rules.Rule.TheVariants.{H21}
 use Rattle.reports.specs.declared.places.Place.{Place}
 use Rattle.reports.specs.declared.places.Place.TheVariants.{Column}
 use Rattle.heap_pages.specs.Broken.{HoldsLiveTuple}
-use Rattle.heap_pages.specs.Table.{Table, Toasted}
+use Rattle.heap_pages.specs.Table.{Table}
 
 -- a value of the live tuple at item i, whose attributes can be read, stands in a TOAST table, where this pointer
 -- finds it; columns are counted from 1
@@ -24,11 +24,11 @@ pub record HasValue (table : Table) (page : List ℕ) (i column : ℕ) (pointer 
   pub first : 1 ≤ column
   pub value : slice_get list (column - 1) ≡ Some (External pointer)
 
--- H21: the chunks of such a value in the table's TOAST table aren't those that it should have
-pub data BreaksValue (table : Table) (block : ℕ) (page : List ℕ) : Rule → Place → Type 0 where
-  not_whole : (toast : Toasted) (i column : ℕ) (pointer : ToastPointer) → table.toast ≡ Some toast
-      → HasValue table page i column pointer → ¬ IsWhole toast.chunks pointer
-      → BreaksValue table block page H21 (Column block i column)
+-- H21: where these chunks stand in the table's TOAST table, those of such a value aren't what they should be
+pub data BreaksValue (chunks : List Chunk) (table : Table) (block : ℕ) (page : List ℕ) : Rule → Place → Type 0 where
+  not_whole : (oid i column : ℕ) (pointer : ToastPointer) → table.toast ≡ Some oid
+      → HasValue table page i column pointer → ¬ IsWhole chunks pointer
+      → BreaksValue chunks table block page H21 (Column block i column)
 
 -- the live tuple at item i, whose attributes can be read, is the row of this chunk of a TOAST table
 pub record IsRowOn (table : Table) (block : ℕ) (page : List ℕ) (i : ℕ) (c : Chunk) : Type 0 where

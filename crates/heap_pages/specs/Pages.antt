@@ -5,6 +5,7 @@ use Rattle.page_layout.specs.declared.page.PageKind.TheVariants.{Heap}
 use Rattle.page_layout.specs.declared.rules.Rule.{Rule}
 use Rattle.hot_chains.specs.Chains.{chain_rule}
 use Rattle.liveness.specs.declared.states.ItemState.{ItemState}
+use Rattle.toast_chunks.specs.declared.map.Chunk.{Chunk}
 use Rattle.vis_map.specs.Rules.{map_rule_of}
 use Rattle.vis_map.specs.declared.bits.MapBits.{MapBits}
 use Rattle.reports.specs.Added.{each_upto, finding_at, joined, nothing, report_lists}
@@ -42,12 +43,13 @@ abbrev pub with_joint : FoundLists → Lists → FoundLists
 with_joint found joint = both_found found (only_listed (if_silent found.listed.findings found.listed.unjudged joint))
 
 -- the page's own rule, or else what its items give
-abbrev pub found_by_rule : Table → MapBits → ℕ → List ℕ → Option Rule → FoundLists
-found_by_rule table bits block page (Some rule) = only_listed (finding_at (Block (rel_of table.kind) block) (Some rule))
-found_by_rule table bits block page None =
-    with_joint (items_found table block page)
+abbrev pub found_by_rule : Table → List Chunk → MapBits → ℕ → List ℕ → Option Rule → FoundLists
+found_by_rule table chunks bits block page (Some rule) =
+    only_listed (finding_at (Block (rel_of table.kind) block) (Some rule))
+found_by_rule table chunks bits block page None =
+    with_joint (items_found table chunks block page)
     (joint_found (rel_of table.kind) block bits (is_flagged_visible page) (states_of table page))
 
--- a page of a table, of whose block the visibility map says so much
-unfoldable pub page_found : Table → MapBits → ℕ → List ℕ → FoundLists
-page_found table bits block page = found_by_rule table bits block page (page_rule_of Heap page)
+-- a page of a table in whose TOAST table these chunks stand, and of whose block the visibility map says so much
+unfoldable pub page_found : Table → List Chunk → MapBits → ℕ → List ℕ → FoundLists
+page_found table chunks bits block page = found_by_rule table chunks bits block page (page_rule_of Heap page)

@@ -1,6 +1,5 @@
 -- What the rules of a heap need to know of its table.
-use Rattle.std.specs.Prelude.{◌≤◌, ℕ, All, List, length, Option}
-use Rattle.std.specs.Option.{option_map}
+use Rattle.std.specs.Prelude.{◌≤◌, ℕ, All, List, [], length, Option, Some, None}
 use Rattle.outside.specs.Outside.{Names}
 use Rattle.key_orders.specs.Types.{HasAlignment}
 use Rattle.key_orders.specs.declared.columns.ColType.{ColType}
@@ -14,17 +13,12 @@ use Rattle.heap_pages.specs.declared.table.TableKind.TheVariants.{Heap, Toast}
 use Rattle.heap_pages.specs.declared.table.TableRules.{TableRules}
 use Rattle.heap_pages.specs.declared.table.ToastTable.{ToastTable}
 
--- the TOAST table of a heap: its oid, and the live chunks in it
-pub record Toasted : Type 0 where
-  pub oid : ℕ
-  pub chunks : List Chunk
-
--- a table: whether it is a heap or a TOAST table, its columns, its TOAST table, where it has one, and where the
--- logs of its transactions stand in the files that have these names
+-- a table: whether it is a heap or a TOAST table, its columns, the oid of its TOAST table, where it has one, and where
+-- the logs of its transactions stand in the files that have these names
 pub record Table : Type 0 where
   pub kind : TableKind
   pub columns : List ColType
-  pub toast : Option Toasted
+  pub toast : Option ℕ
   pub names : Names
   pub logs : LogFiles
 
@@ -37,26 +31,26 @@ rel_of Toast = rel.Toast
 abbrev pub logs_in : Table → Logs
 logs_in table = logs_of table.names table.logs
 
--- the oid of its TOAST table
-abbrev pub oid_of : Option Toasted → Option ℕ
-oid_of toast = option_map (λ t. t.oid) toast
-
 -- The table that the code's rules of a table stand for
 
-abbrev pub toast_seen : ToastTable → Toasted
-toast_seen t = record { oid = t.oid; chunks = t.chunks.now }
+-- the oid of a TOAST table, where there is one
+abbrev pub toast_oid_seen : Option ToastTable → Option ℕ
+toast_oid_seen None = None
+toast_oid_seen (Some toast) = Some toast.oid
 
-abbrev pub toasted : TableRules → Option Toasted
-toasted table = option_map toast_seen table.toast
+-- the chunks that stand in it; none where there is no such table
+abbrev pub chunks_seen : Option ToastTable → List Chunk
+chunks_seen None = []
+chunks_seen (Some toast) = toast.chunks.now
 
 -- the table of these columns, with what the logs in these files say
-unfoldable pub table_with : Names → TableKind → List ColType → Option Toasted → LogFiles → Table
+unfoldable pub table_with : Names → TableKind → List ColType → Option ℕ → LogFiles → Table
 table_with names kind columns toast logs =
     record { kind = kind; columns = columns; toast = toast; names = names; logs = logs }
 
 abbrev pub table_seen : Names → TableRules → Table
 table_seen names table =
-    table_with names table.kind table.columns.now (toasted table) (log_files_of table.logs)
+    table_with names table.kind table.columns.now (toast_oid_seen table.toast) (log_files_of table.logs)
 
 -- columns by which tuples can be read
 pub record AreReadable (columns : List ColType) : Type 0 where

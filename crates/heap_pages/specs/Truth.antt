@@ -1,6 +1,5 @@
 -- What is true of a page of which nothing is found and all of which can be judged, in the words of its bytes.
 use Rattle.std.specs.Prelude.{◌≡◌, ℕ, ◌≤◌, true, false, List, None}
-use Rattle.page_layout.specs.Items.{is_normal}
 use Rattle.page_layout.specs.Page.{count_of, item_of, page_rule_of}
 use Rattle.page_layout.specs.declared.page.LineFlag.TheVariants as flag
 use Rattle.page_layout.specs.declared.page.PageKind.TheVariants.{Heap}

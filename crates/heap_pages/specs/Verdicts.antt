@@ -24,7 +24,7 @@ use Rattle.reports.specs.declared.places.Reason.TheVariants as reason
 use Rattle.heap_pages.specs.declared.verdict.ItemVerdict.{ItemVerdict}
 use Rattle.heap_pages.specs.declared.verdict.ItemVerdict.TheVariants.{Passes, Breaks, InDoubt}
 use Rattle.heap_pages.specs.Storage.{overlaps_lower_item}
-use Rattle.heap_pages.specs.Table.{Table, logs_in, oid_of}
+use Rattle.heap_pages.specs.Table.{Table, logs_in}
 use Rattle.heap_pages.specs.Values.{values_rule}
 
 abbrev pub reason_of : Doubt → Reason
@@ -48,7 +48,7 @@ life_verdict oid columns tuple head judged (life.Broken rule) = Breaks rule
 abbrev pub header_verdict : Table → List ℕ → HeapHead → Option Rule → ItemVerdict
 header_verdict table tuple head (Some rule) = Breaks rule
 header_verdict table tuple head None =
-    life_verdict (oid_of table.toast) table.columns tuple head (judged_of (logs_in table) head)
+    life_verdict table.toast table.columns tuple head (judged_of (logs_in table) head)
     (judged_of (logs_in table) head).life
 
 -- a tuple of so many bytes: nothing more is asked of a header of old form; else its rules come first, then its life,

@@ -4,7 +4,7 @@ ghost use Rattle.outside.specs.Adds.{AddsIn};
 ghost use Rattle.page_layout.specs.Page.{HasItems, count_of};
 ghost use Rattle.page_layout.specs.View.{page_bytes};
 ghost use Rattle.page_layout.specs.declared.rules.Rule.{Rule};
-ghost use Rattle.reports.specs.Added.{each_upto, nothing, report_lists};
+ghost use Rattle.reports.specs.Added.{IsListed, each_upto, nothing, report_lists};
 ghost use Rattle.reports.specs.declared.places.Place.{Place};
 ghost use Rattle.heap_pages.specs.Alone.{BreaksAlone, lone_item_found, lone_item_rule, lone_page_found};
 
@@ -60,11 +60,11 @@ pub fn judge_page(
 }
 
 /// What `judge_page` finds is what is broken: each finding of a page is a rule that is broken at its
-/// place, nothing of it is left unjudged, and a page without findings breaks none.
+/// place, nothing of it is left unjudged, and each place where a rule is broken is listed.
 pub fn lone_pages_are_judged()
     ensures sound { (block : ℕ) (page : List ℕ)
         → All (λ f. BreaksAlone block page f.rule f.place) (lone_page_found block page).findings }
     ensures certain { (block : ℕ) (page : List ℕ) → (lone_page_found block page).unjudged ≡ [] }
-    ensures complete { (block : ℕ) (page : List ℕ) → (lone_page_found block page).findings ≡ []
-        → (rule : Rule) (place : Place) → BreaksAlone block page rule place → ⊥ }
+    ensures listed { (block : ℕ) (page : List ℕ) (rule : Rule) (place : Place) → BreaksAlone block page rule place
+        → IsListed (lone_page_found block page) place }
 {}

@@ -4,7 +4,7 @@ ghost use Rattle.reports.specs.Added.{finding_at, joined};
 ghost use Rattle.heap_pages.specs.Found.{both_found, chunk_by, late_by, late_in, late_of, left_by, nothing_found};
 ghost use Rattle.heap_pages.specs.Found.{only_listed, verdict_lists};
 ghost use Rattle.heap_pages.specs.Found.{value_rule_late};
-ghost use Rattle.heap_pages.specs.Table.{toasted};
+ghost use Rattle.heap_pages.specs.Table.{chunks_seen, toast_oid_seen};
 ghost use Rattle.toast_chunks.specs.Rows.{row_of};
 ghost use Rattle.varlena_attrs.specs.Shown.{IsWithin, shown_at, shown_in};
 
@@ -56,7 +56,8 @@ fn add_late(
     place: Place,
     pointer: ToastPointer,
 ) -> Result<(), NoMemory>
-    ensures { OnOk result (late.new ≡ joined late.old (late_by (toasted table.now) place pointer)) }
+    ensures { OnOk result (late.new ≡ joined late.old
+        (late_by (toast_oid_seen table.now.toast) (chunks_seen table.now.toast) place pointer)) }
 {
     match table.toast {
         None => Ok(()),
@@ -74,7 +75,8 @@ fn add_late_column(
 ) -> Result<(), NoMemory>
     requires { IsWithin (length body.now) attr }
     ensures { OnOk result (late.new ≡ joined late.old
-        (late_in (toasted table.now) place (Some (shown_at body.now attr)))) }
+        (late_in (toast_oid_seen table.now.toast) (chunks_seen table.now.toast) place
+        (Some (shown_at body.now attr)))) }
 {
     match attr {
         AttrPlace::External { start } => add_late(late, table, place, pointer_at(body, start)),
@@ -94,7 +96,8 @@ fn add_late_columns(
     requires few { length places.now ≤ 64 }
     requires within { All (IsWithin (length body.now)) places.now }
     ensures { OnOk result (late.new ≡ joined late.old
-        (late_of (toasted table.now) tid.block tid.item (shown_in body.now places.now))) }
+        (late_of (toast_oid_seen table.now.toast) (chunks_seen table.now.toast) tid.block tid.item
+        (shown_in body.now places.now))) }
 {
     for k in 0..places.len() as u16 {
         let place = Place::Column(tid.block, tid.item, k + 1);
@@ -171,7 +174,8 @@ impl Found {
         requires within { All (IsWithin (length body.now)) places.now }
         requires page { length body.now ≤ 8192 }
         ensures { OnOk result (self.new ≡ both_found self.old
-            (left_by table.now.kind (toasted table.now) tid.block tid.item (shown_in body.now places.now))) }
+            (left_by table.now.kind (toast_oid_seen table.now.toast) (chunks_seen table.now.toast)
+            tid.block tid.item (shown_in body.now places.now))) }
     {
         match table.kind {
             TableKind::Heap => add_late_columns(&mut self.late, table, tid, body, places),

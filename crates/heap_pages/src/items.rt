@@ -1,5 +1,5 @@
 //! Judges the items of a page, each by itself.
-ghost use Rattle.std.specs.Prelude.{◌≡◌, ◌++◌, ◌+◌, ◌-◌, ◌≤◌, length, true, IfOk, OnOk};
+ghost use Rattle.std.specs.Prelude.{◌≡◌, ◌++◌, ◌+◌, ◌-◌, ◌≤◌, [], ◌∷◌, length, true, IfOk, OnOk};
 ghost use Rattle.outside.specs.Adds.{one_list};
 ghost use Rattle.outside.specs.Outside.{Asked, IfTold, Tells};
 ghost use Rattle.page_layout.specs.Items.{is_normal};
@@ -11,8 +11,8 @@ ghost use Rattle.reports.specs.Added.{each_upto};
 ghost use Rattle.heap_pages.specs.Found.{attributes_by, both_found, item_found, item_state, items_found};
 ghost use Rattle.heap_pages.specs.Found.{left_by, state_in};
 ghost use Rattle.heap_pages.specs.Storage.{AreCells};
-ghost use Rattle.heap_pages.specs.Table.{AreReadable, table_seen, toasted};
-ghost use Rattle.heap_pages.specs.Verdicts.{item_verdict, normal_verdict};
+ghost use Rattle.heap_pages.specs.Table.{AreReadable, chunks_seen, table_seen, toast_oid_seen};
+ghost use Rattle.heap_pages.specs.Verdicts.{normal_verdict};
 
 use crate::page::PageInHand;
 use crate::table::TableRules;
@@ -26,7 +26,7 @@ use page_layout::{LineFlag, Rule};
 use reports::{PageFault, Place};
 
 // Judges a normal item: where it lies, and then its tuple.
-#[tactic(auto, using(crate::proofs::Left::nothing_left), unfolding(crate::specs::Verdicts::normal_verdict, crate::specs::Storage::overlaps_lower_item, page_layout::specs::Page::header_of))]
+#[tactic(auto, using(crate::proofs::Left::nothing_left), unfolding(crate::specs::Verdicts::normal_verdict))]
 fn judge_normal<F: Transactions>(
     files: &mut F,
     table: &TableRules<'_>,
@@ -43,7 +43,7 @@ fn judge_normal<F: Transactions>(
     ensures told { Tells F.seen files.old result (λ verdict names.
         verdict ≡ normal_verdict (table_seen names table.now) (page_bytes at.entry.view) i) }
     ensures found { IfOk result (λ verdict. work.new.found ≡ both_found work.old.found
-        (left_by table.now.kind (toasted table.now) at.entry.block i
+        (left_by table.now.kind (toast_oid_seen table.now.toast) (chunks_seen table.now.toast) at.entry.block i
         (attributes_by (attributes_in table.now.columns.now (tuple_at (page_bytes at.entry.view) i)) verdict))) }
     ensures after { AreCells (page_bytes at.entry.view) i work.new.cells }
     ensures states { work.new.states.items ≡ work.old.states.items }
@@ -64,36 +64,13 @@ fn judge_normal<F: Transactions>(
     judge_tuple(files, table, tuple, tid, work)
 }
 
-// Judges an item.
-#[tactic(auto, using(crate::proofs::Left::nothing_left), unfolding(crate::specs::Verdicts::item_verdict))]
-fn judge_item<F: Transactions>(
-    files: &mut F,
-    table: &TableRules<'_>,
-    at: PageInHand<'_>,
-    i: u16,
-    work: &mut Work,
-) -> Result<ItemVerdict, PageFault>
-    requires columns { AreReadable table.now.columns.now }
-    requires page { HasItems (page_bytes at.view) }
-    requires first { 1 ≤ i }
-    requires last { i ≤ count_of (page_bytes at.view) }
-    requires before { AreCells (page_bytes at.view) (i - 1) work.old.cells }
-    ensures told { Tells F.seen files.old result (λ verdict names.
-        verdict ≡ item_verdict (table_seen names table.now) (page_bytes at.entry.view) i) }
-    ensures found { IfOk result (λ verdict. work.new.found ≡ both_found work.old.found
-        (left_by table.now.kind (toasted table.now) at.entry.block i
-        (attributes_by (attributes_in table.now.columns.now (tuple_at (page_bytes at.entry.view) i)) verdict))) }
-    ensures after { AreCells (page_bytes at.entry.view) i work.new.cells }
-    ensures states { work.new.states.items ≡ work.old.states.items }
-    ensures asked { Asked F.seen files.old files.new result PageFault.ReadFault }
+// Adds a state.
+fn push_state(states: &mut Vec<ItemState>, state: ItemState) -> Result<(), NoMemory>
+    ensures states { OnOk result (states.new.items ≡ states.old.items ++ state ∷ []) }
+    ensures more { length states.new.items ≤ length states.old.items + 1 }
 {
-    let item = at.view.item(i);
-    match item.flag {
-        LineFlag::Unused => Ok(ItemVerdict::Passes(ItemState::Unused)),
-        LineFlag::Normal => judge_normal(files, table, at, i, work),
-        LineFlag::Redirect => Ok(ItemVerdict::Passes(ItemState::Redirect(item.off))),
-        LineFlag::Dead => Ok(ItemVerdict::Passes(ItemState::Dead)),
-    }
+    states.push(state)?;
+    Ok(())
 }
 
 // Adds the state of an item that passes.
@@ -102,15 +79,43 @@ fn add_state(states: &mut Vec<ItemState>, verdict: ItemVerdict) -> Result<(), No
     ensures more { length states.new.items ≤ length states.old.items + 1 }
 {
     match verdict {
-        ItemVerdict::Passes(state) => {
-            states.push(state)?;
-            Ok(())
-        }
+        ItemVerdict::Passes(state) => push_state(states, state),
         ItemVerdict::Breaks(_) | ItemVerdict::InDoubt(_) => Ok(()),
     }
 }
 
-// Judges an item, and adds what is found of it and its state.
+// Judges a normal item, and adds what is found of it and its state.
+fn judge_normal_and_add<F: Transactions>(
+    files: &mut F,
+    table: &TableRules<'_>,
+    at: PageInHand<'_>,
+    i: u16,
+    work: &mut Work,
+) -> Result<(), PageFault>
+    requires columns { AreReadable table.now.columns.now }
+    requires page { HasItems (page_bytes at.view) }
+    requires first { 1 ≤ i }
+    requires last { i ≤ count_of (page_bytes at.view) }
+    requires normal { is_normal (item_of (page_bytes at.view) i).flag ≡ true }
+    requires before { AreCells (page_bytes at.view) (i - 1) work.old.cells }
+    ensures found { OnOk result (IfTold F.seen files.old (λ names. work.new.found ≡ both_found work.old.found
+        (item_found (table_seen names table.now) (chunks_seen table.now.toast) at.entry.block
+        (page_bytes at.entry.view) i))) }
+    ensures states { OnOk result (IfTold F.seen files.old (λ names. work.new.states.items ≡ work.old.states.items
+        ++ item_state (table_seen names table.now) (page_bytes at.entry.view) i)) }
+    ensures more { length work.new.states.items ≤ length work.old.states.items + 1 }
+    ensures after { AreCells (page_bytes at.entry.view) i work.new.cells }
+    ensures asked { Asked F.seen files.old files.new result PageFault.ReadFault }
+{
+    let verdict = judge_normal(files, table, at, i, work)?;
+    let place = Place::Item(table.kind.rel(), at.block, i);
+    work.found.add_verdict(place, verdict)?;
+    add_state(&mut work.states, verdict)?;
+    Ok(())
+}
+
+// Judges an item, and adds what is found of it and its state. Where it isn't a normal one, its line
+// pointer alone tells its state, and nothing is found of it.
 fn judge_and_add<F: Transactions>(
     files: &mut F,
     table: &TableRules<'_>,
@@ -124,18 +129,21 @@ fn judge_and_add<F: Transactions>(
     requires last { i ≤ count_of (page_bytes at.view) }
     requires before { AreCells (page_bytes at.view) (i - 1) work.old.cells }
     ensures found { OnOk result (IfTold F.seen files.old (λ names. work.new.found ≡ both_found work.old.found
-        (item_found (table_seen names table.now) at.entry.block (page_bytes at.entry.view) i))) }
+        (item_found (table_seen names table.now) (chunks_seen table.now.toast) at.entry.block
+        (page_bytes at.entry.view) i))) }
     ensures states { OnOk result (IfTold F.seen files.old (λ names. work.new.states.items ≡ work.old.states.items
         ++ item_state (table_seen names table.now) (page_bytes at.entry.view) i)) }
     ensures more { length work.new.states.items ≤ length work.old.states.items + 1 }
     ensures after { AreCells (page_bytes at.entry.view) i work.new.cells }
     ensures asked { Asked F.seen files.old files.new result PageFault.ReadFault }
 {
-    let verdict = judge_item(files, table, at, i, work)?;
-    let place = Place::Item(table.kind.rel(), at.block, i);
-    work.found.add_verdict(place, verdict)?;
-    add_state(&mut work.states, verdict)?;
-    Ok(())
+    let item = at.view.item(i);
+    match item.flag {
+        LineFlag::Normal => judge_normal_and_add(files, table, at, i, work),
+        LineFlag::Unused => Ok(push_state(&mut work.states, ItemState::Unused)?),
+        LineFlag::Redirect => Ok(push_state(&mut work.states, ItemState::Redirect(item.off))?),
+        LineFlag::Dead => Ok(push_state(&mut work.states, ItemState::Dead)?),
+    }
 }
 
 /// Judges the items of a page, each by itself, and adds what is found of them, and their states. The cells
@@ -152,7 +160,8 @@ pub fn judge_items<F: Transactions>(
     requires free { AreCells (page_bytes at.view) 0 work.old.cells }
     requires blank { length work.old.states.items ≤ 0 }
     ensures found { OnOk result (IfTold F.seen files.old (λ names. work.new.found ≡ both_found work.old.found
-        (items_found (table_seen names table.now) at.entry.block (page_bytes at.entry.view)))) }
+        (items_found (table_seen names table.now) (chunks_seen table.now.toast) at.entry.block
+        (page_bytes at.entry.view)))) }
     ensures states { OnOk result (IfTold F.seen files.old (λ names. work.new.states.items ≡ work.old.states.items
         ++ each_upto one_list (item_state (table_seen names table.now) (page_bytes at.entry.view))
         (count_of (page_bytes at.entry.view)))) }

@@ -2,6 +2,7 @@
 ghost use Rattle.std.specs.Prelude.{ℕ, List};
 ghost use Rattle.heap_pages.specs.Judged.{HasNothing, IsJudged, IsSilent};
 ghost use Rattle.heap_pages.specs.Table.{Table};
+ghost use Rattle.toast_chunks.specs.declared.map.Chunk.{Chunk};
 ghost use Rattle.vis_map.specs.declared.bits.MapBits.{MapBits};
 
 /// What `judge_table_page` finds is what is broken and what is in doubt on a page, each by its sentence:
@@ -11,7 +12,8 @@ ghost use Rattle.vis_map.specs.declared.bits.MapBits.{MapBits};
 /// visibility map say is true, one root reaches each live tuple, and no value and no row is passed over. It
 /// does nothing.
 pub fn pages_are_judged()
-    ensures judged { (table : Table) (bits : MapBits) (block : ℕ) (page : List ℕ) → IsJudged table bits block page }
-    ensures silent { (table : Table) (bits : MapBits) (block : ℕ) (page : List ℕ)
-        → HasNothing table bits block page → IsSilent table bits block page }
+    ensures judged { (table : Table) (chunks : List Chunk) (bits : MapBits) (block : ℕ) (page : List ℕ)
+        → IsJudged table chunks bits block page }
+    ensures silent { (table : Table) (chunks : List Chunk) (bits : MapBits) (block : ℕ) (page : List ℕ)
+        → HasNothing table chunks bits block page → IsSilent table chunks bits block page }
 {}

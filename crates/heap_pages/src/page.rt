@@ -5,7 +5,7 @@ ghost use Rattle.page_layout.specs.Page.{HasItems};
 ghost use Rattle.page_layout.specs.View.{page_bytes};
 ghost use Rattle.heap_pages.specs.Found.{both_found};
 ghost use Rattle.heap_pages.specs.Pages.{found_by_rule, is_flagged_visible, page_found};
-ghost use Rattle.heap_pages.specs.Table.{AreReadable, table_seen};
+ghost use Rattle.heap_pages.specs.Table.{AreReadable, chunks_seen, table_seen};
 
 use crate::items::judge_items;
 use crate::joint::judge_joint;
@@ -48,12 +48,12 @@ fn judge_sound_page<F: Transactions>(
     requires columns { AreReadable table.now.columns.now }
     requires page { HasItems (page_bytes at.view) }
     ensures found { OnOk result (IfTold F.seen files.old (λ names. work.new.found ≡ both_found work.old.found
-        (found_by_rule (table_seen names table.now) at.entry.bits at.entry.block (page_bytes at.entry.view) None))) }
+        (found_by_rule (table_seen names table.now) (chunks_seen table.now.toast)
+        at.entry.bits at.entry.block (page_bytes at.entry.view) None))) }
     ensures asked { Asked F.seen files.old files.new result PageFault.ReadFault }
 {
     let before = work.found.counts();
-    work.cells.clear();
-    work.states.clear();
+    work.clear();
     judge_items(files, table, at, work)?;
     if work.found.counts() == before {
         judge_joint(table.kind.rel(), at, work)?;
@@ -71,7 +71,8 @@ pub fn judge_table_page<F: Transactions>(
 ) -> Result<(), PageFault>
     requires columns { AreReadable table.now.columns.now }
     ensures found { OnOk result (IfTold F.seen files.old (λ names. work.new.found ≡ both_found work.old.found
-        (page_found (table_seen names table.now) at.entry.bits at.entry.block (page_bytes at.entry.view)))) }
+        (page_found (table_seen names table.now) (chunks_seen table.now.toast)
+        at.entry.bits at.entry.block (page_bytes at.entry.view)))) }
     ensures asked { Asked F.seen files.old files.new result PageFault.ReadFault }
 {
     match at.view.page_rule(PageKind::Heap) {

@@ -45,11 +45,11 @@ pub struct TableRules<'a> {
 }
 
 impl TableRules<'_> {
-    ghost use Rattle.heap_pages.specs.Table.{oid_of, toasted};
+    ghost use Rattle.heap_pages.specs.Table.{toast_oid_seen};
 
     /// The oid of its TOAST table, if it has one.
     pub(crate) fn toast_oid(&self) -> Option<u32>
-        ensures { result ≡ oid_of (toasted self.now) }
+        ensures { result ≡ toast_oid_seen self.now.toast }
     {
         match self.toast {
             None => None,

@@ -4,7 +4,7 @@ ghost use Rattle.outside.specs.Outside.{Asked, Tells};
 ghost use Rattle.tuple_head.specs.Head.{tuple_head_of};
 ghost use Rattle.heap_tuples.specs.Tuples.{attributes_in};
 ghost use Rattle.heap_pages.specs.Found.{attributes_by, both_found, left_by};
-ghost use Rattle.heap_pages.specs.Table.{AreReadable, oid_of, table_seen, toasted};
+ghost use Rattle.heap_pages.specs.Table.{AreReadable, chunks_seen, table_seen, toast_oid_seen};
 ghost use Rattle.heap_pages.specs.Verdicts.{life_verdict, tuple_verdict, values_verdict};
 
 use crate::table::TableRules;
@@ -49,10 +49,11 @@ fn life_verdict(
     requires begins { 23 ≤ tuple.head.hoff }
     requires within { tuple.head.hoff ≤ length tuple.bytes.now }
     requires page { length tuple.bytes.now ≤ 8192 }
-    ensures verdict { IfOk result (λ verdict. verdict ≡ life_verdict (oid_of (toasted table.now)) table.now.columns.now
-        tuple.entry.bytes.now tuple.entry.head judged judged.life) }
+    ensures verdict { IfOk result (λ verdict. verdict ≡ life_verdict (toast_oid_seen table.now.toast)
+        table.now.columns.now tuple.entry.bytes.now tuple.entry.head judged judged.life) }
     ensures found { IfOk result (λ verdict. work.new.found ≡ both_found work.old.found
-        (left_by table.now.kind (toasted table.now) tuple.entry.tid.block tuple.entry.tid.item
+        (left_by table.now.kind (toast_oid_seen table.now.toast) (chunks_seen table.now.toast)
+        tuple.entry.tid.block tuple.entry.tid.item
         (attributes_by (attributes_in table.now.columns.now tuple.entry.bytes.now) verdict))) }
     ensures cells { work.new.cells ≡ work.old.cells }
     ensures states { work.new.states.items ≡ work.old.states.items }
@@ -74,7 +75,7 @@ fn life_verdict(
 /// Judges the tuple in these bytes: old headers are in doubt, then come the rules of headers (H4 to H8),
 /// the tuple's life (H9 to H13), and the values of a live one (H17 to H20). What a live tuple that breaks
 /// none of these leaves is added.
-#[tactic(auto, using(crate::proofs::Left::nothing_left), unfolding(crate::specs::Verdicts::tuple_verdict, crate::specs::Table::table_with))]
+#[tactic(auto, using(crate::proofs::Left::nothing_left), unfolding(crate::specs::Verdicts::tuple_verdict))]
 pub(crate) fn judge_tuple<F: Transactions>(
     files: &mut F,
     table: &TableRules<'_>,
@@ -88,8 +89,8 @@ pub(crate) fn judge_tuple<F: Transactions>(
     ensures told { Tells F.seen files.old result (λ verdict names.
         verdict ≡ tuple_verdict (table_seen names table.now) (length bytes.now) bytes.now) }
     ensures found { IfOk result (λ verdict. work.new.found ≡ both_found work.old.found
-        (left_by table.now.kind (toasted table.now) tid.block tid.item
-        (attributes_by (attributes_in table.now.columns.now bytes.now) verdict))) }
+        (left_by table.now.kind (toast_oid_seen table.now.toast) (chunks_seen table.now.toast)
+        tid.block tid.item (attributes_by (attributes_in table.now.columns.now bytes.now) verdict))) }
     ensures cells { work.new.cells ≡ work.old.cells }
     ensures states { work.new.states.items ≡ work.old.states.items }
     ensures asked { Asked F.seen files.old files.new result PageFault.ReadFault }

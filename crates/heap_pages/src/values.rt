@@ -4,7 +4,7 @@ ghost use Rattle.tuple_head.specs.Head.{tuple_head_of};
 ghost use Rattle.varlena_attrs.specs.Shown.{IsWithin, shown_at, shown_in};
 ghost use Rattle.heap_tuples.specs.Tuples.{attributes_in};
 ghost use Rattle.heap_pages.specs.Found.{both_found, kept_by_values, leaves_nothing, left_by};
-ghost use Rattle.heap_pages.specs.Table.{AreReadable, oid_of, toasted};
+ghost use Rattle.heap_pages.specs.Table.{AreReadable, chunks_seen, toast_oid_seen};
 ghost use Rattle.heap_pages.specs.Values.{first_value_rule, has_externals, is_other_relation, is_stray_pointer};
 ghost use Rattle.heap_pages.specs.Values.{pointer_rule_of, value_rule, values_rule};
 
@@ -119,9 +119,9 @@ pub(crate) fn judge_values(
     requires within { head.hoff ≤ length tuple.now }
     requires page { length tuple.now ≤ 8192 }
     ensures rule { IfOk result (λ rule.
-        rule ≡ values_rule (oid_of (toasted table.now)) head (attributes_in table.now.columns.now tuple.now)) }
+        rule ≡ values_rule (toast_oid_seen table.now.toast) head (attributes_in table.now.columns.now tuple.now)) }
     ensures found { IfOk result (λ rule. work.new.found ≡ both_found work.old.found
-        (left_by table.now.kind (toasted table.now) tid.block tid.item
+        (left_by table.now.kind (toast_oid_seen table.now.toast) (chunks_seen table.now.toast) tid.block tid.item
         (kept_by_values rule (attributes_in table.now.columns.now tuple.now)))) }
     ensures cells { work.new.cells ≡ work.old.cells }
     ensures states { work.new.states.items ≡ work.old.states.items }

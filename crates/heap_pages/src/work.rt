@@ -1,6 +1,7 @@
 //! What is kept in hand from one page to the next, so that a page takes no memory of its own.
-ghost use Rattle.std.specs.Prelude.{◌≡◌, [], IfOk};
+ghost use Rattle.std.specs.Prelude.{◌≡◌, [], ℕ, List, IfOk};
 ghost use Rattle.heap_pages.specs.Found.{nothing_found};
+ghost use Rattle.heap_pages.specs.Storage.{AreCells};
 
 use crate::found::Found;
 use crate::storage::PageCells;
@@ -39,6 +40,16 @@ impl Work {
             attrs: AttrBuffer::new(alloc),
             chains: Chains::new(alloc),
         })
+    }
+
+    /// Forgets the items of a page, for another one. What was found stays.
+    pub fn clear(&mut self)
+        ensures cells { (page : List ℕ) → AreCells page 0 self.new.cells }
+        ensures states { self.new.states.items ≡ [] }
+        ensures found { self.new.found ≡ self.old.found }
+    {
+        self.cells.clear();
+        self.states.clear();
     }
 
     /// What was found.

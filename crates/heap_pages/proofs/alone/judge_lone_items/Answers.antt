@@ -1,4 +1,4 @@
-use Rattle.std.proofs.Common.{◌≡◌, ◌+◌, ◌∙◌, ap, arith, subst}
+use Rattle.std.proofs.Common.{◌+◌, ◌∙◌, ap, arith, subst}
 use Rattle.outside.proofs.Adding.{Adds-exit}
 use Rattle.outside.specs.Adds.{Begins}
 use Rattle.page_layout.specs.View.{page_bytes}

@@ -1,6 +1,4 @@
-use Rattle.std.proofs.Common.{ap, ◌∙◌, arith}
-use Rattle.reports.proofs.Upto.{upto-next, upto-none}
-use Rattle.reports.specs.Added.{report_lists}
+use Rattle.std.proofs.Common.{arith}
 use Rattle.heap_pages.proofs.JointRules.{chain_next, chain_none}
 use Rattle.heap_pages.proofs.joint.add_chain_rules.Goals as goal
 

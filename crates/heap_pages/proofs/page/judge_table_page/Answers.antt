@@ -1,10 +1,10 @@
 use Rattle.std.proofs.Common.{sym, ◌∙◌}
 use Rattle.page_layout.specs.View.{page_bytes}
-use Rattle.heap_pages.specs.Table.{table_seen, table_with}
+use Rattle.heap_pages.specs.Table.{chunks_seen, table_seen, table_with}
 use Rattle.heap_pages.proofs.ItemRules.{header_added}
 use Rattle.heap_pages.proofs.page.judge_table_page.Goals as goal
 
 pub returns-in_ok-add_rule-in-Some-clause-found : goal.returns-in_ok-add_rule-in-Some-clause-found
 unfolding table_with
 returns-in_ok-add_rule-in-Some-clause-found g c names told =
-    header_added (table_seen names c.args.table.now) c.args.at.bits c.args.at.block (page_bytes c.args.at.view) _ c.in-Some.rule _ _ c.rel.ensures (sym c.page_rule.ensures.value ∙ c.in-Some.is) c.in_ok-add_rule-in-Some.ensures
+    header_added (table_seen names c.args.table.now) (chunks_seen c.args.table.now.toast) c.args.at.bits c.args.at.block (page_bytes c.args.at.view) _ c.in-Some.rule _ _ c.rel.ensures (sym c.page_rule.ensures.value ∙ c.in-Some.is) c.in_ok-add_rule-in-Some.ensures

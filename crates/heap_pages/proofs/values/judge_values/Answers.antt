@@ -6,4 +6,4 @@ pub returns-then-leaves_nothing-clause-rule : goal.returns-then-leaves_nothing-c
 returns-then-leaves_nothing-clause-rule c = sym (leaves_no_rule _ _ _ _ (sym c.leaves_nothing.ensures ∙ c.if-leaves_nothing.true))
 
 pub returns-then-leaves_nothing-clause-found : goal.returns-then-leaves_nothing-clause-found
-returns-then-leaves_nothing-clause-found c = leaves_none _ _ _ _ _ _ (sym c.leaves_nothing.ensures ∙ c.if-leaves_nothing.true)
+returns-then-leaves_nothing-clause-found c = leaves_none _ _ _ _ _ _ _ (sym c.leaves_nothing.ensures ∙ c.if-leaves_nothing.true)
