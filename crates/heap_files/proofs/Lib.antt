@@ -1,0 +1,11 @@
+pub mod CaseLaws
+pub mod CaseLists
+pub mod CaseRules
+pub mod ColumnLaws
+pub mod MapRules
+pub mod Refusals
+pub mod SameChunks
+pub mod Silent
+pub mod TableLaws
+pub mod TrueLaws
+pub mod Relating

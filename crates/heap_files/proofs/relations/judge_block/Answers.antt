@@ -1,0 +1,14 @@
+use Rattle.std.proofs.Common.{◌∙◌, sym, ap}
+use Rattle.std.proofs.lemmas.Result.{on_ok_weaker}
+use Rattle.page_layout.specs.View.{page_bytes}
+use Rattle.heap_pages.specs.Table.{table_seen, table_with}
+use Rattle.heap_files.proofs.Relating.{block_added}
+use Rattle.heap_files.proofs.relations.judge_block.Goals as goal
+
+pub returns-clause-found : goal.returns-clause-found
+unfolding table_with
+returns-clause-found g c =
+    on_ok_weaker c.judge_table_page.result (λ now names told.
+    block_added (table_seen names c.args.table.now) _ _ names _ _ c.args.block _ _ c.args.hands.now.work.found _
+    (c.new-view.ensures ∙ c.in_ok-read_block.ensures.bytes names (c.in_ok-bits.ensures.asked.same ∙ told)) (c.in_ok-bits.ensures.told names told)
+    (now names (c.in_ok-read_block.ensures.asked.same ∙ (c.in_ok-bits.ensures.asked.same ∙ told)))) c.judge_table_page.ensures.found

@@ -1,0 +1,11 @@
+pub mod Files
+pub mod CaseLogs
+pub mod Map
+pub mod MapPage
+pub mod Relations
+pub mod Case
+pub mod TableFiles
+pub mod Found
+pub mod Broken
+pub mod Truth
+pub mod Judged

@@ -1,0 +1,144 @@
+//! Judges the blocks of a table's file.
+ghost use Rattle.std.specs.Prelude.{◌≡◌, ◌<◌, None, IfOk, OnOk};
+ghost use Rattle.std.specs.Option.{option_copied};
+ghost use Rattle.outside.specs.Outside.{Asked, IfTold};
+ghost use Rattle.rel_files.specs.Relation.{IsAttached, count_of};
+ghost use Rattle.heap_pages.specs.Found.{both_found, nothing_found, only_listed};
+ghost use Rattle.heap_pages.specs.Table.{AreReadable, rel_of};
+ghost use Rattle.heap_files.specs.MapPage.{IsMapAttached, IsOptionalMapInHand};
+ghost use Rattle.heap_files.specs.Relations.{segment_found};
+ghost use Rattle.heap_files.specs.TableFiles.{found_of_block, found_of_blocks, found_of_table};
+
+use crate::map::MapPage;
+use heap_pages::{Found, PageInHand, TableKind, TableRules, Work, judge_table_page};
+use liveness::Transactions;
+use outside::NoMemory;
+use page_layout::{PageView, Rule};
+use rel_files::Relation;
+use reports::{PageFault, Place};
+use std::alloc::Global;
+
+/// The file of a table, with the visibility map of its blocks, where it has one.
+#[derive(Clone, Copy)]
+pub(crate) struct TableFile<'a> {
+    pub(crate) relation: &'a Relation,
+    pub(crate) map: Option<&'a Relation>,
+}
+
+/// What is in hand while a table is judged: a page of it, a page of its visibility map, and what was found.
+#[derive(Drop)]
+pub(crate) struct Hands {
+    pub(crate) page: [u8; 8192],
+    pub(crate) map: MapPage,
+    pub(crate) work: Work,
+}
+
+impl Hands {
+    /// No page is in hand, and nothing was found.
+    pub(crate) fn new(alloc: Global) -> Result<Hands, NoMemory>
+        ensures map { IfOk result (λ hands. hands.map.block ≡ None) }
+        ensures found { IfOk result (λ hands. hands.work.found ≡ nothing_found) }
+    {
+        Ok(Hands {
+            page: [0u8; 8192],
+            map: MapPage::new(),
+            work: Work::new(alloc)?,
+        })
+    }
+
+    /// What was found.
+    pub(crate) fn into_found(self) -> Found
+        ensures { result ≡ self.work.found }
+    {
+        let Hands { work, .. } = self;
+        work.into_found()
+    }
+}
+
+// Reads a block of a table into the page, and judges it.
+fn judge_block<F: Transactions>(
+    files: &mut F,
+    table: &TableRules<'_>,
+    file: TableFile<'_>,
+    block: u32,
+    hands: &mut Hands,
+) -> Result<(), PageFault>
+    requires columns { AreReadable table.now.columns.now }
+    requires attached { IfTold F.seen files.old (λ names. IsAttached names file.relation.now) }
+    requires inside { block < count_of file.relation.now }
+    requires map { IfTold F.seen files.old (λ names. IsMapAttached names (option_copied file.map)) }
+    requires hand { IfTold F.seen files.old (λ names.
+        IsOptionalMapInHand names (option_copied file.map) hands.old.map) }
+    ensures found { OnOk result (IfTold F.seen files.old (λ names.
+        hands.new.work.found ≡ both_found hands.old.work.found (found_of_block names table.now file.entry block))) }
+    ensures hand { IfTold F.seen files.old (λ names.
+        IsOptionalMapInHand names (option_copied file.entry.map) hands.new.map) }
+    ensures asked { Asked F.seen files.old files.new result PageFault.ReadFault }
+{
+    let bits = hands.map.bits_of(files, file.map, block)?;
+    file.relation.read_block(files, block, &mut hands.page)?;
+    let view = PageView::new(&hands.page);
+    judge_table_page(
+        files,
+        table,
+        PageInHand { view, block, bits },
+        &mut hands.work,
+    )
+}
+
+// Reads and judges the blocks of a table, one after the other.
+#[tactic(auto, unfolding(crate::specs::Relations::blocks_found))]
+fn judge_blocks<F: Transactions>(
+    files: &mut F,
+    table: &TableRules<'_>,
+    file: TableFile<'_>,
+    hands: &mut Hands,
+) -> Result<(), PageFault>
+    requires columns { AreReadable table.now.columns.now }
+    requires attached { IfTold F.seen files.old (λ names. IsAttached names file.relation.now) }
+    requires map { IfTold F.seen files.old (λ names. IsMapAttached names (option_copied file.map)) }
+    requires hand { IfTold F.seen files.old (λ names.
+        IsOptionalMapInHand names (option_copied file.map) hands.old.map) }
+    ensures found { OnOk result (IfTold F.seen files.old (λ names.
+        hands.new.work.found ≡ both_found hands.old.work.found (found_of_blocks names table.now file.entry))) }
+    ensures asked { Asked F.seen files.old files.new result PageFault.ReadFault }
+{
+    for block in 0..file.relation.blocks() {
+        judge_block(files, table, file, block, hands)?;
+    }
+    Ok(())
+}
+
+// Adds the finding of a segment that is too long.
+fn add_segment(found: &mut Found, kind: TableKind, long: Option<u32>) -> Result<(), NoMemory>
+    ensures { OnOk result (found.new ≡ both_found found.old (only_listed (segment_found (rel_of kind) long))) }
+{
+    match long {
+        None => Ok(()),
+        Some(segment) => found.add_rule(Place::Segment(kind.rel(), segment), Some(Rule::S1)),
+    }
+}
+
+/// Judges a table: its segments, and then its blocks.
+pub(crate) fn judge_table<F: Transactions>(
+    files: &mut F,
+    table: &TableRules<'_>,
+    file: TableFile<'_>,
+    hands: &mut Hands,
+) -> Result<(), PageFault>
+    requires columns { AreReadable table.now.columns.now }
+    requires attached { IfTold F.seen files.old (λ names. IsAttached names file.relation.now) }
+    requires map { IfTold F.seen files.old (λ names. IsMapAttached names (option_copied file.map)) }
+    requires hand { IfTold F.seen files.old (λ names.
+        IsOptionalMapInHand names (option_copied file.map) hands.old.map) }
+    ensures found { OnOk result (IfTold F.seen files.old (λ names.
+        hands.new.work.found ≡ both_found hands.old.work.found (found_of_table names table.now file.entry))) }
+    ensures asked { Asked F.seen files.old files.new result PageFault.ReadFault }
+{
+    add_segment(
+        &mut hands.work.found,
+        table.kind,
+        file.relation.long_segment(),
+    )?;
+    judge_blocks(files, table, file, hands)
+}
