@@ -23,12 +23,13 @@ use Rattle.liveness.specs.declared.states.Life.TheVariants as life
 use Rattle.hot_chains.specs.Chains.{is_live, is_live_tuple}
 use Rattle.heap_tuples.specs.Places.{tuple_at}
 use Rattle.reports.specs.declared.places.Reason.TheVariants as reason
-use Rattle.heap_check.specs.declared.verdict.ItemVerdict.{ItemVerdict}
-use Rattle.heap_check.specs.declared.verdict.ItemVerdict.TheVariants.{Passes, Breaks, InDoubt}
-use Rattle.heap_check.specs.Kept.{attributes_by, attributes_by_life, attributes_read, live_attributes}
-use Rattle.heap_check.specs.Storage.{overlaps_lower_item}
-use Rattle.heap_check.specs.Values.{values_rule}
-use Rattle.heap_check.specs.Verdicts.{Table, flag_verdict, head_at, header_verdict, item_verdict, life_verdict, normal_verdict, tuple_verdict, values_verdict}
+use Rattle.heap_pages.specs.declared.verdict.ItemVerdict.{ItemVerdict}
+use Rattle.heap_pages.specs.declared.verdict.ItemVerdict.TheVariants.{Passes, Breaks, InDoubt}
+use Rattle.heap_pages.specs.Found.{attributes_by, attributes_by_life, attributes_read, live_attributes}
+use Rattle.heap_pages.specs.Storage.{overlaps_lower_item}
+use Rattle.heap_pages.specs.Table.{Table, logs_in}
+use Rattle.heap_pages.specs.Values.{values_rule}
+use Rattle.heap_pages.specs.Verdicts.{flag_verdict, head_at, header_verdict, item_verdict, life_verdict, normal_verdict, tuple_verdict, values_verdict}
 
 -- a live tuple that breaks nothing
 pub record IsSoundTuple (table : Table) (page : List ℕ) (i : ℕ) : Type 0 where
@@ -37,7 +38,7 @@ pub record IsSoundTuple (table : Table) (page : List ℕ) (i : ℕ) : Type 0 whe
   pub form : is_old_form (head_at page i) ≡ false
   pub header : head_rule_of (length table.columns) (item_of page i).len (head_at page i) ≡ None
   pub values : values_rule table.toast (head_at page i) (attributes_in table.columns (tuple_at page i)) ≡ None
-  pub life : (judged_of table.logs (head_at page i)).life ≡ life.Live
+  pub life : (judged_of (logs_in table) (head_at page i)).life ≡ life.Live
 
 -- a verdict of a live tuple says so
 abbrev Says : Table → List ℕ → ℕ → ItemVerdict → Type 0
@@ -45,22 +46,22 @@ Says table page i (Passes state) = is_live_tuple state ≡ true → IsSoundTuple
 Says table page i (Breaks rule) = Unit {0}
 Says table page i (InDoubt reason) = Unit {0}
 
-values_say : (table : Table) (page : List ℕ) (i : ℕ) (judged : Judged) (found : Option Rule) → (judged_of table.logs (head_at page i)).life ≡ life.Live → is_normal (item_of page i).flag ≡ true → is_misplaced_heap_item (upper_of page) (item_of page i) ≡ false → is_old_form (head_at page i) ≡ false → head_rule_of (length table.columns) (item_of page i).len (head_at page i) ≡ None → values_rule table.toast (head_at page i) (attributes_in table.columns (tuple_at page i)) ≡ found → Says table page i (values_verdict (head_at page i) judged found)
+values_say : (table : Table) (page : List ℕ) (i : ℕ) (judged : Judged) (found : Option Rule) → (judged_of (logs_in table) (head_at page i)).life ≡ life.Live → is_normal (item_of page i).flag ≡ true → is_misplaced_heap_item (upper_of page) (item_of page i) ≡ false → is_old_form (head_at page i) ≡ false → head_rule_of (length table.columns) (item_of page i).len (head_at page i) ≡ None → values_rule table.toast (head_at page i) (attributes_in table.columns (tuple_at page i)) ≡ found → Says table page i (values_verdict (head_at page i) judged found)
 values_say table page i judged (Some rule) l n p f h v = tt
 values_say table page i judged None l n p f h v = λ live. record { normal = n; placed = p; form = f; header = h; values = v; life = l }
 
 dead_is_not : (l : Life) → l ≡ life.Dead → is_live l ≡ true → ⊥
 dead_is_not l e h = cc
 
-life_says : (table : Table) (page : List ℕ) (i : ℕ) (l : Life) → (judged_of table.logs (head_at page i)).life ≡ l → is_normal (item_of page i).flag ≡ true → is_misplaced_heap_item (upper_of page) (item_of page i) ≡ false → is_old_form (head_at page i) ≡ false → head_rule_of (length table.columns) (item_of page i).len (head_at page i) ≡ None → Says table page i (life_verdict table.toast table.columns (tuple_at page i) (head_at page i) (judged_of table.logs (head_at page i)) l)
-life_says table page i life.Live is n p f h = values_say table page i (judged_of table.logs (head_at page i)) _ is n p f h refl
-life_says table page i life.Dead is n p f h = λ live. absurd (dead_is_not (judged_of table.logs (head_at page i)).life is live)
+life_says : (table : Table) (page : List ℕ) (i : ℕ) (l : Life) → (judged_of (logs_in table) (head_at page i)).life ≡ l → is_normal (item_of page i).flag ≡ true → is_misplaced_heap_item (upper_of page) (item_of page i) ≡ false → is_old_form (head_at page i) ≡ false → head_rule_of (length table.columns) (item_of page i).len (head_at page i) ≡ None → Says table page i (life_verdict table.toast table.columns (tuple_at page i) (head_at page i) (judged_of (logs_in table) (head_at page i)) l)
+life_says table page i life.Live is n p f h = values_say table page i (judged_of (logs_in table) (head_at page i)) _ is n p f h refl
+life_says table page i life.Dead is n p f h = λ live. absurd (dead_is_not (judged_of (logs_in table) (head_at page i)).life is live)
 life_says table page i (life.Unjudged u) is n p f h = tt
 life_says table page i (life.Broken rule) is n p f h = tt
 
 header_says : (table : Table) (page : List ℕ) (i : ℕ) (found : Option Rule) → head_rule_of (length table.columns) (item_of page i).len (head_at page i) ≡ found → is_normal (item_of page i).flag ≡ true → is_misplaced_heap_item (upper_of page) (item_of page i) ≡ false → is_old_form (head_at page i) ≡ false → Says table page i (header_verdict table (tuple_at page i) (head_at page i) found)
 header_says table page i (Some rule) is n p f = tt
-header_says table page i None is n p f = life_says table page i (judged_of table.logs (head_at page i)).life refl n p f is
+header_says table page i None is n p f = life_says table page i (judged_of (logs_in table) (head_at page i)).life refl n p f is
 
 form_says : (table : Table) (page : List ℕ) (i : ℕ) (old : Bool) → is_old_form (head_at page i) ≡ old → is_normal (item_of page i).flag ≡ true → is_misplaced_heap_item (upper_of page) (item_of page i) ≡ false → Says table page i (if old then InDoubt reason.U1 else header_verdict table (tuple_at page i) (head_at page i) (head_rule_of (length table.columns) (item_of page i).len (head_at page i)))
 form_says table page i true is n p = tt

@@ -3,6 +3,7 @@ use Rattle.std.proofs.Common.{◌≡◌, ℕ, zero, suc, ◌<◌, ◌≤◌, Boo
 use Rattle.std.specs.Prelude.{Option, Some, None, Ok, Err, if◌then◌else◌, map, unwrap_or, AllPairs, Contains}
 use Rattle.std.proofs.lemmas.Bool.{cond-false, cond-true, false≢true}
 use Rattle.std.proofs.lemmas.List.Elements.{All-cons, All-contains, All-nil, All-weaker, recursion_from_All}
+use Rattle.outside.specs.Adds.{each_below, one_list}
 use Rattle.outside.specs.Outside.{Names}
 use Rattle.page_layout.specs.Items.{is_normal}
 use Rattle.page_layout.specs.Page.{count_of, page_rule_of}
@@ -32,28 +33,34 @@ use Rattle.heap_tuples.specs.Places.{tuple_at}
 use Rattle.heap_tuples.specs.Tuples.{IsReadAs, attributes_in, body_of, nulls_of}
 use Rattle.toast_chunks.specs.Chunks.{IsWhole}
 use Rattle.toast_chunks.specs.Pointer.{is_compressed}
+use Rattle.reports.proofs.Pairs.{pairs-below, pairs-none, pairs-one, pairs-upto}
+use Rattle.reports.proofs.Parts.{All-below, All-upto, among_below, among_upto}
+use Rattle.reports.specs.Added.{each_upto}
+use Rattle.heap_pages.specs.declared.verdict.ItemVerdict.{ItemVerdict}
+use Rattle.heap_pages.specs.declared.verdict.ItemVerdict.TheVariants.{Breaks, InDoubt, Passes}
+use Rattle.heap_pages.specs.Broken.{HoldsLiveTuple}
+use Rattle.heap_pages.specs.Found.{live_attributes}
+use Rattle.heap_pages.specs.States.{AreStatesOf, IsStateOf, dead, redirect, tuple as of_tuple, unused}
+use Rattle.heap_pages.specs.Table.{Table}
+use Rattle.heap_pages.specs.Verdicts.{head_at, item_verdict}
+use Rattle.heap_pages.proofs.ItemLaws.{live_passes}
+use Rattle.heap_pages.proofs.LifeLaws.{live_is as life_is_live}
+use Rattle.heap_pages.proofs.PageLaws.{each_passes}
+use Rattle.heap_pages.proofs.StateLaws.{EachPasses, passes_there, states_are_there}
+use Rattle.heap_pages.proofs.Judged.{is_silent}
+use Rattle.heap_files.specs.Case.{case_bits, heap_blocks, table_of}
+use Rattle.heap_files.specs.Found.{IsQuiet, chunks_of}
 use Rattle.heap_check.specs.declared.row_cells.Cell.{Cell}
 use Rattle.heap_check.specs.declared.rows.LiveRow.{LiveRow}
-use Rattle.heap_check.specs.declared.verdict.ItemVerdict.{ItemVerdict}
-use Rattle.heap_check.specs.declared.verdict.ItemVerdict.TheVariants.{Breaks, InDoubt, Passes}
-use Rattle.heap_check.specs.Below.{each_below, each_upto}
-use Rattle.heap_check.specs.Broken.{IsLiveTuple, case_page}
-use Rattle.heap_check.specs.Heap.{IsQuiet, chunks_of, heap_blocks, kept_by_rule, table_of}
-use Rattle.heap_check.specs.Kept.{live_attributes}
-use Rattle.heap_check.specs.Quiet.{IsStateOf, dead, redirect, tuple as of_tuple, unused}
 use Rattle.heap_check.specs.RowLaws.{AreAttributesOf, AreCellsOf, AreLiveTuples, IsBefore, IsCellOf, IsLiveAt, IsRowOfTuple, IsWholeRow, RowsAreLive, TidsRise, in_lower_block, in_place, in_same_block, in_toast_table, no_columns, of_missing, of_null, one_more, packed_in_place, packed_in_toast_table, states_at}
 use Rattle.heap_check.specs.RowValues.{FitTypes}
-use Rattle.heap_check.specs.Rows.{block_rows, cell_at, cell_of, cells_of, external_cell, item_rows, page_rows, root_item, row_at, row_by, rows_of, toast_bytes}
-use Rattle.heap_check.specs.Verdicts.{Table, item_verdict}
-use Rattle.heap_check.proofs.Among.{among_below, among_one, among_upto}
-use Rattle.heap_check.proofs.ApartLaws.{pairs-below, pairs-kept, pairs-none, pairs-one, pairs-upto}
-use Rattle.heap_check.proofs.HeldLaws.{case_values}
-use Rattle.heap_check.proofs.KeptLaws.{All-kept}
+use Rattle.heap_check.specs.Rows.{block_rows, cell_at, cell_of, cells_of, external_cell, heap_page, item_rows, page_rows, root_item, row_at, row_by, rows_by_rule, rows_of, toast_bytes}
+use Rattle.heap_check.proofs.FromFiles.{heap_has_nothing, values_are_whole}
+use Rattle.heap_check.proofs.Lists.{each_below-first}
 use Rattle.heap_check.proofs.LiveTuples.{live_are_read, sound_tuple}
-use Rattle.heap_check.proofs.Places.{All-each_below, All-each_upto}
-use Rattle.heap_check.proofs.QuietLaws.{case_files, case_roots, case_states, files_are_empty, heap_is_quiet}
+use Rattle.heap_check.proofs.QuietHeap.{heap_types, page_passes}
 use Rattle.heap_check.proofs.RowFits.{attributes_fit}
-use Rattle.heap_check.proofs.RowSources.{columns_aligned}
+use Rattle.heap_check.proofs.RowSources.{columns_readable}
 
 -- Rows of an item
 
@@ -75,11 +82,19 @@ alone R row (Passes state) = alone_where_live R row (is_live_tuple state)
 alone R row (Breaks rule) = pairs-none R
 alone R row (InDoubt reason) = pairs-none R
 
+all_by_rule : (P : LiveRow → Type 0) (rule : Option Rule) (rows : List LiveRow) → All P rows → All P (rows_by_rule rule rows)
+all_by_rule P (Some rule) rows all = All-nil P
+all_by_rule P None rows all = all
+
+pairs_by_rule : (R : LiveRow → LiveRow → Type 0) (rule : Option Rule) (rows : List LiveRow) → AllPairs R rows → AllPairs R (rows_by_rule rule rows)
+pairs_by_rule R (Some rule) rows all = pairs-none R
+pairs_by_rule R None rows all = all
+
 -- What holds of each row where an item passes and is live holds of all rows
 
 module _ (case : CaseRecord) (names : Names) (P : LiveRow → Type 0) where
   abbrev page_at : ℕ → List ℕ
-  page_at block = case_page case names case.heap_file block
+  page_at block = heap_page case names block
 
   -- what is asked for
   abbrev OfLive : Type 0
@@ -97,19 +112,20 @@ module _ (case : CaseRecord) (names : Names) (P : LiveRow → Type 0) where
   of_block : OfLive → (block : ℕ) → block < heap_blocks case names → All P (block_rows case names block)
   unfolding block_rows page_rows
   of_block holds block below =
-      All-kept P (page_rule_of Heap (page_at block)) _
-      (All-each_upto P (item_rows case names block (page_at block)) (count_of (page_at block)) (λ i first last. of_item holds block i below first last))
+      all_by_rule P (page_rule_of Heap (page_at block)) _
+      (All-upto one_list (λ l. l) refl (λ a b. refl) P (item_rows case names block (page_at block)) (count_of (page_at block)) (λ i first last. of_item holds block i below first last))
 
   of_all : OfLive → All P (rows_of case names)
   unfolding rows_of
-  of_all holds = All-each_below P (block_rows case names) (heap_blocks case names) (λ block below. of_block holds block below)
+  of_all holds = All-below one_list (λ l. l) refl (λ a b. refl) P (block_rows case names) (heap_blocks case names) (λ block below. of_block holds block below)
 
 module _ (case : CaseRecord) (names : Names) where
   -- a row is a live tuple
-  live_at : (block i : ℕ) (state : ItemState) → block < heap_blocks case names → 1 ≤ i → i ≤ count_of (case_page case names case.heap_file block) → item_verdict (table_of case names) (case_page case names case.heap_file block) i ≡ Passes state → is_live_tuple state ≡ true → IsLiveAt case names (record { block = block; item = i })
+  live_at : (block i : ℕ) (state : ItemState) → block < heap_blocks case names → 1 ≤ i → i ≤ count_of (heap_page case names block) → item_verdict (table_of case names) (heap_page case names block) i ≡ Passes state → is_live_tuple state ≡ true → IsLiveAt case names (record { block = block; item = i })
   live_at block i state below first last passes live =
-      let sound = sound_tuple (table_of case names) (case_page case names case.heap_file block) i state passes live in
-      record { block = below; live = record { item = record { first = first; last = last; normal = sound.normal }; life = sound.life } }
+      let sound = sound_tuple (table_of case names) (heap_page case names block) i state passes live in
+      let says = life_is_live (table_of case names).names (table_of case names).logs (head_at (heap_page case names block) i) sound.life in
+      record { block = below; live = record { item = record { first = first; last = last; normal = sound.normal }; inserted = says.0; kept = says.1 } }
 
   pub rows_live : RowsAreLive case names
   unfolding row_at
@@ -130,9 +146,9 @@ module _ (case : CaseRecord) (names : Names) where
   block_at_place : (block : ℕ) → All (λ row. row.tid.block ≡ block) (block_rows case names block)
   unfolding block_rows page_rows
   block_at_place block =
-      let page = case_page case names case.heap_file block in
-      All-kept (λ row. row.tid.block ≡ block) (page_rule_of Heap page) _
-      (All-each_upto (λ row. row.tid.block ≡ block) (item_rows case names block page) (count_of page)
+      let page = heap_page case names block in
+      all_by_rule (λ row. row.tid.block ≡ block) (page_rule_of Heap page) _
+      (All-upto one_list (λ l. l) refl (λ a b. refl) (λ row. row.tid.block ≡ block) (item_rows case names block page) (count_of page)
       (λ i first last. All-weaker (IsAt block i) (λ row. row.tid.block ≡ block) (λ row at. at.0) (item_rows case names block page i) (item_at_place block i page)))
 
   abbrev Rise : LiveRow → LiveRow → Type 0
@@ -153,14 +169,14 @@ module _ (case : CaseRecord) (names : Names) where
   block_rises : (block : ℕ) → AllPairs Rise (block_rows case names block)
   unfolding block_rows page_rows
   block_rises block =
-      let page = case_page case names case.heap_file block in
-      pairs-kept Rise (page_rule_of Heap page) _
-      (pairs-upto Rise (item_rows case names block page) (count_of page) (λ i first last. item_rises block i page) (items_rise block page))
+      let page = heap_page case names block in
+      pairs_by_rule Rise (page_rule_of Heap page) _
+      (pairs-upto one_list (λ l. l) refl (λ a b. refl) Rise (item_rows case names block page) (count_of page) (λ i first last. item_rises block i page) (items_rise block page))
 
   pub rows_rise : TidsRise (rows_of case names)
   unfolding rows_of
   rows_rise =
-      pairs-below Rise (block_rows case names) (heap_blocks case names) (λ block below. block_rises block)
+      pairs-below one_list (λ l. l) refl (λ a b. refl) Rise (block_rows case names) (heap_blocks case names) (λ block below. block_rises block)
       (λ j k x y lt inside first second.
       let here = All-contains (λ row. row.tid.block ≡ j) (block_rows case names j) x (block_at_place j) first in
       let there = All-contains (λ row. row.tid.block ≡ k) (block_rows case names k) y (block_at_place k) second in
@@ -210,12 +226,6 @@ attributes_are columns tuple list aligned is =
 
 -- Cells
 
-each_below-first : {X : Type 0} (f : ℕ → List X) (n : ℕ) → each_below f (suc n) ≡ f 0 ++ each_below (λ k. f (suc k)) n
-unfolding each_below
-each_below-first f zero = sym (append-nil (f 0))
-each_below-first {X = X} f (suc n) =
-    ap (λ (xs : List X). xs ++ f (suc n)) (each_below-first f n) ∙ append_assoc (f 0) (each_below (λ k. f (suc k)) n) (f (suc n))
-
 cells_of-next : (bytes : ToastPointer → List ℕ) (column : Column) (columns : List Column) (a : Attribute) (list : List Attribute) → cells_of bytes (column ∷ columns) (a ∷ list) ≡ cell_of bytes column a ∷ cells_of bytes columns list
 unfolding cells_of cell_at
 cells_of-next bytes column columns a list = each_below-first (cell_at bytes (column ∷ columns) (a ∷ list)) (length columns)
@@ -258,21 +268,14 @@ root_found : (block : ℕ) (states : List ItemState) (i : ℕ) (o : Option ℕ) 
 root_found block states i None lowest one = absurd (lowest one.root one.reaches)
 root_found block states i (Some r) lowest one = record { reaches = lowest.0; only = λ q reaches. one.only q reaches ∙ sym (one.only r lowest.0) }
 
-same_state : (a b : ItemState) → Passes a ≡ Passes b → a ≡ b
-same_state a b e = cc
-
 -- The rows of a quiet case
 
-heap_types : (case : CaseRecord) (names : Names) → (table_of case names).columns ≡ map (λ (c : Column). c.ctype) case.columns
-unfolding table_of
-heap_types case names = refl
-
 -- a live tuple has the state of one
-live_state : (table : Table) (page : List ℕ) (i : ℕ) (state : ItemState) → IsStateOf table page i state → IsLiveTuple table page i → is_live_tuple state ≡ true
-live_state table page i _ (of_tuple normal) live = ap is_live live.life
-live_state table page i _ (unused e) live = absurd (false≢true (sym (ap is_normal e) ∙ live.item.normal))
-live_state table page i _ (dead e) live = absurd (false≢true (sym (ap is_normal e) ∙ live.item.normal))
-live_state table page i _ (redirect e) live = absurd (false≢true (sym (ap is_normal e) ∙ live.item.normal))
+live_state : (table : Table) (page : List ℕ) (i : ℕ) (state : ItemState) → item_verdict table page i ≡ Passes state → IsStateOf table page i state → HoldsLiveTuple table page i → is_live_tuple state ≡ true
+live_state table page i _ passes (of_tuple normal) live = ap is_live (live_passes table page i _ passes live)
+live_state table page i _ passes (unused e) live = absurd (false≢true (sym (ap is_normal e) ∙ live.item.normal))
+live_state table page i _ passes (dead e) live = absurd (false≢true (sym (ap is_normal e) ∙ live.item.normal))
+live_state table page i _ passes (redirect e) live = absurd (false≢true (sym (ap is_normal e) ∙ live.item.normal))
 
 row_place : (case : CaseRecord) (names : Names) (tid : Tid) (page : List ℕ) → (row_at case names tid.block page tid.item).tid ≡ tid
 unfolding row_at
@@ -281,38 +284,46 @@ row_place case names tid page = refl
 one_row : (row : LiveRow) (v : ItemVerdict) (state : ItemState) → v ≡ Passes state → is_live_tuple state ≡ true → Contains (row_by v row) row
 one_row row v state passes live =
     let P : List LiveRow → Type 0 = λ rows. Contains rows row in
-    subst P (sym (ap (λ (x : ItemVerdict). row_by x row) passes ∙ cond-true _ _ _ live)) (among_one row)
+    subst P (sym (ap (λ (x : ItemVerdict). row_by x row) passes ∙ cond-true _ _ _ live)) (0, omega arith, refl)
 
 module _ (case : CaseRecord) (names : Names) (quiet : IsQuiet case names) where
-  -- the state of an item is what it passes with
-  state_is : (block i : ℕ) (state : ItemState) → block < heap_blocks case names → 1 ≤ i → i ≤ count_of (case_page case names case.heap_file block) → item_verdict (table_of case names) (case_page case names case.heap_file block) i ≡ Passes state → item_at (states_at case names block) i ≡ state
-  state_is block i state below first last passes =
-      let states = case_states case names quiet.findings quiet.doubts block below in
-      same_state _ _ (sym (states.passes i first last) ∙ passes)
+  each_passes_at : (block : ℕ) → block < heap_blocks case names → EachPasses (table_of case names) (heap_page case names block)
+  each_passes_at block below = each_passes (table_of case names) block (heap_page case names block) (page_passes case names quiet block below)
 
-  root_is : (block i : ℕ) (state : ItemState) → block < heap_blocks case names → 1 ≤ i → i ≤ count_of (case_page case names case.heap_file block) → item_verdict (table_of case names) (case_page case names case.heap_file block) i ≡ Passes state → is_live_tuple state ≡ true → IsRootOfItem block (states_at case names block) i (root_item block (states_at case names block) i)
-  root_is block i state below first last passes live =
-      let is : IsLiveItem (states_at case names block) i = ap is_live_tuple (state_is block i state below first last passes) ∙ live in
+  passes_at : (block : ℕ) → block < heap_blocks case names → (i : ℕ) → 1 ≤ i → i ≤ count_of (heap_page case names block) → item_verdict (table_of case names) (heap_page case names block) i ≡ Passes (item_at (states_at case names block) i)
+  passes_at block below = passes_there (table_of case names) (heap_page case names block) (each_passes_at block below)
+
+  are_states : (block : ℕ) → block < heap_blocks case names → AreStatesOf (table_of case names) (heap_page case names block) (states_at case names block)
+  are_states block below = states_are_there (table_of case names) (heap_page case names block) (each_passes_at block below)
+
+  one_root : (block : ℕ) → block < heap_blocks case names → (i : ℕ) → HoldsLiveTuple (table_of case names) (heap_page case names block) i → HasOneRoot block (states_at case names block) i
+  one_root block below i live =
+      (is_silent (table_of case names) (chunks_of case names) (case_bits case names block) block (heap_page case names block) (heap_has_nothing case names quiet block below)).true_page.roots
+      (states_at case names block) (are_states block below) i live
+
+  root_is : (block i : ℕ) → block < heap_blocks case names → HoldsLiveTuple (table_of case names) (heap_page case names block) i → IsRootOfItem block (states_at case names block) i (root_item block (states_at case names block) i)
+  root_is block i below live =
+      let first = live.item.first in
       root_found block (states_at case names block) i (root_of block (states_at case names block) i)
       (root_is_right block (states_at case names block) i (λ z. absurd (omega (arith, first, z))))
-      (case_roots case names quiet.findings quiet.doubts block below i is)
+      (one_root block below i live)
 
-  read_is : IsSound case → (block i : ℕ) (state : ItemState) → item_verdict (table_of case names) (case_page case names case.heap_file block) i ≡ Passes state → is_live_tuple state ≡ true → attributes_in (table_of case names).columns (tuple_at (case_page case names case.heap_file block) i) ≡ Ok (live_attributes (table_of case names) (case_page case names case.heap_file block) i)
+  read_is : IsSound case → (block i : ℕ) (state : ItemState) → item_verdict (table_of case names) (heap_page case names block) i ≡ Passes state → is_live_tuple state ≡ true → attributes_in (table_of case names).columns (tuple_at (heap_page case names block) i) ≡ Ok (live_attributes (table_of case names) (heap_page case names block) i)
   read_is sound block i state passes live =
-      let page = case_page case names case.heap_file block in
-      let aligned = columns_aligned case (table_of case names).columns sound (heap_types case names) in
+      let page = heap_page case names block in
+      let aligned = (columns_readable case (table_of case names).columns sound (heap_types case names)).aligned in
       read_or_not (attributes_in (table_of case names).columns (tuple_at page i)) (live_attributes (table_of case names) page i)
       (live_are_read (table_of case names) page i state passes live) (never_in (table_of case names).columns (tuple_at page i) aligned)
 
-  whole_row : IsSound case → (block i : ℕ) (state : ItemState) → block < heap_blocks case names → 1 ≤ i → i ≤ count_of (case_page case names case.heap_file block) → item_verdict (table_of case names) (case_page case names case.heap_file block) i ≡ Passes state → is_live_tuple state ≡ true → IsWholeRow case names (row_at case names block (case_page case names case.heap_file block) i)
+  whole_row : IsSound case → (block i : ℕ) (state : ItemState) → block < heap_blocks case names → 1 ≤ i → i ≤ count_of (heap_page case names block) → item_verdict (table_of case names) (heap_page case names block) i ≡ Passes state → is_live_tuple state ≡ true → IsWholeRow case names (row_at case names block (heap_page case names block) i)
   unfolding row_at
   whole_row sound block i state below first last passes live =
-      let page = case_page case names case.heap_file block in
+      let page = heap_page case names block in
       let list = live_attributes (table_of case names) page i in
       let here = live_at case names block i state below first last passes live in
-      let root = root_is block i state below first last passes live in
+      let root = root_is block i below here.live in
       let read = read_is sound block i state passes live in
-      let aligned = columns_aligned case (map (λ c. c.ctype) case.columns) sound refl in
+      let aligned = (columns_readable case (map (λ c. c.ctype) case.columns) sound refl).aligned in
       let plain = subst (λ (cs : List ColType). attributes_in cs (tuple_at page i) ≡ Ok list) (heap_types case names) read in
       record {
         live = here;
@@ -321,29 +332,28 @@ module _ (case : CaseRecord) (names : Names) (quiet : IsQuiet case names) where
           list = list;
           attributes = attributes_are case.columns (tuple_at page i) list aligned plain;
           cells = cells_are case names case.columns list (attributes_fit (map (λ c. c.ctype) case.columns) (tuple_at page i) list aligned plain)
-              (λ p among. case_values case names quiet.findings quiet.doubts block below i p (record { live = here.live; list = list; read = read; among = among }));
+              (λ p among. values_are_whole case names quiet block below i p (record { live = here.live; list = list; read = read; among = among }));
         };
       }
 
   -- each live tuple has its row
-  row_there : (block i : ℕ) → block < heap_blocks case names → IsLiveTuple (table_of case names) (case_page case names case.heap_file block) i → Contains (rows_of case names) (row_at case names block (case_page case names case.heap_file block) i)
+  row_there : (block i : ℕ) → block < heap_blocks case names → HoldsLiveTuple (table_of case names) (heap_page case names block) i → Contains (rows_of case names) (row_at case names block (heap_page case names block) i)
   unfolding rows_of block_rows page_rows item_rows
   row_there block i below live =
-      let page = case_page case names case.heap_file block in
-      let states = case_states case names quiet.findings quiet.doubts block below in
-      let rule = (heap_is_quiet case names (files_are_empty case names (case_files case names quiet.findings quiet.doubts) quiet.doubts) block below).header in
-      let passes = states.passes i live.item.first live.item.last in
+      let page = heap_page case names block in
+      let rule = (page_passes case names quiet block below).header in
+      let passes = passes_at block below i live.item.first live.item.last in
       let row = row_at case names block page i in
-      let P : Option Rule → Type 0 = λ r. Contains (kept_by_rule r (each_upto (item_rows case names block page) (count_of page))) row in
-      among_below (block_rows case names) (heap_blocks case names) block row below
+      let P : Option Rule → Type 0 = λ r. Contains (rows_by_rule r (each_upto one_list (item_rows case names block page) (count_of page))) row in
+      among_below one_list (λ l. l) refl (λ a b. refl) (block_rows case names) (heap_blocks case names) block row below
       (subst P (sym rule)
-      (among_upto (item_rows case names block page) (count_of page) i row live.item.first live.item.last
+      (among_upto one_list (λ l. l) refl (λ a b. refl) (item_rows case names block page) (count_of page) i row live.item.first live.item.last
       (one_row row (item_verdict (table_of case names) page i) (item_at (states_at case names block) i) passes
-      (live_state (table_of case names) page i (item_at (states_at case names block) i) (states.each i live.item.first live.item.last) live))))
+      (live_state (table_of case names) page i (item_at (states_at case names block) i) passes ((are_states block below).each i live.item.first live.item.last) live))))
 
   pub rows_exact : IsSound case → AreLiveTuples case names (rows_of case names)
   rows_exact sound = record {
     each = of_all case names (IsWholeRow case names) (whole_row sound);
-    all = λ tid live. record { row = row_at case names tid.block (case_page case names case.heap_file tid.block) tid.item; among = row_there tid.block tid.item live.block live.live; at = row_place case names tid (case_page case names case.heap_file tid.block) };
+    all = λ tid live. record { row = row_at case names tid.block (heap_page case names tid.block) tid.item; among = row_there tid.block tid.item live.block live.live; at = row_place case names tid (heap_page case names tid.block) };
     rise = rows_rise case names;
   }

@@ -1,25 +1,27 @@
 -- What a quiet case says of the values of its rows.
-use Rattle.std.proofs.Common.{◌≡◌, ℕ, ◌-◌, ◌≤◌, Bool, true, false, List, [], ◌∷◌, ◌++◌, append_assoc, length, All, map, refl, ap, sym, subst, ◌∙◌}
-use Rattle.std.specs.Prelude.{◌==◌, ◌&&◌, ◌||◌, Result, Ok, Err, IfOk, OnErr, Option, Some, None}
+use Rattle.std.proofs.Common.{◌≡◌, ℕ, ◌-◌, ◌≤◌, List, [], ◌∷◌, ◌++◌, append_assoc, length, All, map, refl, ap, sym, subst, ◌∙◌, arith}
+use Rattle.std.specs.Prelude.{Result, Ok, Err, IfOk, OnErr, Option, Some, None}
 use Rattle.std.specs.List.{AllByRecursion}
 use Rattle.std.specs.Option.{option_copied}
+use Rattle.std.proofs.lemmas.List.{length-map}
 use Rattle.outside.specs.Outside.{IfTold, Names, Seen}
 use Rattle.rel_files.specs.Relation.{size_of}
 use Rattle.rel_files.specs.declared.relation.Relation.{Relation}
-use Rattle.std.specs.Int.{is_in_range}
-use Rattle.std.proofs.lemmas.List.Elements.{All-from_recursion, All-map}
+use Rattle.std.proofs.lemmas.List.Elements.{All-from_recursion}
 use Rattle.key_orders.specs.declared.columns.ColType.{ColType}
-use Rattle.key_orders.specs.declared.columns.ColType.TheVariants as ctype
 use Rattle.case_file.specs.Record.{CaseRecord}
-use Rattle.case_file.specs.Sound.{IsSound, IsSoundColumn, is_sound_type}
+use Rattle.case_file.specs.Sound.{IsSound, IsSoundColumn}
 use Rattle.case_file.specs.declared.case.Column.{Column}
 use Rattle.key_orders.specs.Types.{HasAlignment}
 use Rattle.varlena_attrs.specs.declared.places.ToastPointer.{ToastPointer}
 use Rattle.toast_chunks.specs.Stored.{AllStand}
 use Rattle.toast_chunks.specs.Value.{joined_bytes}
 use Rattle.toast_chunks.specs.declared.map.Chunk.{Chunk}
-use Rattle.heap_check.specs.Files.{IsToastIn, IsToastNamed}
-use Rattle.heap_check.specs.Heap.{chunks_of, heap_blocks}
+use Rattle.heap_pages.specs.Table.{AreReadable}
+use Rattle.heap_files.specs.Case.{heap_blocks}
+use Rattle.heap_files.specs.Found.{chunks_of}
+use Rattle.heap_files.specs.Files.{IsToastIn, IsToastNamed, chunks_in, toast_in}
+use Rattle.heap_files.proofs.ColumnLaws.{columns_aligned}
 use Rattle.heap_check.specs.RowCursor.{AreRowsOf, IsPageDoneBy, case_of, heap_of, rows_left, rows_unread}
 use Rattle.heap_check.specs.RowPages.{AreValuesOf, IsFirst, IsInHand, rows_given, rows_in_hand}
 use Rattle.heap_check.specs.RowValues.{IsReadable, bytes_seen}
@@ -31,44 +33,13 @@ use Rattle.heap_check.specs.declared.rows.LiveRow.{LiveRow}
 use Rattle.heap_check.specs.declared.rows.LiveRows.{LiveRows}
 use Rattle.heap_check.proofs.Stand.{all_stand}
 
--- COLUMNS
+-- Columns
 
-or_true : (a b : Bool) → b ≡ true → a || b ≡ true
-or_true true b h = refl
-or_true false b h = h
-
-and_right : (a b : Bool) → a && b ≡ true → b ≡ true
-and_right true b h = h
-and_right false b h = cc
-
-sound_alignment : (c : ColType) → is_sound_type c ≡ true → HasAlignment c
-sound_alignment ctype.Bool h = refl
-sound_alignment ctype.Int2 h = refl
-sound_alignment ctype.Int4 h = refl
-sound_alignment ctype.Int8 h = refl
-sound_alignment ctype.Uuid h = refl
-sound_alignment ctype.Text h = refl
-sound_alignment ctype.Bytea h = refl
-sound_alignment ctype.Oid h = refl
-sound_alignment ctype.Date h = refl
-sound_alignment ctype.Timestamp h = refl
-sound_alignment ctype.Timestamptz h = refl
-sound_alignment (ctype.Fixed len align) h = and_right (is_in_range 1 8000 len) _ h
-sound_alignment (ctype.Varlena align) h = four_or_eight (align == 1) (align == 2) (align == 4) (align == 8) h
-  where
-    four_or_eight : (a b c d : Bool) → c || d ≡ true → a || b || c || d ≡ true
-    four_or_eight true b c d e = cc
-    four_or_eight false true c d e = cc
-    four_or_eight false false c d e = e
-
-pub columns_aligned : (case : CaseRecord) (types : List ColType) → IsSound case → types ≡ map (λ c. c.ctype) case.columns → All HasAlignment types
-columns_aligned case types sound are =
-    subst (λ (ts : List ColType). All HasAlignment ts) (sym are)
-    (All-map HasAlignment (λ (c : Column). c.ctype) case.columns (All-from_recursion (λ (c : Column). HasAlignment c.ctype) case.columns (each case.columns sound.columns)))
-  where
-    each : (columns : List Column) → AllByRecursion IsSoundColumn columns → AllByRecursion (λ (c : Column). HasAlignment c.ctype) columns
-    each [] h = tt
-    each (c ∷ cs) h = (sound_alignment c.ctype h.0.ctype, each cs h.1)
+pub columns_readable : (case : CaseRecord) (types : List ColType) → IsSound case → types ≡ map (λ c. c.ctype) case.columns → AreReadable types
+columns_readable case types sound are = record {
+  few = subst (λ (ts : List ColType). length ts ≤ 64) (sym are) (omega (arith, length-map case.columns (λ (c : Column). c.ctype), sound.column_count.1));
+  aligned = subst (λ (ts : List ColType). All HasAlignment ts) (sym are) (columns_aligned case.columns sound.columns);
+}
 
 -- a column of a case may have the value that stands for it in older tuples
 pub missing_fit : (case : CaseRecord) (columns : List Column) → IsSound case → columns ≡ case.columns → All HasMissing columns
@@ -79,7 +50,7 @@ missing_fit case columns sound are =
     each [] h = tt
     each (c ∷ cs) h = (h.0.missing, each cs h.1)
 
--- THE TOAST TABLE
+-- The TOAST table
 
 pub readable_by : (case : CaseRecord) (names : Names) (t : Option (List ℕ × ℕ)) (r : Option Relation) (chunks : List Chunk) → case.toast ≡ t → IsToastIn names case.segment_blocks t r → IsToastNamed case.segment_blocks t r → chunks ≡ chunks_of case names → IsReadable names r chunks
 readable_by case names None None chunks is attached named are = tt
@@ -100,27 +71,28 @@ bytes_by case names (Some t) (Some r) chunks p is named are =
 bytes_by case names None (Some r) chunks p is named are = absurd named
 bytes_by case names (Some t) None chunks p is named are = absurd named
 
-pub readable : (names : Names) (rows : LiveRows) (toast : Option Relation) → toast ≡ (heap_of rows).files.toast → AreRowsOf names rows → IsReadable names toast (heap_of rows).chunks
-readable names rows toast is are =
-    subst (λ (t : Option Relation). IsReadable names t (heap_of rows).chunks) (sym is)
-    (readable_by (case_of rows) names _ (heap_of rows).files.toast (heap_of rows).chunks refl are.heap.files.toast are.belong.toast are.heap.chunks)
+pub readable : (names : Names) (rows : LiveRows) (toast : Option Relation) (chunks : List Chunk) → toast ≡ (toast_in (heap_of rows)) → chunks ≡ chunks_in (heap_of rows) → AreRowsOf names rows → IsReadable names toast chunks
+readable names rows toast chunks is same are =
+    subst (λ (cs : List Chunk). IsReadable names toast cs) (sym same) (
+    subst (λ (t : Option Relation). IsReadable names t (chunks_in (heap_of rows))) (sym is)
+    (readable_by (case_of rows) names _ (toast_in (heap_of rows)) (chunks_in (heap_of rows)) refl are.heap.files.toast are.belong.toast are.heap.chunks))
 
-pub values_are : (names : Names) (rows : LiveRows) (values : RowValues) → option_copied values.toast ≡ (heap_of rows).files.toast → values.chunks.now ≡ (heap_of rows).chunks → values.columns.now ≡ (case_of rows).columns → AreRowsOf names rows → AreValuesOf (case_of rows) names values
+pub values_are : (names : Names) (rows : LiveRows) (values : RowValues) → option_copied values.toast ≡ (toast_in (heap_of rows)) → values.chunks.now ≡ (chunks_in (heap_of rows)) → values.columns.now ≡ (case_of rows).columns → AreRowsOf names rows → AreValuesOf (case_of rows) names values
 values_are names rows values toast chunks columns are = record {
   columns = columns;
   bytes = λ p.
       ap (λ (t : Option Relation). bytes_seen names t values.chunks.now p) toast
-      ∙ bytes_by (case_of rows) names _ (heap_of rows).files.toast values.chunks.now p refl are.belong.toast (chunks ∙ are.heap.chunks);
+      ∙ bytes_by (case_of rows) names _ (toast_in (heap_of rows)) values.chunks.now p refl are.belong.toast (chunks ∙ are.heap.chunks);
 }
 
--- THE PAGE IN HAND OF A CURSOR
+-- The page in hand of a cursor
 
 pub left_is : (names : Names) (rows : LiveRows) → rows_left names rows ≡ rows_in_hand (case_of rows) names rows.page ++ each_from (block_rows (case_of rows) names) rows.next (heap_blocks (case_of rows) names - rows.next)
 unfolding rows_left rows_unread
 left_is names rows = refl
 
 -- the cursor with another page in hand
-pub moved : (names : Names) (rows : LiveRows) (page : RowPage) (next : ℕ) → AreRowsOf names rows → length page.work.states.items ≤ 2042 → IsInHand (case_of rows) names (heap_of rows).files.toast (heap_of rows).chunks page → AreRowsOf names (record { case = rows.case; heap = rows.heap; logs = rows.logs; page = page; next = next })
+pub moved : (names : Names) (rows : LiveRows) (page : RowPage) (next : ℕ) → AreRowsOf names rows → length page.work.states.items ≤ 2042 → IsInHand (case_of rows) names (toast_in (heap_of rows)) (chunks_in (heap_of rows)) page → AreRowsOf names (record { case = rows.case; heap = rows.heap; logs = rows.logs; page = page; next = next })
 moved names rows page next are few hand = record {
   heap = are.heap;
   belong = are.belong;
@@ -164,16 +136,16 @@ kept_by (Ok found) seen files old new next case left = tt
 kept_by (Err e) seen files old new next case left = λ names told. sym (given_left names old new None next case (sym (left names told)))
 
 -- what was told of the call on the page, for a cursor
-pub first_told : {S E : Type 0} (result : Result (Option LiveRow) E) (seen : S → Seen) (files : S) (old : LiveRows) (new : RowPage) (values : RowValues) → option_copied values.toast ≡ (heap_of old).files.toast → values.chunks.now ≡ (heap_of old).chunks → values.columns.now ≡ (case_of old).columns → IfTold seen files (λ names. AreRowsOf names old) → IfOk result (λ found. IfTold seen files (λ names. (case : CaseRecord) → IsInHand case names (option_copied values.toast) values.chunks.now old.page → AreValuesOf case names values → length old.page.work.states.items ≤ 2042 → IsFirst found (rows_in_hand case names old.page) (rows_in_hand case names new))) → IfOk result (λ found. IfTold seen files (λ names. IsFirst found (rows_in_hand (case_of old) names old.page) (rows_in_hand (case_of old) names new)))
+pub first_told : {S E : Type 0} (result : Result (Option LiveRow) E) (seen : S → Seen) (files : S) (old : LiveRows) (new : RowPage) (values : RowValues) → option_copied values.toast ≡ (toast_in (heap_of old)) → values.chunks.now ≡ (chunks_in (heap_of old)) → values.columns.now ≡ (case_of old).columns → IfTold seen files (λ names. AreRowsOf names old) → IfOk result (λ found. IfTold seen files (λ names. (case : CaseRecord) → IsInHand case names (option_copied values.toast) values.chunks.now old.page → AreValuesOf case names values → length old.page.work.states.items ≤ 2042 → IsFirst found (rows_in_hand case names old.page) (rows_in_hand case names new))) → IfOk result (λ found. IfTold seen files (λ names. IsFirst found (rows_in_hand (case_of old) names old.page) (rows_in_hand (case_of old) names new)))
 first_told (Ok found) seen files old new values toast chunks columns are first = λ names told.
     let here = are names told in
-    let hand = subst (λ (t : Option Relation). IsInHand (case_of old) names t values.chunks.now old.page) (sym toast) (subst (λ (cs : List Chunk). IsInHand (case_of old) names (heap_of old).files.toast cs old.page) (sym chunks) here.hand) in
+    let hand = subst (λ (t : Option Relation). IsInHand (case_of old) names t values.chunks.now old.page) (sym toast) (subst (λ (cs : List Chunk). IsInHand (case_of old) names (toast_in (heap_of old)) cs old.page) (sym chunks) here.hand) in
     first names told (case_of old) hand (values_are names old values toast chunks columns here) here.few
 first_told (Err e) seen files old new values toast chunks columns are first = tt
 
-pub left_told : {S E : Type 0} (result : Result (Option LiveRow) E) (seen : S → Seen) (files : S) (old : LiveRows) (new : RowPage) (values : RowValues) → option_copied values.toast ≡ (heap_of old).files.toast → values.chunks.now ≡ (heap_of old).chunks → values.columns.now ≡ (case_of old).columns → IfTold seen files (λ names. AreRowsOf names old) → OnErr result (IfTold seen files (λ names. (case : CaseRecord) → IsInHand case names (option_copied values.toast) values.chunks.now old.page → AreValuesOf case names values → length old.page.work.states.items ≤ 2042 → rows_in_hand case names new ≡ rows_in_hand case names old.page)) → OnErr result (IfTold seen files (λ names. rows_in_hand (case_of old) names new ≡ rows_in_hand (case_of old) names old.page))
+pub left_told : {S E : Type 0} (result : Result (Option LiveRow) E) (seen : S → Seen) (files : S) (old : LiveRows) (new : RowPage) (values : RowValues) → option_copied values.toast ≡ (toast_in (heap_of old)) → values.chunks.now ≡ (chunks_in (heap_of old)) → values.columns.now ≡ (case_of old).columns → IfTold seen files (λ names. AreRowsOf names old) → OnErr result (IfTold seen files (λ names. (case : CaseRecord) → IsInHand case names (option_copied values.toast) values.chunks.now old.page → AreValuesOf case names values → length old.page.work.states.items ≤ 2042 → rows_in_hand case names new ≡ rows_in_hand case names old.page)) → OnErr result (IfTold seen files (λ names. rows_in_hand (case_of old) names new ≡ rows_in_hand (case_of old) names old.page))
 left_told (Ok found) seen files old new values toast chunks columns are left = tt
 left_told (Err e) seen files old new values toast chunks columns are left = λ names told.
     let here = are names told in
-    let hand = subst (λ (t : Option Relation). IsInHand (case_of old) names t values.chunks.now old.page) (sym toast) (subst (λ (cs : List Chunk). IsInHand (case_of old) names (heap_of old).files.toast cs old.page) (sym chunks) here.hand) in
+    let hand = subst (λ (t : Option Relation). IsInHand (case_of old) names t values.chunks.now old.page) (sym toast) (subst (λ (cs : List Chunk). IsInHand (case_of old) names (toast_in (heap_of old)) cs old.page) (sym chunks) here.hand) in
     left names told (case_of old) hand (values_are names old values toast chunks columns here) here.few

@@ -7,24 +7,25 @@ use Rattle.case_file.specs.Record.{CaseRecord}
 use Rattle.liveness.specs.declared.states.ItemState.{ItemState}
 use Rattle.rel_files.specs.declared.relation.Relation.{Relation}
 use Rattle.toast_chunks.specs.declared.map.Chunk.{Chunk}
-use Rattle.heap_check.specs.Below.{each_below, each_below-next, each_below-none, each_upto, each_upto-next, each_upto-none}
-use Rattle.heap_check.specs.Heap.{heap_blocks}
+use Rattle.outside.specs.Adds.{each_below, one_list}
+use Rattle.reports.specs.Added.{each_upto}
 use Rattle.hot_chains.specs.Chains.{is_live_tuple, item_at}
-use Rattle.heap_check.specs.Heap.{table_of}
-use Rattle.heap_check.specs.Kept.{live_attributes, states_of}
+use Rattle.heap_pages.specs.Found.{live_attributes, states_of}
+use Rattle.heap_pages.specs.Verdicts.{item_verdict}
+use Rattle.heap_pages.specs.declared.verdict.ItemVerdict.TheVariants.{Passes}
+use Rattle.heap_files.specs.Case.{heap_blocks, table_of}
 use Rattle.heap_check.specs.RowCursor.{rows_left, rows_unread}
 use Rattle.heap_check.specs.declared.row_roots.Roots.{Roots}
 use Rattle.heap_check.specs.RowRoots.{AreRoots}
 use Rattle.heap_check.specs.RowPages.{HasAttributes, IsFirst, IsInHand, IsSamePage, rows_given, rows_in_hand}
 use Rattle.heap_check.specs.RowValues.{IsThere}
-use Rattle.heap_check.specs.Verdicts.{item_verdict}
-use Rattle.heap_check.specs.declared.verdict.ItemVerdict.TheVariants.{Passes}
+use Rattle.heap_check.proofs.Lists.{each_below-next, each_below-none, each_upto-next, each_upto-none}
 use Rattle.heap_check.specs.Rows.{block_rows, each_from, item_rows, rows_of}
 use Rattle.heap_check.specs.declared.row_page.RowPage.{RowPage}
 use Rattle.heap_check.specs.declared.rows.LiveRow.{LiveRow}
 use Rattle.heap_check.specs.declared.rows.LiveRows.{LiveRows}
 
--- PLACES FROM ONE ON
+-- Places from one on
 
 pub each_from-none : {X : Type 0} (f : ℕ → List X) (k : ℕ) → each_from f k 0 ≡ []
 unfolding each_from
@@ -35,32 +36,32 @@ unfolding each_from
 each_from-next f k n = rw (add-one, add-one) refl
 
 -- the places before k, and those from k on
-below_from : {X : Type 0} (f : ℕ → List X) (k n : ℕ) → each_below f k ++ each_from f k n ≡ each_below f (k + n)
+below_from : {X : Type 0} (f : ℕ → List X) (k n : ℕ) → each_below one_list f k ++ each_from f k n ≡ each_below one_list f (k + n)
 unfolding each_from
 below_from f k zero = rw (append-nil, add-zero) refl
 below_from f k (suc n) =
-    sym (append_assoc (each_below f k) (f k) (each_from f (suc k) n))
-    ∙ ap (λ xs. xs ++ each_from f (suc k) n) (sym (each_below-next f k) ∙ ap (each_below f) (omega arith))
+    sym (append_assoc (each_below one_list f k) (f k) (each_from f (suc k) n))
+    ∙ ap (λ xs. xs ++ each_from f (suc k) n) (sym (each_below-next f k) ∙ ap (each_below one_list f) (omega arith))
     ∙ below_from f (suc k) n
-    ∙ ap (each_below f) (omega arith)
+    ∙ ap (each_below one_list f) (omega arith)
 
-pub all_below : {X : Type 0} (f : ℕ → List X) (n : ℕ) → each_from f 0 n ≡ each_below f n
-all_below f n = ap (λ xs. xs ++ each_from f 0 n) (sym (each_below-none f)) ∙ below_from f 0 n ∙ ap (each_below f) (omega arith)
+pub all_below : {X : Type 0} (f : ℕ → List X) (n : ℕ) → each_from f 0 n ≡ each_below one_list f n
+all_below f n = ap (λ xs. xs ++ each_from f 0 n) (sym (each_below-none f)) ∙ below_from f 0 n ∙ ap (each_below one_list f) (omega arith)
 
-upto_from : {X : Type 0} (f : ℕ → List X) (k n : ℕ) → each_upto f k ++ each_from f (k + 1) n ≡ each_upto f (k + n)
+upto_from : {X : Type 0} (f : ℕ → List X) (k n : ℕ) → each_upto one_list f k ++ each_from f (k + 1) n ≡ each_upto one_list f (k + n)
 unfolding each_from
 upto_from f k zero = rw (append-nil, add-zero) refl
 upto_from f k (suc n) =
-    sym (append_assoc (each_upto f k) (f (k + 1)) (each_from f (suc (k + 1)) n))
+    sym (append_assoc (each_upto one_list f k) (f (k + 1)) (each_from f (suc (k + 1)) n))
     ∙ ap (λ xs. xs ++ each_from f (suc (k + 1)) n) (sym (each_upto-next f k))
-    ∙ ap (λ (j : ℕ). each_upto f (k + 1) ++ each_from f j n) (omega arith)
+    ∙ ap (λ (j : ℕ). each_upto one_list f (k + 1) ++ each_from f j n) (omega arith)
     ∙ upto_from f (k + 1) n
-    ∙ ap (each_upto f) (omega arith)
+    ∙ ap (each_upto one_list f) (omega arith)
 
-pub all_upto : {X : Type 0} (f : ℕ → List X) (n : ℕ) → each_from f 1 n ≡ each_upto f n
-all_upto f n = ap (λ xs. xs ++ each_from f 1 n) (sym (each_upto-none f)) ∙ upto_from f 0 n ∙ ap (each_upto f) (omega arith)
+pub all_upto : {X : Type 0} (f : ℕ → List X) (n : ℕ) → each_from f 1 n ≡ each_upto one_list f n
+all_upto f n = ap (λ xs. xs ++ each_from f 1 n) (sym (each_upto-none f)) ∙ upto_from f 0 n ∙ ap (each_upto one_list f) (omega arith)
 
--- THE PAGE IN HAND
+-- The page in hand
 
 rows_by_parts : CaseRecord → Names → ℕ → List ℕ → List ItemState → ℕ → List LiveRow
 rows_by_parts case names block bytes states done = each_from (item_rows case names block bytes) (done + 1) (length states - done)
@@ -137,7 +138,7 @@ pub first_by : (found : Option LiveRow) (before here after : List LiveRow) → b
 first_by (Some r) before here after same is some = same ∙ is
 first_by None before here after same is some = absurd (none_some some)
 
--- NO ROW IS LEFT
+-- No row is left
 
 pub first_rows : (names : Names) (rows : LiveRows) → rows.page.work.states.items ≡ [] → rows.next ≡ 0 → rows_left names rows ≡ rows_of rows.case.now names
 unfolding rows_left rows_unread rows_of

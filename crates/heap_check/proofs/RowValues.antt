@@ -3,6 +3,7 @@ use Rattle.std.proofs.Common.{◌≡◌, ℕ, zero, suc, ◌+◌, ◌<◌, true,
 use Rattle.std.specs.Prelude.{map, slice_get, Option, Some, None}
 use Rattle.std.specs.Option.{option_copied}
 use Rattle.std.proofs.lemmas.Bool.{cond-false}
+use Rattle.outside.specs.Adds.{each_below, one_list}
 use Rattle.outside.specs.Outside.{Names}
 use Rattle.rel_files.specs.Relation.{IsAttached, base_of, size_of}
 use Rattle.rel_files.specs.declared.relation.Relation.{Relation}
@@ -24,11 +25,11 @@ use Rattle.toast_chunks.specs.declared.detoast.ToastState.TheVariants as state
 use Rattle.toast_chunks.specs.declared.map.Chunk.{Chunk}
 use Rattle.heap_check.specs.declared.row_cells.Cell.{Cell}
 use Rattle.heap_check.specs.declared.row_cells.Cell.TheVariants as cell
-use Rattle.heap_check.specs.Below.{each_below, each_below-next}
 use Rattle.heap_check.specs.Rows.{cell_at, cell_by, cell_of, cells_of, external_cell}
 use Rattle.heap_check.specs.RowValues.{FitTypes, FitsType, IsReadable, bytes_seen}
+use Rattle.heap_check.proofs.Lists.{each_below-next}
 
--- EXTERNAL VALUES
+-- Values in the TOAST table
 
 pub readable_in : (names : Names) (toast : Option (Bor Relation)) (r : Bor Relation) (chunks : List Chunk) → toast ≡ Some r → IsReadable names (option_copied toast) chunks → IsAttached names r.now × AllStand names r.now chunks
 readable_in names toast r chunks e h = subst (λ (t : Option (Bor Relation)). IsReadable names (option_copied t) chunks) e h
@@ -50,7 +51,7 @@ whole_cell names toast r chunks p bytes e plain is =
     let same : bytes ≡ bytes_seen names (option_copied toast) chunks p = is ∙ sym seen in
     ap (λ (b : List ℕ). Some (cell.Held (value.Bytes b))) same ∙ ap (λ (c : Cell). Some c) (sym (cond-false _ _ _ plain))
 
--- EACH COLUMN
+-- Each column
 
 fit_length : (cs : List ColType) (list : List Attribute) → FitTypes cs list → length list ≡ length cs
 fit_length [] [] fit = refl
@@ -99,12 +100,12 @@ some_cell : (c d : Cell) → ◌≡◌ {A = Option Cell} (Some c) (Some d) → c
 some_cell c d e = cc
 
 -- one more cell
-pub next_cell : (bytes : ToastPointer → List ℕ) (columns : List Column) (body : List ℕ) (places : List AttrPlace) (k : ℕ) (d : Column) (e : AttrPlace) (found : Option Cell) (c : Cell) (old new : List Cell) → k < length columns → k < length places → old ≡ each_below (cell_at bytes columns (shown_in body places)) k → found ≡ Some (cell_of bytes (get_or columns k d) (shown_at body (get_or places k e))) → found ≡ Some c → new ≡ old ++ c ∷ [] → new ≡ each_below (cell_at bytes columns (shown_in body places)) (k + 1)
+pub next_cell : (bytes : ToastPointer → List ℕ) (columns : List Column) (body : List ℕ) (places : List AttrPlace) (k : ℕ) (d : Column) (e : AttrPlace) (found : Option Cell) (c : Cell) (old new : List Cell) → k < length columns → k < length places → old ≡ each_below one_list (cell_at bytes columns (shown_in body places)) k → found ≡ Some (cell_of bytes (get_or columns k d) (shown_at body (get_or places k e))) → found ≡ Some c → new ≡ old ++ c ∷ [] → new ≡ each_below one_list (cell_at bytes columns (shown_in body places)) (k + 1)
 next_cell bytes columns body places k d e found c old new lt within so_far is was now =
     let same : c ≡ cell_of bytes (get_or columns k d) (shown_at body (get_or places k e)) = some_cell _ _ (sym was ∙ is) in
     now ∙ ap (λ (cells : List Cell). cells ++ c ∷ []) so_far
-    ∙ ap (λ (x : Cell). each_below (cell_at bytes columns (shown_in body places)) k ++ x ∷ []) same
-    ∙ ap (λ (cells : List Cell). each_below (cell_at bytes columns (shown_in body places)) k ++ cells) (sym (cell_is bytes columns body places k d e lt within))
+    ∙ ap (λ (x : Cell). each_below one_list (cell_at bytes columns (shown_in body places)) k ++ x ∷ []) same
+    ∙ ap (λ (cells : List Cell). each_below one_list (cell_at bytes columns (shown_in body places)) k ++ cells) (sym (cell_is bytes columns body places k d e lt within))
     ∙ sym (each_below-next (cell_at bytes columns (shown_in body places)) k)
 
 pub length_next : (old new : List Cell) (c : Cell) (k : ℕ) → length old ≡ k → new ≡ old ++ c ∷ [] → length new ≡ k + 1
@@ -114,6 +115,6 @@ length_next old new c k was now = ap (λ (cells : List Cell). length cells) now 
 pub none_missing : (found : Option Cell) (c : Cell) → found ≡ None → found ≡ Some c → ⊥
 none_missing found c none is = cc
 
-pub all_cells : (bytes : ToastPointer → List ℕ) (columns : List Column) (list : List Attribute) (k : ℕ) (cells : List Cell) → k ≡ length columns → cells ≡ each_below (cell_at bytes columns list) k → ◌≡◌ {A = Option (List Cell)} (Some cells) (Some (cells_of bytes columns list))
+pub all_cells : (bytes : ToastPointer → List ℕ) (columns : List Column) (list : List Attribute) (k : ℕ) (cells : List Cell) → k ≡ length columns → cells ≡ each_below one_list (cell_at bytes columns list) k → ◌≡◌ {A = Option (List Cell)} (Some cells) (Some (cells_of bytes columns list))
 unfolding cells_of
-all_cells bytes columns list k cells end is = ap (λ (x : List Cell). Some x) (is ∙ ap (each_below (cell_at bytes columns list)) end)
+all_cells bytes columns list k cells end is = ap (λ (x : List Cell). Some x) (is ∙ ap (each_below one_list (cell_at bytes columns list)) end)

@@ -1,7 +1,7 @@
 -- Each chunk of a case's TOAST table stands at its place.
 use Rattle.std.proofs.Common.{◌≡◌, ℕ, ◌<◌, ◌≤◌, true, false, List, [], All, length, refl, ap, sym, subst, ◌∙◌}
 use Rattle.std.specs.Prelude.{Option, Some, None, Ok, Err, IsSome}
-use Rattle.std.proofs.lemmas.List.Elements.{All-cons, All-nil}
+use Rattle.std.proofs.lemmas.List.Elements.{All-append, All-cons, All-nil}
 use Rattle.outside.specs.Outside.{Names}
 use Rattle.page_layout.specs.Page.{count_of, page_rule_of}
 use Rattle.page_layout.specs.declared.page.PageKind.TheVariants.{Heap}
@@ -26,19 +26,23 @@ use Rattle.heap_tuples.specs.Places.{tuple_at}
 use Rattle.toast_chunks.specs.Stored.{AllStand, IsRowOf, StandsIn}
 use Rattle.toast_chunks.specs.declared.map.Chunk.{Chunk}
 use Rattle.toast_chunks.specs.declared.rows.ChunkRow.{ChunkRow}
-use Rattle.reports.specs.declared.places.Rel.{Rel}
-use Rattle.reports.specs.declared.places.Rel.TheVariants.{Toast as toast}
-use Rattle.heap_check.specs.declared.verdict.ItemVerdict.{ItemVerdict}
-use Rattle.heap_check.specs.declared.verdict.ItemVerdict.TheVariants.{Passes, Breaks, InDoubt}
-use Rattle.heap_check.specs.Below.{each_upto}
-use Rattle.heap_check.specs.Files.{IsNamed}
-use Rattle.heap_check.specs.Heap.{block_chunks, block_limit, chunks_of, kept_by_rule, of_toast, page_chunks, toast_blocks, toast_chunks_in, toast_table_of}
-use Rattle.heap_check.specs.Kept.{attributes_by, attributes_by_life, attributes_read, chunk_by, chunks_by, item_chunks, live_attributes}
-use Rattle.heap_check.specs.Verdicts.{Table, head_at, item_verdict}
+use Rattle.vis_map.specs.Bits.{no_bits}
+use Rattle.reports.proofs.Parts.{All-upto}
+use Rattle.attach_files.specs.Refusals.{IsNamed, block_limit}
+use Rattle.heap_pages.specs.declared.table.TableKind.{TableKind}
+use Rattle.heap_pages.specs.declared.table.TableKind.TheVariants as kind
+use Rattle.heap_pages.specs.declared.verdict.ItemVerdict.{ItemVerdict}
+use Rattle.heap_pages.specs.declared.verdict.ItemVerdict.TheVariants.{Passes, Breaks, InDoubt}
+use Rattle.heap_pages.specs.Found.{attributes_by, attributes_by_life, attributes_read, chunk_by, chunks_left, found_parts, item_found, items_found, live_attributes}
+use Rattle.heap_pages.specs.Pages.{found_by_rule, page_found}
+use Rattle.heap_pages.specs.Table.{Table}
+use Rattle.heap_pages.specs.Verdicts.{head_at, item_verdict}
+use Rattle.heap_files.specs.Case.{toast_blocks, toast_table_of}
+use Rattle.heap_files.specs.Found.{chunks_of}
+use Rattle.heap_check.proofs.FromFiles.{All-chunks, OfPages}
 use Rattle.heap_check.proofs.LiveTuples.{attributes_of_live, header_count, header_place, sound_tuple}
-use Rattle.heap_check.proofs.Places.{All-each_below, All-each_upto}
 
--- A ROW IS A LIVE TUPLE'S
+-- A row is a live tuple's
 
 no_row : row_of [] ≡ None
 unfolding row_of
@@ -76,7 +80,7 @@ ok_by_row : (outcome : Outcome) (list : List Attribute) (row : ChunkRow) → lis
 ok_by_row (Ok found) list row are is = ap (λ (l : List Attribute). Ok l) (sym are)
 ok_by_row (Err e) list row are is = absurd (none_is_not row (sym no_row ∙ sym (ap row_of are) ∙ is))
 
--- IT STANDS AT ITS PLACE
+-- It stands at its place
 
 row_stands : (table : Table) (page : List ℕ) (i : ℕ) (row : ChunkRow) (c : Chunk) → page_rule_of Heap page ≡ None → 1 ≤ i → i ≤ count_of page → table.columns ≡ toast_columns → row_of (live_attributes table page i) ≡ Some row → ◌≡◌ {A = ChunkRow} row (record { id = c.id; seq = c.seq; size = c.size }) → IsRowOf page i c
 row_stands table page i row c rules first last columns is same =
@@ -107,34 +111,45 @@ chunk_stands names r table block page i (Some row) rules first last below at col
     let c : Chunk = record { id = row.id; seq = row.seq; tid = record { block = block; item = i }; size = row.size } in
     All-cons (Stands names r) c [] (λ sized. record { block = below; item = subst (λ (p : List ℕ). IsRowOf p i c) at (row_stands table page i row c rules first last columns is refl) }) (All-nil (Stands names r))
 
-item_stands : (names : Names) (r : Relation) (table : Table) (block : ℕ) (page : List ℕ) (i : ℕ) → table.rel ≡ toast → page_rule_of Heap page ≡ None → 1 ≤ i → i ≤ count_of page → block < blocks_in_relation r → page ≡ block_of names (base_of r) (size_of r) block → table.columns ≡ toast_columns → All (Stands names r) (item_chunks table block page i)
-unfolding item_chunks
-item_stands names r table block page i rel rules first last below at columns =
-    subst (λ (l : Rel). All (Stands names r) (chunks_by l block i (live_attributes table page i))) (sym rel)
-    (chunk_stands names r table block page i _ rules first last below at columns refl)
+item_stands : (names : Names) (r : Relation) (table : Table) (block : ℕ) (page : List ℕ) (i : ℕ) → table.kind ≡ kind.Toast → page_rule_of Heap page ≡ None → 1 ≤ i → i ≤ count_of page → block < blocks_in_relation r → page ≡ block_of names (base_of r) (size_of r) block → table.columns ≡ toast_columns → All (Stands names r) (item_found table [] block page i).chunks
+unfolding item_found
+item_stands names r table block page i what rules first last below at columns =
+    All-append (Stands names r) (chunks_left table.kind block i (live_attributes table page i)) []
+    (subst (λ (k : TableKind). All (Stands names r) (chunks_left k block i (live_attributes table page i))) (sym what)
+    (chunk_stands names r table block page i _ rules first last below at columns refl))
+    (All-nil (Stands names r))
 
-page_stands : (names : Names) (r : Relation) (table : Table) (block : ℕ) (page : List ℕ) (rule : Option Rule) → page_rule_of Heap page ≡ rule → table.rel ≡ toast → block < blocks_in_relation r → page ≡ block_of names (base_of r) (size_of r) block → table.columns ≡ toast_columns → All (Stands names r) (kept_by_rule rule (each_upto (item_chunks table block page) (count_of page)))
-page_stands names r table block page (Some rule) is rel below at columns = All-nil (Stands names r)
-page_stands names r table block page None is rel below at columns =
-    All-each_upto (Stands names r) (item_chunks table block page) (count_of page) (λ i first last. item_stands names r table block page i rel is first last below at columns)
+page_stands : (names : Names) (r : Relation) (table : Table) (block : ℕ) (page : List ℕ) (rule : Option Rule) → page_rule_of Heap page ≡ rule → table.kind ≡ kind.Toast → block < blocks_in_relation r → page ≡ block_of names (base_of r) (size_of r) block → table.columns ≡ toast_columns → All (Stands names r) (found_by_rule table [] no_bits block page rule).chunks
+unfolding items_found
+page_stands names r table block page (Some rule) is what below at columns = All-nil (Stands names r)
+page_stands names r table block page None is what below at columns =
+    All-append (Stands names r) (items_found table [] block page).chunks []
+    (All-upto found_parts (λ f. f.chunks) refl (λ a b. refl) (Stands names r) (item_found table [] block page) (count_of page) (λ i first last. item_stands names r table block page i what is first last below at columns))
+    (All-nil (Stands names r))
 
-block_stands : (names : Names) (r : Relation) (table : Table) (file : List ℕ) (size block : ℕ) → table.rel ≡ toast → block < blocks_in_relation r → base_of r ≡ file → size_of r ≡ size → table.columns ≡ toast_columns → All (Stands names r) (block_chunks table names file size block)
-unfolding block_chunks page_chunks
-block_stands names r table file size block rel below base full columns =
-    page_stands names r table block (block_of names file size block) _ refl rel below (ap (λ (f : List ℕ). block_of names f size block) (sym base) ∙ ap (λ (n : ℕ). block_of names (base_of r) n block) (sym full)) columns
+block_stands : (names : Names) (r : Relation) (table : Table) (file : List ℕ) (size block : ℕ) → table.kind ≡ kind.Toast → block < blocks_in_relation r → base_of r ≡ file → size_of r ≡ size → table.columns ≡ toast_columns → All (Stands names r) (page_found table [] no_bits block (block_of names file size block)).chunks
+unfolding page_found
+block_stands names r table file size block what below base full columns =
+    page_stands names r table block (block_of names file size block) _ refl what below (ap (λ (f : List ℕ). block_of names f size block) (sym base) ∙ ap (λ (n : ℕ). block_of names (base_of r) n block) (sym full)) columns
 
-toast_rel : (case : CaseRecord) (names : Names) → (toast_table_of case names).rel ≡ toast
+toast_kind : (case : CaseRecord) (names : Names) → (toast_table_of case names).kind ≡ kind.Toast
 unfolding toast_table_of
-toast_rel case names = refl
+toast_kind case names = refl
 
 toast_types : (case : CaseRecord) (names : Names) → (toast_table_of case names).columns ≡ toast_columns
 unfolding toast_table_of
 toast_types case names = refl
 
+same_toast : (t u : List ℕ × ℕ) → ◌≡◌ {A = Option (List ℕ × ℕ)} (Some t) (Some u) → t.0 ≡ u.0
+same_toast t u e = cc
+
+pages_stand : (case : CaseRecord) (names : Names) (file : List ℕ) (r : Relation) → IsRelationOf names file case.segment_blocks block_limit r → IsNamed file case.segment_blocks r → OfPages case names (Stands names r) file
+unfolding toast_blocks
+pages_stand case names file r relation named = λ block below.
+    block_stands names r (toast_table_of case names) file case.segment_blocks block (toast_kind case names) (subst (λ n. block < n) (sym relation.count) below) named.named named.sized (toast_types case names)
+
 -- each chunk of a case stands at its place in the TOAST table
 pub all_stand : (case : CaseRecord) (names : Names) (t : List ℕ × ℕ) (r : Relation) → case.toast ≡ Some t → IsRelationOf names t.0 case.segment_blocks block_limit r → IsNamed t.0 case.segment_blocks r → AllStand names r (chunks_of case names)
-unfolding chunks_of toast_chunks_in toast_blocks
 all_stand case names t r is relation named =
-    subst (λ (o : Option (List ℕ × ℕ)). All (Stands names r) (of_toast (toast_chunks_in case names) o)) (sym is)
-    (All-each_below (Stands names r) (block_chunks (toast_table_of case names) names t.0 case.segment_blocks) (toast_blocks case names t.0)
-    (λ block below. block_stands names r (toast_table_of case names) t.0 case.segment_blocks block (toast_rel case names) (subst (λ n. block < n) (sym relation.count) below) named.named named.sized (toast_types case names)))
+    All-chunks case names (Stands names r) (λ file oid has.
+    subst (OfPages case names (Stands names r)) (same_toast t (file, oid) (sym is ∙ has)) (pages_stand case names t.0 r relation named))

@@ -2,12 +2,13 @@
 use Rattle.std.specs.Prelude.{◌≡◌, ◌-◌, ◌≤◌, List, [], ◌++◌, length, Option, Some, None}
 use Rattle.outside.specs.Outside.{Names}
 use Rattle.case_file.specs.Record.{CaseRecord}
-use Rattle.heap_check.specs.CaseLogs.{log_files_kept}
+use Rattle.heap_files.specs.declared.files.SoundHeap.{SoundHeap}
+use Rattle.heap_files.specs.Case.{heap_blocks, log_files_in}
+use Rattle.heap_files.specs.Found.{IsQuiet}
+use Rattle.heap_files.specs.CaseLogs.{log_files_kept}
+use Rattle.heap_files.specs.Files.{BelongTo, IsSoundHeapOf, chunks_in, files_of, toast_in}
 use Rattle.heap_check.specs.declared.rows.LiveRow.{LiveRow}
 use Rattle.heap_check.specs.declared.rows.LiveRows.{LiveRows}
-use Rattle.heap_check.specs.declared.files.SoundHeap.{SoundHeap}
-use Rattle.heap_check.specs.Files.{BelongTo, IsSoundHeapOf}
-use Rattle.heap_check.specs.Heap.{IsQuiet, heap_blocks, log_files_in}
 use Rattle.heap_check.specs.RowPages.{IsInHand, rows_in_hand}
 use Rattle.heap_check.specs.Rows.{block_rows, each_from}
 
@@ -21,11 +22,11 @@ heap_of rows = rows.heap.now
 -- the cursor was made for a case and its heap, in which nothing is found in these files, and what it has in hand is from them
 pub record AreRowsOf (names : Names) (rows : LiveRows) : Type 0 where
   pub heap : IsSoundHeapOf (case_of rows) names (heap_of rows)
-  pub belong : BelongTo (case_of rows) (heap_of rows).files
+  pub belong : BelongTo (case_of rows) (files_of (heap_of rows))
   pub quiet : IsQuiet (case_of rows) names
   pub logs : log_files_kept rows.logs ≡ log_files_in (case_of rows)
   pub few : length rows.page.work.states.items ≤ 2042
-  pub hand : IsInHand (case_of rows) names (heap_of rows).files.toast (heap_of rows).chunks rows.page
+  pub hand : IsInHand (case_of rows) names (toast_in (heap_of rows)) (chunks_in (heap_of rows)) rows.page
 
 -- the rows of the blocks that weren't read yet
 unfoldable pub rows_unread : Names → LiveRows → List LiveRow

@@ -16,20 +16,21 @@ use Rattle.heap_tuples.specs.Places.{tuple_at}
 use Rattle.heap_tuples.specs.Tuples.{body_of, nulls_of}
 use Rattle.toast_chunks.specs.Chunks.{IsWhole}
 use Rattle.toast_chunks.specs.Pointer.{is_compressed}
+use Rattle.heap_pages.specs.Broken.{HoldsLiveTuple}
+use Rattle.heap_pages.specs.Found.{states_of}
+use Rattle.heap_files.specs.Case.{heap_blocks, table_of}
+use Rattle.heap_files.specs.Found.{chunks_of}
 use Rattle.heap_check.specs.declared.row_cells.Cell.{Cell}
 use Rattle.heap_check.specs.declared.row_cells.Cell.TheVariants as cell
 use Rattle.heap_check.specs.declared.rows.LiveRow.{LiveRow}
-use Rattle.heap_check.specs.Broken.{IsLiveTuple, case_page}
-use Rattle.heap_check.specs.Heap.{chunks_of, heap_blocks, table_of}
-use Rattle.heap_check.specs.Kept.{states_of}
-use Rattle.heap_check.specs.Rows.{rows_of, toast_bytes}
+use Rattle.heap_check.specs.Rows.{heap_page, rows_of, toast_bytes}
 
 -- Places
 
 -- a live tuple of the heap stands at this place
 pub record IsLiveAt (case : CaseRecord) (names : Names) (tid : Tid) : Type 0 where
   pub block : tid.block < heap_blocks case names
-  pub live : IsLiveTuple (table_of case names) (case_page case names case.heap_file tid.block) tid.item
+  pub live : HoldsLiveTuple (table_of case names) (heap_page case names tid.block) tid.item
 
 -- a place before another: in a block before its, or a lower item of the same
 pub data IsBefore (t u : Tid) : Type 0 where
@@ -54,7 +55,7 @@ RowsAreLive case names = All (IsRowOfTuple case names) (rows_of case names)
 
 -- the states of the items of a block of the heap
 abbrev pub states_at : CaseRecord → Names → ℕ → List ItemState
-states_at case names block = states_of (table_of case names) (case_page case names case.heap_file block)
+states_at case names block = states_of (table_of case names) (heap_page case names block)
 
 -- the row's root, on its tuple's page, reaches the tuple, and no other root does
 pub record HasItsRoot (case : CaseRecord) (names : Names) (row : LiveRow) : Type 0 where
@@ -93,7 +94,7 @@ AreAttributesOf columns tuple list =
 pub record HasItsCells (case : CaseRecord) (names : Names) (row : LiveRow) : Type 0 where
   pub list : List Attribute
   pub attributes :
-      AreAttributesOf case.columns (tuple_at (case_page case names case.heap_file row.tid.block) row.tid.item) list
+      AreAttributesOf case.columns (tuple_at (heap_page case names row.tid.block) row.tid.item) list
   pub cells : AreCellsOf case names case.columns list row.cells
 
 -- the row is a live tuple of the heap, with the root that reaches it and the values of its attributes

@@ -2,8 +2,7 @@
 use Rattle.std.specs.Prelude.{◌≡◌, ℕ, ◌+◌, ◌-◌, ◌≤◌, true, false, List, [], ◌∷◌, All, length, map, Option, Some, None}
 use Rattle.std.specs.Option.{option_copied}
 use Rattle.outside.specs.Outside.{Names}
-use Rattle.page_layout.specs.Page.{item_of, page_rule_of}
-use Rattle.page_layout.specs.declared.page.PageKind.TheVariants.{Heap}
+use Rattle.page_layout.specs.Page.{item_of}
 use Rattle.rel_files.specs.declared.relation.Relation.{Relation}
 use Rattle.key_orders.specs.declared.columns.ColType.{ColType}
 use Rattle.case_file.specs.Record.{CaseRecord}
@@ -16,17 +15,19 @@ use Rattle.liveness.specs.declared.states.ItemState.{ItemState}
 use Rattle.hot_chains.specs.Chains.{is_live_tuple, item_at}
 use Rattle.heap_tuples.specs.Places.{IsTupleAt, tuple_at}
 use Rattle.toast_chunks.specs.declared.map.Chunk.{Chunk}
+use Rattle.heap_pages.specs.declared.verdict.ItemVerdict.TheVariants.{Passes}
+use Rattle.heap_pages.specs.Broken.{AllPass}
+use Rattle.heap_pages.specs.Found.{live_attributes, states_of}
+use Rattle.heap_pages.specs.Table.{Table}
+use Rattle.heap_pages.specs.Verdicts.{head_at, item_verdict}
+use Rattle.heap_files.specs.Case.{table_of}
 use Rattle.heap_check.specs.declared.row_page.RowPage.{RowPage}
 use Rattle.heap_check.specs.declared.rows.LiveRow.{LiveRow}
-use Rattle.heap_check.specs.declared.verdict.ItemVerdict.TheVariants.{Passes}
-use Rattle.heap_check.specs.Heap.{items_doubts, items_findings, table_of}
-use Rattle.heap_check.specs.Kept.{live_attributes, states_of}
 use Rattle.heap_check.specs.declared.row_values.RowValues.{RowValues}
 use Rattle.heap_check.specs.RowFits.{FitColumns}
 use Rattle.heap_check.specs.RowRoots.{AreRoots}
 use Rattle.heap_check.specs.RowValues.{IsThere, bytes_seen}
 use Rattle.heap_check.specs.Rows.{each_from, item_rows, toast_bytes}
-use Rattle.heap_check.specs.Verdicts.{Table, head_at, item_verdict}
 
 -- the item is a tuple, whose attributes are these
 pub record HasAttributes (columns : List ColType) (page : List ℕ) (i : ℕ) (list : List Attribute) : Type 0 where
@@ -36,10 +37,9 @@ pub record HasAttributes (columns : List ColType) (page : List ℕ) (i : ℕ) (l
 
 -- States
 
--- where nothing is found of a page's items and all can be judged, these are their states
+-- where a page and its items break no rule, and none is in doubt, these are the items' states
 abbrev pub AreStates : Table → ℕ → List ℕ → List ItemState → Type 0
-AreStates table block page states =
-    page_rule_of Heap page ≡ None → items_findings table block page ≡ [] → items_doubts table block page ≡ [] → states ≡ states_of table page
+AreStates table block page states = AllPass table block page → states ≡ states_of table page
 
 -- The page in hand
 

@@ -2,8 +2,10 @@
 use Rattle.std.specs.Prelude.{ℕ, zero, suc, if◌then◌else◌, List, [], ◌∷◌, ◌++◌, length, slice_get, unwrap_or}
 use Rattle.std.specs.Prelude.{Option, Some, None}
 use Rattle.outside.specs.Outside.{Names}
+use Rattle.outside.specs.Adds.{each_below, one_list}
 use Rattle.page_layout.specs.Page.{count_of, page_rule_of}
 use Rattle.page_layout.specs.declared.page.PageKind.TheVariants.{Heap}
+use Rattle.page_layout.specs.declared.rules.Rule.{Rule}
 use Rattle.rel_files.specs.Blocks.{block_of}
 use Rattle.key_orders.specs.Values.{value_in}
 use Rattle.key_orders.specs.declared.columns.Value.TheVariants as value
@@ -16,15 +18,16 @@ use Rattle.hot_chains.specs.Chains.{is_live_tuple, root_of}
 use Rattle.toast_chunks.specs.Pointer.{is_compressed}
 use Rattle.toast_chunks.specs.Value.{joined_bytes}
 use Rattle.toast_chunks.specs.declared.map.Chunk.{Chunk}
+use Rattle.reports.specs.Added.{each_upto}
+use Rattle.heap_pages.specs.declared.verdict.ItemVerdict.{ItemVerdict}
+use Rattle.heap_pages.specs.declared.verdict.ItemVerdict.TheVariants.{Passes, Breaks, InDoubt}
+use Rattle.heap_pages.specs.Found.{live_attributes, states_of}
+use Rattle.heap_pages.specs.Verdicts.{item_verdict}
+use Rattle.heap_files.specs.Case.{heap_blocks, table_of}
+use Rattle.heap_files.specs.Found.{chunks_of}
 use Rattle.heap_check.specs.declared.row_cells.Cell.{Cell}
 use Rattle.heap_check.specs.declared.row_cells.Cell.TheVariants as cell
 use Rattle.heap_check.specs.declared.rows.LiveRow.{LiveRow}
-use Rattle.heap_check.specs.declared.verdict.ItemVerdict.{ItemVerdict}
-use Rattle.heap_check.specs.declared.verdict.ItemVerdict.TheVariants.{Passes, Breaks, InDoubt}
-use Rattle.heap_check.specs.Below.{each_below, each_upto}
-use Rattle.heap_check.specs.Heap.{chunks_of, heap_blocks, kept_by_rule, table_of}
-use Rattle.heap_check.specs.Kept.{live_attributes, states_of}
-use Rattle.heap_check.specs.Verdicts.{item_verdict}
 
 -- Values in a TOAST table
 
@@ -61,7 +64,7 @@ cell_at bytes columns list k = cell_by bytes (slice_get columns k) (slice_get li
 
 -- the cells of all columns
 unfoldable pub cells_of : (ToastPointer → List ℕ) → List Column → List Attribute → List Cell
-cells_of bytes columns list = each_below (cell_at bytes columns list) (length columns)
+cells_of bytes columns list = each_below one_list (cell_at bytes columns list) (length columns)
 
 -- Rows
 
@@ -86,16 +89,26 @@ row_by (InDoubt reason) row = []
 unfoldable pub item_rows : CaseRecord → Names → ℕ → List ℕ → ℕ → List LiveRow
 item_rows case names block page i = row_by (item_verdict (table_of case names) page i) (row_at case names block page i)
 
+-- these rows, where a page breaks no rule of its own
+abbrev pub rows_by_rule : Option Rule → List LiveRow → List LiveRow
+rows_by_rule (Some rule) rows = []
+rows_by_rule None rows = rows
+
 -- the rows of a page, unless it breaks a rule of its own
 unfoldable pub page_rows : CaseRecord → Names → ℕ → List ℕ → List LiveRow
-page_rows case names block page = kept_by_rule (page_rule_of Heap page) (each_upto (item_rows case names block page) (count_of page))
+page_rows case names block page =
+    rows_by_rule (page_rule_of Heap page) (each_upto one_list (item_rows case names block page) (count_of page))
+
+-- a page of the heap
+abbrev pub heap_page : CaseRecord → Names → ℕ → List ℕ
+heap_page case names block = block_of names case.heap_file case.segment_blocks block
 
 unfoldable pub block_rows : CaseRecord → Names → ℕ → List LiveRow
-block_rows case names block = page_rows case names block (block_of names case.heap_file case.segment_blocks block)
+block_rows case names block = page_rows case names block (heap_page case names block)
 
 -- all live rows of a case's heap, by rising TID
 unfoldable pub rows_of : CaseRecord → Names → List LiveRow
-rows_of case names = each_below (block_rows case names) (heap_blocks case names)
+rows_of case names = each_below one_list (block_rows case names) (heap_blocks case names)
 
 -- What is left
 

@@ -2,7 +2,7 @@
 ghost use Rattle.outside.specs.Outside.{Names};
 ghost use Rattle.case_file.specs.Record.{CaseRecord};
 ghost use Rattle.case_file.specs.Sound.{IsSound};
-ghost use Rattle.heap_check.specs.Heap.{IsQuiet};
+ghost use Rattle.heap_files.specs.Found.{IsQuiet};
 ghost use Rattle.heap_check.specs.RowLaws.{AreLiveTuples, RowsAreLive, TidsRise};
 ghost use Rattle.heap_check.specs.Rows.{rows_of};
 

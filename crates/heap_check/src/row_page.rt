@@ -14,31 +14,28 @@ ghost use Rattle.heap_tuples.specs.Tuples.{attributes_in};
 ghost use Rattle.hot_chains.specs.Chains.{is_live_tuple};
 ghost use Rattle.heap_tuples.specs.Places.{tuple_at};
 ghost use Rattle.case_file.specs.Record.{CaseRecord};
+ghost use Rattle.heap_pages.specs.Table.{AreReadable, table_seen};
 ghost use Rattle.heap_check.specs.RowFits.{FitColumns, HasMissing};
 ghost use Rattle.heap_check.specs.RowPages.{AreStates, HasAttributes, IsRow, rows_given};
 ghost use Rattle.heap_check.specs.RowValues.{IsReadable, IsThere, bytes_seen};
 ghost use Rattle.heap_check.specs.RowRoots.{AreRoots};
 ghost use Rattle.heap_check.specs.Rows.{cells_of, item_rows};
-ghost use Rattle.heap_check.specs.Tables.{table_seen};
 
-use crate::fault::RowFault;
-use crate::items::judge_items;
-use crate::kept::Kept;
 use crate::row_cells::Cells;
 use crate::row_roots::Roots;
 use crate::row_values::{RowValues, cells_of};
 use crate::rows::LiveRow;
-use crate::table::TableRules;
-use crate::work::Work;
+use heap_pages::{PageInHand, TableRules, Work, judge_items};
 use heap_tuples::{try_read_tuple, tuple_at};
 use key_orders::{ColType, Tid};
 use liveness::{ItemState, Life, Memory, Remembering};
 use outside::{Files, NoMemory};
 use page_layout::{PageKind, PageView};
 use rel_files::Relation;
-use reports::Report;
+use reports::PageFault;
 use std::alloc::Global;
 use varlena_attrs::AttrBuffer;
+use vis_map::MapBits;
 
 // How many items a page may have.
 const MAX_ITEMS: usize = 2042;
@@ -53,7 +50,7 @@ fn cells_at<F: Files>(
     page: &[u8; 8192],
     item: u16,
     attrs: &mut AttrBuffer,
-) -> Result<Option<Cells>, RowFault>
+) -> Result<Option<Cells>, PageFault>
     requires readable { IfTold F.seen files.old (λ names. IsReadable names (option_copied values.now.toast) values.now.chunks.now) }
     requires columns { columns.now ≡ map (λ c. c.ctype) values.now.columns.now }
     requires missing { All HasMissing values.now.columns.now }
@@ -62,7 +59,7 @@ fn cells_at<F: Files>(
         → HasAttributes columns.now page.now item list → All (IsThere (option_copied values.now.toast) values.now.chunks.now) list
         → found ≡ Some (cells_of (bytes_seen names (option_copied values.now.toast) values.now.chunks.now) values.now.columns.now list)) }
     ensures fits { IfOk result (λ found. IfSome found (FitColumns values.now.columns.now)) }
-    ensures asked { Asked F.seen files.old files.new result RowFault.ReadFault }
+    ensures asked { Asked F.seen files.old files.new result PageFault.ReadFault }
 {
     let Some(tuple) = tuple_at(page, item) else {
         return Ok(None);
@@ -107,26 +104,27 @@ fn find_states<F: Files>(
     page: &[u8; 8192],
     block: u32,
     work: &mut Work,
-) -> Result<(), RowFault>
-    requires few { length table.now.columns.now ≤ 64 }
-    requires aligned { All HasAlignment table.now.columns.now }
+) -> Result<(), PageFault>
+    requires columns { AreReadable table.now.columns.now }
     ensures states { OnOk result (IfTold F.seen files.old (λ names. AreStates (table_seen names table.now) block page.now work.new.states.items)) }
     ensures most { OnOk result (length work.new.states.items ≤ 2042) }
-    ensures asked { Asked F.seen files.old files.new result RowFault.ReadFault }
+    ensures asked { Asked F.seen files.old files.new result PageFault.ReadFault }
 {
-    work.cells.clear();
-    work.states.clear();
+    work.clear();
     let view = PageView::new(page);
     if view.page_rule(PageKind::Heap).is_some() {
         return Ok(());
     }
-    let count = view.item_count() as usize;
-    let mut kept = Kept::new(alloc);
-    let mut report = Report::new(alloc);
+    let at = PageInHand {
+        view,
+        block,
+        bits: MapBits::NONE,
+    };
+    let before = work.found.counts();
     let mut memory = Memory::new(alloc, &table.logs)?;
     let mut files = Remembering::new(files, &mut memory);
-    judge_items(&mut files, table, view, block, work, &mut kept, &mut report)?;
-    if report.counts() != (0, 0) || work.states.len() != count {
+    judge_items(&mut files, table, at, work)?;
+    if work.found.counts() != before || work.states.len() != view.item_count() as usize {
         work.states.clear();
     }
     Ok(())
@@ -156,9 +154,8 @@ impl RowPage {
         table: &TableRules<'_>,
         heap: &Relation,
         block: u32,
-    ) -> Result<(), RowFault>
-        requires few { length table.now.columns.now ≤ 64 }
-        requires aligned { All HasAlignment table.now.columns.now }
+    ) -> Result<(), PageFault>
+        requires columns { AreReadable table.now.columns.now }
         requires attached { IfTold F.seen files.old (λ names. IsAttached names heap.now) }
         requires inside { block < count_of heap.now }
         ensures block { OnOk result (self.new.block ≡ block) }
@@ -167,7 +164,7 @@ impl RowPage {
         ensures states { OnOk result (IfTold F.seen files.old (λ names. AreStates (table_seen names table.now) block self.new.bytes self.new.work.states.items)) }
         ensures roots { OnOk result (AreRoots block self.new.work.states.items self.new.roots) }
         ensures few { OnOk result (length self.new.work.states.items ≤ 2042) }
-        ensures asked { Asked F.seen files.old files.new result RowFault.ReadFault }
+        ensures asked { Asked F.seen files.old files.new result PageFault.ReadFault }
     {
         self.block = block;
         self.done = 0;
@@ -186,9 +183,8 @@ impl RowPage {
         table: &TableRules<'_>,
         heap: &Relation,
         block: u32,
-    ) -> Result<(), RowFault>
-        requires few { length table.now.columns.now ≤ 64 }
-        requires aligned { All HasAlignment table.now.columns.now }
+    ) -> Result<(), PageFault>
+        requires columns { AreReadable table.now.columns.now }
         requires attached { IfTold F.seen files.old (λ names. IsAttached names heap.now) }
         requires inside { block < count_of heap.now }
         ensures block { OnOk result (self.new.block ≡ block) }
@@ -198,7 +194,7 @@ impl RowPage {
         ensures roots { OnOk result (AreRoots block self.new.work.states.items self.new.roots) }
         ensures few { length self.new.work.states.items ≤ 2042 }
         ensures empty { OnErr result (self.new.work.states.items ≡ []) }
-        ensures asked { Asked F.seen files.old files.new result RowFault.ReadFault }
+        ensures asked { Asked F.seen files.old files.new result PageFault.ReadFault }
     {
         let outcome = self.read(alloc, files, table, heap, block);
         if outcome.is_err() {
@@ -215,7 +211,7 @@ impl RowPage {
         values: &RowValues<'_>,
         columns: &[ColType],
         item: u16,
-    ) -> Result<Option<LiveRow>, RowFault>
+    ) -> Result<Option<LiveRow>, PageFault>
         requires readable { IfTold F.seen files.old (λ names. IsReadable names (option_copied values.now.toast) values.now.chunks.now) }
         requires columns { columns.now ≡ map (λ c. c.ctype) values.now.columns.now }
         requires missing { All HasMissing values.now.columns.now }
@@ -229,7 +225,7 @@ impl RowPage {
         ensures rows { IfOk result (λ found. IfSome found (IsRow values.now.columns.now)) }
         ensures page { IsSamePage self.old self.new }
         ensures done { self.new.done ≡ self.old.done }
-        ensures asked { Asked F.seen files.old files.new result RowFault.ReadFault }
+        ensures asked { Asked F.seen files.old files.new result PageFault.ReadFault }
     {
         if !is_live(self.work.states[item as usize - 1]) {
             return Ok(None);
@@ -255,7 +251,7 @@ impl RowPage {
         values: &RowValues<'_>,
         columns: &[ColType],
         item: u16,
-    ) -> Result<Option<LiveRow>, RowFault>
+    ) -> Result<Option<LiveRow>, PageFault>
         requires readable { IfTold F.seen files.old (λ names. IsReadable names (option_copied values.now.toast) values.now.chunks.now) }
         requires columns { columns.now ≡ map (λ c. c.ctype) values.now.columns.now }
         requires missing { All HasMissing values.now.columns.now }
@@ -270,7 +266,7 @@ impl RowPage {
         ensures page { IsSamePage self.old self.new }
         ensures done { OnOk result (self.new.done ≡ item) }
         ensures left { OnErr result (self.new.done ≡ self.old.done) }
-        ensures asked { Asked F.seen files.old files.new result RowFault.ReadFault }
+        ensures asked { Asked F.seen files.old files.new result PageFault.ReadFault }
     {
         let found = self.row_at(alloc, files, values, columns, item)?;
         self.done = item;
@@ -285,7 +281,7 @@ impl RowPage {
         files: &mut F,
         values: &RowValues<'_>,
         columns: &[ColType],
-    ) -> Result<Option<LiveRow>, RowFault>
+    ) -> Result<Option<LiveRow>, PageFault>
         requires readable { IfTold F.seen files.old (λ names. IsReadable names (option_copied values.now.toast) values.now.chunks.now) }
         requires columns { columns.now ≡ map (λ c. c.ctype) values.now.columns.now }
         requires missing { All HasMissing values.now.columns.now }
@@ -302,7 +298,7 @@ impl RowPage {
             → rows_in_hand case names self.new ≡ rows_in_hand case names self.old)) }
         ensures rows { IfOk result (λ found. IfSome found (IsRow values.now.columns.now)) }
         ensures page { IsSamePage self.old self.new }
-        ensures asked { Asked F.seen files.old files.new result RowFault.ReadFault }
+        ensures asked { Asked F.seen files.old files.new result PageFault.ReadFault }
     {
         let count = self.work.states.len().min(MAX_ITEMS) as u16;
         for k in self.done..count {

@@ -4,17 +4,16 @@ ghost use Rattle.key_orders.specs.Types.{fixed_length};
 ghost use Rattle.std.specs.Option.{option_copied};
 ghost use Rattle.outside.specs.Outside.{Asked, IfTold, Tells};
 ghost use Rattle.varlena_attrs.specs.Shown.{IsWithin, shown_at, shown_in};
-ghost use Rattle.heap_check.specs.RowFaults.{row_fault_of};
 ghost use Rattle.heap_check.specs.Rows.{cell_of, cells_of, external_cell};
 ghost use Rattle.heap_check.specs.RowFits.{FitColumns, FitsColumn, HasMissing};
 ghost use Rattle.heap_check.specs.RowValues.{FitTypes, FitsType, IsReadable, IsThere, IsWholeIn, bytes_seen};
 
-use crate::fault::RowFault;
 use crate::row_cells::{Cell, Cells};
 use case_file::Column;
 use key_orders::Value;
 use outside::Files;
 use rel_files::Relation;
+use reports::PageFault;
 use std::alloc::Global;
 use toast_chunks::{ToastFault, ToastMap, ToastState, value};
 use varlena_attrs::{AttrPlace, ToastPointer, pointer_at, value_of};
@@ -28,16 +27,6 @@ pub(crate) struct RowValues<'a> {
     pub(crate) chunks: &'a ToastMap,
 }
 
-// The fault of reading rows that the fault of reading a value is.
-fn row_fault_of(fault: ToastFault) -> RowFault
-    ensures { result ≡ row_fault_of fault }
-{
-    match fault {
-        ToastFault::ReadFault => RowFault::ReadFault,
-        ToastFault::NoMemory => RowFault::NoMemory,
-    }
-}
-
 // The cell of a value in the TOAST table; none where its chunks aren't whole.
 fn external_cell<F: Files>(
     alloc: Global,
@@ -45,13 +34,13 @@ fn external_cell<F: Files>(
     values: &RowValues<'_>,
     column: &Column,
     p: ToastPointer,
-) -> Result<Option<Cell>, RowFault>
+) -> Result<Option<Cell>, PageFault>
     requires readable { IfTold F.seen files.old (λ names. IsReadable names (option_copied values.now.toast) values.now.chunks.now) }
     requires varlena { fixed_length column.now.ctype ≡ None }
     ensures fits { IfOk result (λ found. IfSome found (FitsColumn column.now)) }
     ensures told { Tells F.seen files.old result (λ found names. IsWholeIn (option_copied values.now.toast) values.now.chunks.now p
         → found ≡ Some (external_cell (bytes_seen names (option_copied values.now.toast) values.now.chunks.now p) p)) }
-    ensures asked { Asked F.seen files.old files.new result RowFault.ReadFault }
+    ensures asked { Asked F.seen files.old files.new result PageFault.ReadFault }
 {
     let Some(toast) = values.toast else {
         return Ok(None);
@@ -60,7 +49,8 @@ fn external_cell<F: Files>(
         Ok(ToastState::Whole(bytes)) => Ok(Some(Cell::Held(Value::Bytes(bytes)))),
         Ok(ToastState::Packed) => Ok(Some(Cell::Packed)),
         Ok(ToastState::Broken) => Ok(None),
-        Err(fault) => Err(row_fault_of(fault)),
+        Err(ToastFault::ReadFault) => Err(PageFault::ReadFault),
+        Err(ToastFault::NoMemory) => Err(PageFault::NoMemory),
     }
 }
 
@@ -72,7 +62,7 @@ fn cell_of<F: Files>(
     column: &Column,
     body: &[u8],
     place: AttrPlace,
-) -> Result<Option<Cell>, RowFault>
+) -> Result<Option<Cell>, PageFault>
     requires readable { IfTold F.seen files.old (λ names. IsReadable names (option_copied values.now.toast) values.now.chunks.now) }
     requires within { IsWithin (length body.now) place }
     requires fits { FitsType column.now.ctype (shown_at body.now place) }
@@ -80,7 +70,7 @@ fn cell_of<F: Files>(
     ensures fits { IfOk result (λ found. IfSome found (FitsColumn column.now)) }
     ensures told { Tells F.seen files.old result (λ found names. IsThere (option_copied values.now.toast) values.now.chunks.now (shown_at body.now place)
         → found ≡ Some (cell_of (bytes_seen names (option_copied values.now.toast) values.now.chunks.now) column.now (shown_at body.now place))) }
-    ensures asked { Asked F.seen files.old files.new result RowFault.ReadFault }
+    ensures asked { Asked F.seen files.old files.new result PageFault.ReadFault }
 {
     match place {
         AttrPlace::Null => Ok(Some(Cell::Held(Value::Null))),
@@ -104,7 +94,7 @@ pub(crate) fn cells_of<F: Files>(
     values: &RowValues<'_>,
     body: &[u8],
     places: &[AttrPlace],
-) -> Result<Option<Cells>, RowFault>
+) -> Result<Option<Cells>, PageFault>
     requires readable { IfTold F.seen files.old (λ names. IsReadable names (option_copied values.now.toast) values.now.chunks.now) }
     requires within { All (IsWithin (length body.now)) places.now }
     requires fit { FitTypes (map (λ c. c.ctype) values.now.columns.now) (shown_in body.now places.now) }
@@ -112,7 +102,7 @@ pub(crate) fn cells_of<F: Files>(
     ensures told { Tells F.seen files.old result (λ found names. All (IsThere (option_copied values.now.toast) values.now.chunks.now) (shown_in body.now places.now)
         → found ≡ Some (cells_of (bytes_seen names (option_copied values.now.toast) values.now.chunks.now) values.now.columns.now (shown_in body.now places.now))) }
     ensures fits { IfOk result (λ found. IfSome found (FitColumns values.now.columns.now)) }
-    ensures asked { Asked F.seen files.old files.new result RowFault.ReadFault }
+    ensures asked { Asked F.seen files.old files.new result PageFault.ReadFault }
 {
     let mut cells = Cells::new(alloc);
     for k in 0..values.columns.len() {

@@ -1,26 +1,26 @@
 //! The live rows of a heap, one after the other.
 ghost use Rattle.std.specs.Prelude.{◌≡◌, ◌++◌, ◌+◌, ◌<◌, length, map, None, IfOk, IfSome, OnErr, OnOk};
-ghost use Rattle.std.specs.Option.{option_map};
 ghost use Rattle.liveness.specs.LogFiles.{log_files_of};
-ghost use Rattle.heap_check.specs.CaseLogs.{log_files_kept};
 ghost use Rattle.outside.specs.Outside.{Asked, IfTold, Names, Tells};
 ghost use Rattle.rel_files.specs.Relation.{count_of};
-ghost use Rattle.heap_check.specs.Files.{BelongTo, IsSoundHeapOf, files_of};
-ghost use Rattle.heap_check.specs.Heap.{IsQuiet};
+ghost use Rattle.heap_pages.specs.Table.{toast_oid_seen};
+ghost use Rattle.heap_pages.specs.declared.table.TableKind.TheVariants as kind;
+ghost use Rattle.heap_files.specs.Case.{oid_in};
+ghost use Rattle.heap_files.specs.Found.{IsQuiet};
+ghost use Rattle.heap_files.specs.CaseLogs.{log_files_kept};
+ghost use Rattle.heap_files.specs.Files.{BelongTo, IsSoundHeapOf, files_of, heap_in};
 ghost use Rattle.heap_check.specs.RowPages.{IsFirst, IsRow, rows_given};
 ghost use Rattle.heap_check.specs.Rows.{rows_of};
 
-use crate::fault::RowFault;
-use crate::files::SoundHeap;
-use crate::logs::CaseLogs;
 use crate::row_cells::Cells;
 use crate::row_page::RowPage;
 use crate::row_values::RowValues;
-use crate::table::{TableRules, toast_oid};
 use case_file::Case;
+use heap_files::{CaseLogs, SoundHeap};
+use heap_pages::{TableKind, TableRules, ToastTable};
 use key_orders::Tid;
 use outside::{Files, NoMemory};
-use reports::Rel;
+use reports::PageFault;
 use std::alloc::Global;
 use varlena_attrs::ColumnLayout;
 
@@ -50,23 +50,35 @@ pub struct LiveRows<'a> {
     pub(crate) next: u32,
 }
 
-// The rules of a case's heap, without its visibility map.
+// The TOAST table of a case's heap, if the case has one.
+fn toast_table<'p>(case: &Case, heap: &'p SoundHeap) -> Option<ToastTable<'p>>
+    ensures { toast_oid_seen result ≡ oid_in case.now.toast }
+{
+    match case.toast() {
+        None => None,
+        Some((_, oid)) => Some(ToastTable {
+            oid,
+            chunks: heap.chunks(),
+        }),
+    }
+}
+
+// The rules of a case's heap.
 fn heap_rules<'p>(
-    case: &'p Case,
+    case: &Case,
+    heap: &'p SoundHeap,
     columns: &'p ColumnLayout<'p>,
     logs: &'p CaseLogs,
 ) -> TableRules<'p>
-    ensures rel { result.rel ≡ Rel.Heap }
+    ensures kind { result.kind ≡ kind.Heap }
     ensures columns { result.columns.now ≡ columns.now }
-    ensures toast { result.toast ≡ option_map (λ t. t.1) case.now.toast }
-    ensures map { result.map ≡ None }
+    ensures toast { toast_oid_seen result.toast ≡ oid_in case.now.toast }
     ensures logs { log_files_of result.logs ≡ log_files_kept logs.now }
 {
     TableRules {
-        rel: Rel::Heap,
+        kind: TableKind::Heap,
         columns,
-        toast: toast_oid(case),
-        map: None,
+        toast: toast_table(case, heap),
         logs: logs.lent(),
     }
 }
@@ -97,7 +109,7 @@ impl<'a> LiveRows<'a> {
         &mut self,
         alloc: Global,
         files: &mut F,
-    ) -> Result<Option<LiveRow>, RowFault>
+    ) -> Result<Option<LiveRow>, PageFault>
         requires told { IfTold F.seen files.old (λ names. AreRowsOf names self.old) }
         ensures first { Tells F.seen files.old result (λ found names. rows_left names self.old ≡ rows_given found ++ rows_left names self.new) }
         ensures done { Tells F.seen files.old result (λ found names. IsPageDoneBy names found self.new) }
@@ -106,14 +118,14 @@ impl<'a> LiveRows<'a> {
         ensures told { IfTold F.seen files.old (λ names. AreRowsOf names self.new) }
         ensures heap { IsSameHeap self.old self.new }
         ensures next { self.new.next ≡ self.old.next }
-        ensures asked { Asked F.seen files.old files.new result RowFault.ReadFault }
+        ensures asked { Asked F.seen files.old files.new result PageFault.ReadFault }
     {
         let case = self.case;
         let heap = self.heap;
         let values = RowValues {
             columns: case.columns(),
-            toast: heap.files.toast.as_ref(),
-            chunks: &heap.chunks,
+            toast: heap.toast(),
+            chunks: heap.chunks(),
         };
         case.sound();
         self.page
@@ -122,26 +134,26 @@ impl<'a> LiveRows<'a> {
 
     // Takes the next block of the heap in hand. After an error no page is in hand, and it is still the
     // next.
-    fn take_next<F: Files>(&mut self, alloc: Global, files: &mut F) -> Result<(), RowFault>
+    fn take_next<F: Files>(&mut self, alloc: Global, files: &mut F) -> Result<(), PageFault>
         requires told { IfTold F.seen files.old (λ names. AreRowsOf names self.old) }
         requires done { IfTold F.seen files.old (λ names. IsPageDone names self.old) }
-        requires inside { self.old.next < count_of (heap_of self.old).files.heap }
+        requires inside { self.old.next < count_of (heap_in (heap_of self.old)) }
         ensures left { IfTold F.seen files.old (λ names. rows_left names self.new ≡ rows_left names self.old) }
         ensures told { IfTold F.seen files.old (λ names. AreRowsOf names self.new) }
         ensures heap { IsSameHeap self.old self.new }
         ensures next { OnOk result (self.new.next ≡ self.old.next + 1) }
-        ensures asked { Asked F.seen files.old files.new result RowFault.ReadFault }
+        ensures asked { Asked F.seen files.old files.new result PageFault.ReadFault }
     {
         let case = self.case;
         let heap = self.heap;
         case.sound();
         let columns = ColumnLayout::new(case.column_types());
-        let table = heap_rules(case, &columns, &self.logs);
-        let blocks = heap.files.heap.blocks();
+        let table = heap_rules(case, heap, &columns, &self.logs);
+        let blocks = heap.heap().blocks();
         let next = self.next;
         prove!(next < blocks);
         self.page
-            .take(alloc, files, &table, &heap.files.heap, next)?;
+            .take(alloc, files, &table, heap.heap(), next)?;
         self.next = next + 1;
         Ok(())
     }
@@ -151,10 +163,10 @@ impl<'a> LiveRows<'a> {
         &mut self,
         alloc: Global,
         files: &mut F,
-    ) -> Result<Option<LiveRow>, RowFault>
+    ) -> Result<Option<LiveRow>, PageFault>
         requires told { IfTold F.seen files.old (λ names. AreRowsOf names self.old) }
         requires done { IfTold F.seen files.old (λ names. IsPageDone names self.old) }
-        requires inside { self.old.next < count_of (heap_of self.old).files.heap }
+        requires inside { self.old.next < count_of (heap_in (heap_of self.old)) }
         ensures first { Tells F.seen files.old result (λ found names. rows_left names self.old ≡ rows_given found ++ rows_left names self.new) }
         ensures done { Tells F.seen files.old result (λ found names. IsPageDoneBy names found self.new) }
         ensures left { OnErr result (IfTold F.seen files.old (λ names. rows_left names self.new ≡ rows_left names self.old)) }
@@ -162,7 +174,7 @@ impl<'a> LiveRows<'a> {
         ensures told { IfTold F.seen files.old (λ names. AreRowsOf names self.new) }
         ensures heap { IsSameHeap self.old self.new }
         ensures next { OnOk result (self.new.next ≡ self.old.next + 1) }
-        ensures asked { Asked F.seen files.old files.new result RowFault.ReadFault }
+        ensures asked { Asked F.seen files.old files.new result PageFault.ReadFault }
     {
         self.take_next(alloc, files)?;
         self.next_in_hand(alloc, files)
@@ -176,20 +188,20 @@ impl<'a> LiveRows<'a> {
         &mut self,
         alloc: Global,
         files: &mut F,
-    ) -> Result<Option<LiveRow>, RowFault>
+    ) -> Result<Option<LiveRow>, PageFault>
         requires told { IfTold F.seen files.old (λ names. AreRowsOf names self.old) }
         ensures first { Tells F.seen files.old result (λ found names. IsFirst found (rows_left names self.old) (rows_left names self.new)) }
         ensures left { OnErr result (IfTold F.seen files.old (λ names. rows_left names self.new ≡ rows_left names self.old)) }
         ensures row { IfOk result (λ found. IfSome found (IsRow (case_of self.old).columns)) }
         ensures told { IfTold F.seen files.old (λ names. AreRowsOf names self.new) }
         ensures heap { IsSameHeap self.old self.new }
-        ensures asked { Asked F.seen files.old files.new result RowFault.ReadFault }
+        ensures asked { Asked F.seen files.old files.new result PageFault.ReadFault }
     {
         let found = self.next_in_hand(alloc, files)?;
         if found.is_some() {
             return Ok(found);
         }
-        for _ in self.next..self.heap.files.heap.blocks() {
+        for _ in self.next..self.heap.heap().blocks() {
             let found = self.first_of_next(alloc, files)?;
             if found.is_some() {
                 return Ok(found);

@@ -1,10 +1,13 @@
 //! The live rows of files in memory.
-ghost use Rattle.std.specs.Prelude.{◌+◌, ◌≤◌, length};
+ghost use Rattle.std.specs.Prelude.{◌+◌, ◌≤◌, length, IfOk, IfSome};
+ghost use Rattle.outside.specs.Outside.{IfTold};
+ghost use Rattle.heap_files.specs.Found.{IsQuiet};
+ghost use Rattle.heap_files.specs.Files.{BelongTo, IsSoundHeapOf, files_of};
 
-use crate::{Cell, HeapFiles, LiveRow, LiveRows, check_heap};
+use crate::{Cell, HeapFiles, LiveRow, LiveRows, SoundHeap, check_heap};
 use case_file::{Case, read_case};
 use key_orders::{Tid, Value};
-use outside::{MemFiles, Part};
+use outside::{Files, MemFiles, Part};
 use reports::Report;
 use std::alloc::Global;
 use std::process::Abort;
@@ -75,25 +78,50 @@ fn is_zeros(row: &LiveRow, tid: Tid, len: usize) -> bool {
     }
 }
 
+// The heap of a case, if nothing is found of it.
+fn sound_heap<F: Files>(
+    alloc: Global,
+    files: &mut F,
+    case: &Case,
+) -> Result<Option<SoundHeap>, Fail>
+    ensures told { IfOk result (λ answer. IfSome answer (λ sound.
+        IfTold F.seen files.new (λ names. IsSoundHeapOf case.now names sound × IsQuiet case.now names))) }
+    ensures belong { IfOk result (λ answer. IfSome answer (λ sound. BelongTo case.now (files_of sound))) }
+{
+    let at = HeapFiles::attach(alloc, files, case)?;
+    let mut report = Report::new(alloc);
+    let sound = check_heap(alloc, files, case, at, &mut report)?;
+    Ok(sound)
+}
+
+// Whether a heap has one row, with this place and root, and one cell of so many zero bytes.
+fn is_one_row<F: Files>(
+    alloc: Global,
+    files: &mut F,
+    case: &Case,
+    heap: &SoundHeap,
+    tid: Tid,
+    len: usize,
+) -> Result<bool, Fail>
+    requires told { IfTold F.seen files.old (λ names. IsSoundHeapOf case.now names heap.now × IsQuiet case.now names) }
+    requires belong { BelongTo case.now (files_of heap.now) }
+{
+    let mut rows = LiveRows::new(alloc, case, heap)?;
+    let first = rows.next_row(alloc, files)?;
+    let second = rows.next_row(alloc, files)?;
+    match first {
+        Some(row) => Ok(is_zeros(&row, tid, len) && second.is_none()),
+        None => Ok(false),
+    }
+}
+
 #[test]
 fn a_value_in_the_toast_table_is_joined(rt: HostRuntime) -> Result<(), Fail> {
     let alloc = rt.alloc();
     let mut files = files(alloc)?;
     let case: Case = read_case(alloc, CASE).ok().ok_or("refused")?;
-    let at = HeapFiles::attach(alloc, &mut files, &case)?;
-    let mut report = Report::new(alloc);
-    let sound = check_heap(alloc, &mut files, &case, at, &mut report)?;
-    let Some(sound) = sound else {
-        let counts = report.counts();
-        assert!(rt; false, "{} {}", counts.0, counts.1);
-        return Ok(());
-    };
-    let mut rows = LiveRows::new(alloc, &case, &sound)?;
+    let sound = sound_heap(alloc, &mut files, &case)?.ok_or("not sound")?;
     let tid = Tid { block: 0, item: 1 };
-    match rows.next_row(alloc, &mut files)? {
-        Some(row) => assert!(rt; is_zeros(&row, tid, 1996)),
-        None => assert!(rt; false, "no row"),
-    }
-    assert!(rt; rows.next_row(alloc, &mut files)?.is_none());
+    assert!(rt; is_one_row(alloc, &mut files, &case, &sound, tid, 1996)?);
     Ok(())
 }

@@ -6,7 +6,7 @@ use Rattle.heap_check.proofs.RowFits.{FitFirst, fit_all, fit_next, some_fits}
 use Rattle.std.specs.Option.{option_copied}
 use Rattle.varlena_attrs.specs.declared.places.AttrPlace.{AttrPlace}
 use Rattle.outside.proofs.Asking.{Passed-next, Passed-none}
-use Rattle.heap_check.specs.Below.{each_below-none}
+use Rattle.heap_check.proofs.Lists.{each_below-none}
 use Rattle.heap_check.specs.RowValues.{IsThere, bytes_seen}
 use Rattle.heap_check.proofs.RowValues.{all_cells, length_next, next_cell, none_missing, place_fits, place_for, there_at}
 use Rattle.heap_check.proofs.row_values.cells_of.Goals as goal

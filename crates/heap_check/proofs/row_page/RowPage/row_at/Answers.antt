@@ -1,8 +1,8 @@
 use Rattle.std.proofs.Common.{◌≡◌, true, false, sym, ap, ◌∙◌}
 use Rattle.std.specs.Option.{option_copied}
 use Rattle.hot_chains.specs.Chains.{is_live_tuple, item_at}
-use Rattle.heap_check.specs.Heap.{table_of}
-use Rattle.heap_check.specs.Kept.{live_attributes}
+use Rattle.heap_pages.specs.Found.{live_attributes}
+use Rattle.heap_files.specs.Case.{table_of}
 use Rattle.heap_check.specs.RowValues.{bytes_seen}
 use Rattle.heap_check.proofs.RowPages.{known_attributes, no_row, one_row, some_cells, state_is}
 use Rattle.heap_check.proofs.row_page.RowPage.row_at.Goals as goal

@@ -2,7 +2,8 @@ use Rattle.std.proofs.Common.{◌≡◌, [], ◌+◌, ◌≤◌, ℕ, false, ref
 use Rattle.std.specs.Option.{is_some}
 use Rattle.rel_files.specs.Relation.{count_of}
 use Rattle.outside.proofs.Asking.{Passed-next, Passed-none}
-use Rattle.heap_check.specs.declared.files.SoundHeap.{SoundHeap}
+use Rattle.heap_files.specs.Files.{heap_in}
+use Rattle.heap_files.specs.declared.files.SoundHeap.{SoundHeap}
 use Rattle.heap_check.specs.RowCursor.{rows_left}
 use Rattle.heap_check.proofs.QuietHeap.{done_none, passed, rows_end}
 use Rattle.heap_check.proofs.rows.LiveRows.next_row.Goals as goal
@@ -45,7 +46,7 @@ returns-clause-first g c = λ names told.
     let none : is_some c.in_ok-found.found ≡ false = sym c.is_some.ensures ∙ c.if-is_some.false in
     let now = c.next_in_hand.ensures.asked.same ∙ told in
     let are = c.loop.invariant.told names now in
-    let count = c.blocks-end.ensures ∙ ap (λ (h : SoundHeap). count_of h.files.heap) (sym c.loop.invariant.heap.heap) in
+    let count = c.blocks-end.ensures ∙ ap count_of c.heap.ensures ∙ ap (λ (h : SoundHeap). count_of (heap_in h)) (sym c.loop.invariant.heap.heap) in
     let end : c.blocks-end.result ≤ c.loop.self.next = omega (arith, c.loop-test.false, c.loop.invariant.next) in
     let empty : rows_left names c.loop.self ≡ [] = rows_end names c.loop.self c.blocks-end.result are (c.loop.invariant.done names now) count end in
     let before = passed c.in_ok-found.found (rows_left names c.args.self.now) (rows_left names c.args.self.now) (rows_left names c.next_in_hand.new.self) refl (c.in_ok-found.ensures.first names told) none in

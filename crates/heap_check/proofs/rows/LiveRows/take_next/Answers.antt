@@ -1,17 +1,22 @@
-use Rattle.std.proofs.Common.{◌+◌, List, ℕ, refl, ap, ◌∙◌}
+use Rattle.std.proofs.Common.{◌+◌, List, ℕ, refl, ap, subst, ◌∙◌}
 use Rattle.rel_files.specs.Blocks.{block_of}
-use Rattle.rel_files.specs.Relation.{size_of}
+use Rattle.rel_files.specs.Relation.{base_of, count_of, size_of}
+use Rattle.rel_files.specs.declared.relation.Relation.{Relation}
+use Rattle.heap_pages.specs.Table.{Table}
+use Rattle.heap_files.specs.Files.{chunks_in, heap_in, toast_in}
+use Rattle.heap_files.proofs.CaseRules.{heap_rules_are}
+use Rattle.heap_check.specs.RowPages.{AreStates}
 use Rattle.heap_check.specs.RowCursor.{heap_of}
 use Rattle.heap_check.specs.declared.rows.LiveRows.{LiveRows}
-use Rattle.heap_check.proofs.RowSources.{columns_aligned, moved}
-use Rattle.heap_check.proofs.QuietHeap.{case_states, heap_count, loaded, nothing_in_hand, unread_next, unread_same}
+use Rattle.heap_check.proofs.RowSources.{columns_readable, moved}
+use Rattle.heap_check.proofs.QuietHeap.{heap_count, loaded, nothing_in_hand, unread_next, unread_same}
 use Rattle.heap_check.proofs.rows.LiveRows.take_next.Goals as goal
 
 pub new-columns-requires : goal.new-columns-requires
-new-columns-requires g c = columns_aligned c.args.self.now.case.now c.column_types.result.now c.sound.ensures c.column_types.ensures
+new-columns-requires g c = (columns_readable c.args.self.now.case.now c.column_types.result.now c.sound.ensures c.column_types.ensures).aligned
 
-pub take-requires-clause-aligned : goal.take-requires-clause-aligned
-take-requires-clause-aligned g c = columns_aligned c.args.self.now.case.now c.heap_rules-table.result.columns.now c.sound.ensures (c.heap_rules-table.ensures.columns ∙ c.new-columns.ensures ∙ c.column_types.ensures)
+pub take-requires-clause-columns : goal.take-requires-clause-columns
+take-requires-clause-columns g c = columns_readable c.args.self.now.case.now c.heap_rules-table.result.columns.now c.sound.ensures (c.heap_rules-table.ensures.columns ∙ c.new-columns.ensures ∙ c.column_types.ensures)
 
 pub returns-in_err-take-clause-left : goal.returns-in_err-take-clause-left
 returns-in_err-take-clause-left g c = λ names told.
@@ -21,7 +26,7 @@ returns-in_err-take-clause-left g c = λ names told.
 pub returns-in_err-take-clause-told : goal.returns-in_err-take-clause-told
 returns-in_err-take-clause-told g c = λ names told.
     moved names c.args.self.now c.take.new.self c.args.self.now.next (c.requires.told names told) c.take.ensures.few
-    (nothing_in_hand c.args.self.now.case.now names (heap_of c.args.self.now).files.toast (heap_of c.args.self.now).chunks c.take.new.self c.in_err-take.ensures.empty)
+    (nothing_in_hand c.args.self.now.case.now names (toast_in (heap_of c.args.self.now)) (chunks_in (heap_of c.args.self.now)) c.take.new.self c.in_err-take.ensures.empty)
 
 pub returns-clause-left : goal.returns-clause-left
 returns-clause-left g c = λ names told.
@@ -29,10 +34,10 @@ returns-clause-left g c = λ names told.
     let case = c.args.self.now.case.now in
     let heap = heap_of c.args.self.now in
     let rules = c.heap_rules-table.ensures in
-    let below = heap_count case names c.args.self.now.next heap.files.heap here.heap.files.heap c.requires.inside in
-    let bytes = c.in_ok-take.ensures.bytes names told ∙ ap (λ (f : List ℕ). block_of names f (size_of heap.files.heap) c.args.self.now.next) here.belong.heap.named ∙ ap (λ (n : ℕ). block_of names case.heap_file n c.args.self.now.next) here.belong.heap.sized in
-    let states = case_states names case c.heap_rules-table.result c.args.self.now.next c.take.new.self.bytes c.take.new.self.work.states.items rules.rel (rules.columns ∙ c.new-columns.ensures ∙ c.column_types.ensures) rules.toast rules.map (rules.logs ∙ here.logs) (c.in_ok-take.ensures.states names told) in
-    let load = loaded case names heap.files.toast heap.chunks c.take.new.self c.args.self.now.next here.quiet below here.belong.toast here.heap.chunks c.in_ok-take.ensures.block c.in_ok-take.ensures.done bytes states c.in_ok-take.ensures.roots in
+    let below = heap_count case names c.args.self.now.next (heap_in heap) here.heap.files.heap c.requires.inside in
+    let bytes = c.in_ok-take.ensures.bytes names told ∙ ap (λ (r : Relation). block_of names (base_of r) (size_of r) c.args.self.now.next) c.heap-2.ensures ∙ ap (λ (f : List ℕ). block_of names f (size_of (heap_in heap)) c.args.self.now.next) here.belong.heap.named ∙ ap (λ (n : ℕ). block_of names case.heap_file n c.args.self.now.next) here.belong.heap.sized in
+    let states = subst (λ (t : Table). AreStates t c.args.self.now.next c.take.new.self.bytes c.take.new.self.work.states.items) (heap_rules_are case names c.heap_rules-table.result rules.kind (rules.columns ∙ c.new-columns.ensures ∙ c.column_types.ensures) rules.toast (rules.logs ∙ here.logs)) (c.in_ok-take.ensures.states names told) in
+    let load = loaded case names (toast_in heap) (chunks_in heap) c.take.new.self c.args.self.now.next here.quiet below here.belong.toast here.heap.chunks c.in_ok-take.ensures.block c.in_ok-take.ensures.done bytes states c.in_ok-take.ensures.roots in
     let new : LiveRows = record { case = c.args.self.now.case; heap = c.args.self.now.heap; logs = c.args.self.now.logs; page = c.take.new.self; next = c.args.self.now.next + 1 } in
     unread_next names c.args.self.now new (c.requires.done names told) refl refl below load.rows
 
@@ -42,8 +47,8 @@ returns-clause-told g c = λ names told.
     let case = c.args.self.now.case.now in
     let heap = heap_of c.args.self.now in
     let rules = c.heap_rules-table.ensures in
-    let below = heap_count case names c.args.self.now.next heap.files.heap here.heap.files.heap c.requires.inside in
-    let bytes = c.in_ok-take.ensures.bytes names told ∙ ap (λ (f : List ℕ). block_of names f (size_of heap.files.heap) c.args.self.now.next) here.belong.heap.named ∙ ap (λ (n : ℕ). block_of names case.heap_file n c.args.self.now.next) here.belong.heap.sized in
-    let states = case_states names case c.heap_rules-table.result c.args.self.now.next c.take.new.self.bytes c.take.new.self.work.states.items rules.rel (rules.columns ∙ c.new-columns.ensures ∙ c.column_types.ensures) rules.toast rules.map (rules.logs ∙ here.logs) (c.in_ok-take.ensures.states names told) in
-    let load = loaded case names heap.files.toast heap.chunks c.take.new.self c.args.self.now.next here.quiet below here.belong.toast here.heap.chunks c.in_ok-take.ensures.block c.in_ok-take.ensures.done bytes states c.in_ok-take.ensures.roots in
+    let below = heap_count case names c.args.self.now.next (heap_in heap) here.heap.files.heap c.requires.inside in
+    let bytes = c.in_ok-take.ensures.bytes names told ∙ ap (λ (r : Relation). block_of names (base_of r) (size_of r) c.args.self.now.next) c.heap-2.ensures ∙ ap (λ (f : List ℕ). block_of names f (size_of (heap_in heap)) c.args.self.now.next) here.belong.heap.named ∙ ap (λ (n : ℕ). block_of names case.heap_file n c.args.self.now.next) here.belong.heap.sized in
+    let states = subst (λ (t : Table). AreStates t c.args.self.now.next c.take.new.self.bytes c.take.new.self.work.states.items) (heap_rules_are case names c.heap_rules-table.result rules.kind (rules.columns ∙ c.new-columns.ensures ∙ c.column_types.ensures) rules.toast (rules.logs ∙ here.logs)) (c.in_ok-take.ensures.states names told) in
+    let load = loaded case names (toast_in heap) (chunks_in heap) c.take.new.self c.args.self.now.next here.quiet below here.belong.toast here.heap.chunks c.in_ok-take.ensures.block c.in_ok-take.ensures.done bytes states c.in_ok-take.ensures.roots in
     moved names c.args.self.now c.take.new.self (c.args.self.now.next + 1) here c.take.ensures.few load.hand
