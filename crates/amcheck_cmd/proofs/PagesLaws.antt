@@ -1,40 +1,54 @@
 -- The findings of a file are the rules that are broken on its blocks.
-use Rattle.std.proofs.Common.{◌≡◌, ℕ, ◌<◌, List, []}
+use Rattle.std.proofs.Common.{◌≡◌, ℕ, ◌<◌, List, [], refl, subst, sym}
 use Rattle.std.specs.Prelude.{Option, Some, None, Ok}
 use Rattle.std.specs.List.{All}
-use Rattle.std.proofs.lemmas.List.Elements.{All-weaker}
+use Rattle.std.proofs.lemmas.List.Elements.{All-nil, All-weaker}
 use Rattle.rel_files.specs.Blocks.{blocks_in, block_in}
 use Rattle.page_layout.specs.declared.rules.Rule.{Rule}
+use Rattle.reports.proofs.Parts.{All-below, among_below}
+use Rattle.reports.specs.Added.{IsListed, report_lists}
 use Rattle.reports.specs.Lists.{Lists}
 use Rattle.reports.specs.declared.places.Place.{Place}
-use Rattle.heap_check.specs.Pages.{BreaksAlone}
-use Rattle.heap_check.proofs.PageLaws.{lone_page_sound, lone_page_complete}
-use Rattle.heap_check.proofs.Places.{All-each_below, each_below_is_empty}
+use Rattle.reports.specs.declared.places.UnjudgedPlace.{UnjudgedPlace}
+use Rattle.heap_pages.specs.Alone.{BreaksAlone}
+use Rattle.heap_pages.proofs.AloneLaws.{lone_page_certain, lone_page_listed, lone_page_sound}
+use Rattle.heap_pages.proofs.PageLaws.{listed_in}
 use Rattle.amcheck_cmd.specs.Files.{file_refusal}
 use Rattle.amcheck_cmd.specs.Outcome.{Outcome}
-use Rattle.amcheck_cmd.specs.Pages.{BreaksFile, block_findings, file_findings, file_lists, judged_unless, pages_judged}
+use Rattle.amcheck_cmd.specs.Pages.{BreaksFile, block_found, file_found, judged_unless, pages_judged}
 
-block_sound : (file : Option (List ℕ)) (k : ℕ) → k < blocks_in file → All (λ f. BreaksFile file f.rule f.place) (block_findings file k)
-unfolding block_findings
-block_sound file k inside =
-    All-weaker (λ f. BreaksAlone k (block_in file k) f.rule f.place) (λ f. BreaksFile file f.rule f.place)
-    (λ f broken. record { block = k; inside = inside; broken = broken }) (block_findings file k) (lone_page_sound k (block_in file k))
+module _ (file : Option (List ℕ)) where
+  block_sound : (k : ℕ) → k < blocks_in file → All (λ f. BreaksFile file f.rule f.place) (block_found file k).findings
+  unfolding block_found
+  block_sound k inside =
+      All-weaker (λ f. BreaksAlone k (block_in file k) f.rule f.place) (λ f. BreaksFile file f.rule f.place)
+      (λ f broken. record { block = k; inside = inside; broken = broken }) _ (lone_page_sound k (block_in file k))
 
--- each finding of a file is a rule broken on one of its blocks
-pub file_sound : (file : Option (List ℕ)) → All (λ f. BreaksFile file f.rule f.place) (file_findings file)
-unfolding file_findings
-file_sound file = All-each_below (λ f. BreaksFile file f.rule f.place) (block_findings file) (blocks_in file) (block_sound file)
+  -- each finding of a file is a rule broken on one of its blocks
+  pub file_sound : All (λ f. BreaksFile file f.rule f.place) (file_found file).findings
+  unfolding file_found
+  file_sound = All-below report_lists (λ l. l.findings) refl (λ a b. refl) (λ f. BreaksFile file f.rule f.place) (block_found file) (blocks_in file) block_sound
 
--- a file without findings breaks no rule
-pub file_complete : (file : Option (List ℕ)) → file_findings file ≡ [] → (rule : Rule) (place : Place) → BreaksFile file rule place → ⊥
-unfolding file_findings block_findings
-file_complete file none rule place broken =
-    lone_page_complete broken.block (block_in file broken.block) (each_below_is_empty (block_findings file) (blocks_in file) broken.block none broken.inside) rule place broken.broken
+  -- nothing of it stays unjudged
+  pub file_certain : All (λ (u : UnjudgedPlace). ⊥) (file_found file).unjudged
+  unfolding file_found block_found
+  file_certain =
+      All-below report_lists (λ l. l.unjudged) refl (λ a b. refl) (λ (u : UnjudgedPlace). ⊥) (block_found file) (blocks_in file)
+      (λ k inside. subst (All (λ (u : UnjudgedPlace). ⊥)) (sym (lone_page_certain k (block_in file k))) (All-nil (λ (u : UnjudgedPlace). ⊥)))
+
+  -- each place where a rule is broken is listed
+  pub file_listed : (rule : Rule) (place : Place) → BreaksFile file rule place → IsListed (file_found file) place
+  unfolding file_found block_found
+  file_listed rule place broken =
+      listed_in (block_found file broken.block) _ place
+      (λ f has. among_below report_lists (λ l. l.findings) refl (λ a b. refl) (block_found file) (blocks_in file) broken.block f broken.inside has)
+      (λ u has. among_below report_lists (λ l. l.unjudged) refl (λ a b. refl) (block_found file) (blocks_in file) broken.block u broken.inside has)
+      (lone_page_listed broken.block (block_in file broken.block) rule place broken.broken)
 
 unless_is : (refusal : Option Outcome) (owed lists : Lists) → judged_unless refusal owed ≡ Ok lists → owed ≡ lists
 unless_is None owed lists e = cc
 unless_is (Some refusal) owed lists e = cc
 
--- a report of `pages` has the file's findings
-pub pages_are : (name : List ℕ) (file : Option (List ℕ)) (lists : Lists) → pages_judged name file ≡ Ok lists → file_lists file ≡ lists
-pages_are name file lists e = unless_is (file_refusal name file) (file_lists file) lists e
+-- a report of `pages` has what is found of the file
+pub pages_are : (name : List ℕ) (file : Option (List ℕ)) (lists : Lists) → pages_judged name file ≡ Ok lists → file_found file ≡ lists
+pages_are name file lists e = unless_is (file_refusal name file) (file_found file) lists e

@@ -2,41 +2,47 @@
 use Rattle.std.proofs.Common.{◌≡◌, ℕ, List, [], ◌∷◌, ◌⊎◌, inl, inr, refl, sym, ap, subst, ◌∙◌, arith}
 use Rattle.std.specs.Prelude.{Option, Some, Ok}
 use Rattle.std.specs.List.{All}
-use Rattle.std.proofs.lemmas.List.Elements.{All-head, All-nil}
+use Rattle.std.proofs.lemmas.List.Elements.{All-head}
 use Rattle.outside.specs.Outside.{Names}
 use Rattle.outside.specs.declared.files.Part.TheVariants.{Segment}
 use Rattle.reports.specs.Lists.{Lists}
 use Rattle.reports.specs.Texts.{verdict_of}
 use Rattle.reports.specs.declared.places.Finding.{Finding}
 use Rattle.reports.specs.declared.places.UnjudgedPlace.{UnjudgedPlace}
+use Rattle.heap_pages.proofs.PageLaws.{none_listed}
 use Rattle.amcheck_cmd.specs.Answers.{answer_by, answer_code}
-use Rattle.amcheck_cmd.specs.Commands.{BreaksNothing, DoubtsNothing, IsInDoubt, IsSound, IsTrue, IsWorth, judged_by, outcome_of}
+use Rattle.amcheck_cmd.specs.Commands.{BreaksNothing, DoubtsNothing, IsComplete, IsSound, IsTrue, IsWorth, judged_by, outcome_of}
 use Rattle.amcheck_cmd.specs.Outcome.{Meets, Outcome, owed_by, reported}
 use Rattle.amcheck_cmd.specs.Words.{Check, Form, Heap, Judge, Pages}
-use Rattle.amcheck_cmd.proofs.HeapLaws.{heap_certain, heap_complete, heap_doubts, heap_sound, heap_true, the_case}
-use Rattle.amcheck_cmd.proofs.PagesLaws.{file_complete, file_sound, pages_are}
+use Rattle.amcheck_cmd.proofs.HeapLaws.{heap_doubt_listed, heap_doubts, heap_listed, heap_sound, heap_true, the_case}
+use Rattle.amcheck_cmd.proofs.PagesLaws.{file_certain, file_listed, file_sound, pages_are}
 
 -- each finding of a report is a broken rule, and each place that it calls unjudged is in doubt
 sound_report : (check : Check) (names : Names) (lists : Lists) → judged_by check names ≡ Ok lists → IsSound check names lists
 sound_report (Pages name) names lists e =
     let file = names name (Segment 0) in
     let P : Lists → Type 0 = IsSound (Pages name) names in
-    subst P (pages_are name file lists e) (record { findings = file_sound file; unjudged = All-nil (λ u. IsInDoubt (Pages name) names u.reason u.place) })
+    subst P (pages_are name file lists e) (record { findings = file_sound file; unjudged = file_certain file })
 sound_report (Heap name) names lists e =
     let has = the_case name names lists e in record { findings = heap_sound name names lists has; unjudged = heap_doubts name names lists has }
+
+-- each place where something is stands in it
+complete_report : (check : Check) (names : Names) (lists : Lists) → judged_by check names ≡ Ok lists → IsComplete check names lists
+complete_report (Pages name) names lists e =
+    let file = names name (Segment 0) in
+    let P : Lists → Type 0 = IsComplete (Pages name) names in
+    subst P (pages_are name file lists e) (record { broken = file_listed file; in_doubt = λ reason place doubted. absurd doubted })
+complete_report (Heap name) names lists e =
+    let has = the_case name names lists e in record { broken = heap_listed name names lists has; in_doubt = heap_doubt_listed name names lists has }
 
 module _ (lists : Lists) (none : lists.findings ≡ []) (sure : lists.unjudged ≡ []) where
   -- a report without findings, and with nothing in doubt, tells that nothing is broken,
   empty_breaks : (check : Check) (names : Names) → judged_by check names ≡ Ok lists → BreaksNothing check names
-  empty_breaks (Pages name) names e =
-      let file = names name (Segment 0) in
-      file_complete file (ap (λ (l : Lists). l.findings) (pages_are name file lists e) ∙ none)
-  empty_breaks (Heap name) names e = heap_complete name names lists (the_case name names lists e) none sure
+  empty_breaks check names e rule place broken = none_listed lists place none sure ((complete_report check names lists e).broken rule place broken)
 
   -- that all can be judged,
   empty_doubts : (check : Check) (names : Names) → judged_by check names ≡ Ok lists → DoubtsNothing check names
-  empty_doubts (Pages name) names e = λ reason place doubted. doubted
-  empty_doubts (Heap name) names e = heap_certain name names lists (the_case name names lists e) none sure
+  empty_doubts check names e reason place doubted = none_listed lists place none sure ((complete_report check names lists e).in_doubt reason place doubted)
 
   -- and that what is said of clean files is true
   empty_is_true : (check : Check) (names : Names) → judged_by check names ≡ Ok lists → IsTrue check names
@@ -62,6 +68,9 @@ module _ (check : Check) (names : Names) (lists : Lists) (e : judged_by check na
   sound : IsSound check names lists
   sound = sound_report check names lists e
 
+  complete : IsComplete check names lists
+  complete = complete_report check names lists e
+
   -- the code of a report of which nothing is broken and nothing in doubt
   clean : BreaksNothing check names → DoubtsNothing check names → (reported lists).code ≡ 0
   clean nothing sure =
@@ -80,6 +89,7 @@ module _ (check : Check) (names : Names) (lists : Lists) (e : judged_by check na
       let none = (λ (nought : code ≡ 0). clean_has_none lists.findings lists.unjudged (own code codes nought)) in record {
         written = meets;
         sound = sound;
+        complete = complete;
         clean = λ nothing sure. elim codes [ inl same ↦ inl (same ∙ clean nothing sure) | inr eight ↦ inr (inr (inl eight)) ];
         whole = λ nought.
             (empty_breaks lists (none nought).0 (none nought).1 check names e, empty_doubts lists (none nought).0 (none nought).1 check names e);
@@ -91,6 +101,7 @@ module _ (check : Check) (names : Names) (lists : Lists) (e : judged_by check na
   given_up_worth old new code (inl seven) = record {
     written = record { whole = λ not_seven not_eight not_nine. absurd (not_seven seven); prefix = λ eight. absurd (omega (arith, seven, eight)) };
     sound = sound;
+    complete = complete;
     clean = λ nothing sure. inr (inl seven);
     whole = λ nought. absurd (omega (arith, seven, nought));
     truth = λ nought. absurd (omega (arith, seven, nought));
@@ -98,6 +109,7 @@ module _ (check : Check) (names : Names) (lists : Lists) (e : judged_by check na
   given_up_worth old new code (inr nine) = record {
     written = record { whole = λ not_seven not_eight not_nine. absurd (not_nine nine); prefix = λ eight. absurd (omega (arith, nine, eight)) };
     sound = sound;
+    complete = complete;
     clean = λ nothing sure. inr (inr (inr nine));
     whole = λ nought. absurd (omega (arith, nine, nought));
     truth = λ nought. absurd (omega (arith, nine, nought));

@@ -1,8 +1,9 @@
 //! The command `heap`: judges the heap of a case, with its visibility map and its TOAST table.
 ghost use Rattle.std.specs.Prelude.{◌≡◌};
 ghost use Rattle.outside.specs.Outside.{Asked, IfTold, Tells};
-ghost use Rattle.heap_check.specs.Files.{AreFilesOf, BelongTo, refusal_of};
-ghost use Rattle.amcheck_cmd.specs.Heap.{heap_judged, heap_lists, heap_unless};
+ghost use Rattle.heap_files.specs.Files.{AreFilesOf, BelongTo, refusal_of};
+ghost use Rattle.heap_files.specs.Found.{case_found};
+ghost use Rattle.amcheck_cmd.specs.Heap.{heap_judged, heap_unless};
 ghost use Rattle.amcheck_cmd.specs.Outcome.{owed_by, reported};
 ghost use Rattle.amcheck_cmd.specs.Seen.{outcome_seen};
 
@@ -10,7 +11,7 @@ use crate::case::{CaseOpening, open_case, refuse_files};
 use crate::fault::RunFault;
 use crate::output::{Output, report_output};
 use case_file::Case;
-use heap_check::{HeapFiles, check_heap};
+use heap_files::{HeapFiles, check_heap};
 use outside::Files;
 use reports::{CheckFault, Report};
 use std::alloc::Global;
@@ -24,7 +25,7 @@ fn judged_output<F: Files>(
 ) -> Result<Output, RunFault>
     requires told { IfTold F.seen files.old (λ names. AreFilesOf case.now names at) }
     requires belong { BelongTo case.now at }
-    ensures output { Tells F.seen files.old result (λ o names. outcome_seen o ≡ reported (heap_lists case.now names)) }
+    ensures output { Tells F.seen files.old result (λ o names. outcome_seen o ≡ reported (case_found case.now names)) }
     ensures asked { Asked F.seen files.old files.new result RunFault.ReadFault }
 {
     let mut report = Report::new(alloc);

@@ -1,16 +1,17 @@
 //! The command `pages`: judges the pages of one heap file.
-ghost use Rattle.std.specs.Prelude.{◌≡◌, ◌+◌, ◌*◌, ◌/◌, ◌≤◌, ◌++◌, Some, length, IfOk, OnOk};
+ghost use Rattle.std.specs.Prelude.{◌≡◌, ◌+◌, ◌*◌, ◌/◌, ◌≤◌, Some, length, IfOk, OnOk};
 ghost use Rattle.outside.specs.declared.files.Part.TheVariants.{Segment};
 ghost use Rattle.outside.specs.Outside.{Asked, IfHeld, IsHeldAnd, Tells};
-ghost use Rattle.heap_check.specs.Below.{each_below};
+ghost use Rattle.outside.specs.Adds.{each_below};
+ghost use Rattle.reports.specs.Added.{joined, report_lists};
 ghost use Rattle.amcheck_cmd.specs.Outcome.{owed_by, reported};
-ghost use Rattle.amcheck_cmd.specs.Pages.{block_findings, file_lists, pages_judged};
+ghost use Rattle.amcheck_cmd.specs.Pages.{block_found, file_found, pages_judged};
 ghost use Rattle.amcheck_cmd.specs.Seen.{outcome_seen};
 
 use crate::blocks::{Opening, open_file, read_block};
 use crate::fault::RunFault;
 use crate::output::{Output, report_output};
-use heap_check::judge_page;
+use heap_pages::judge_page;
 use outside::Files;
 use reports::Report;
 use std::alloc::Global;
@@ -25,9 +26,8 @@ fn judge_block<F: Files>(
     report: &mut Report,
 ) -> Result<(), RunFault>
     requires { IsHeldAnd F.seen files.old file.now (Segment 0) (λ bytes. 8192 * block + 8192 ≤ length bytes) }
-    ensures findings { OnOk result (IfHeld F.seen files.old file.now (Segment 0)
-        (λ bytes. report.new.findings ≡ report.old.findings ++ block_findings (Some bytes) block)) }
-    ensures unjudged { report.new.unjudged ≡ report.old.unjudged }
+    ensures found { OnOk result (IfHeld F.seen files.old file.now (Segment 0)
+        (λ bytes. report.new ≡ joined report.old (block_found (Some bytes) block))) }
     ensures asked { Asked F.seen files.old files.new result RunFault.ReadFault }
 {
     read_block(files, file, block, page)?;
@@ -44,9 +44,8 @@ fn judge_blocks<F: Files>(
     report: &mut Report,
 ) -> Result<(), RunFault>
     requires { IsHeldAnd F.seen files.old file.now (Segment 0) (λ bytes. 8192 * blocks ≤ length bytes) }
-    ensures findings { OnOk result (IfHeld F.seen files.old file.now (Segment 0)
-        (λ bytes. report.new.findings ≡ report.old.findings ++ each_below (block_findings (Some bytes)) blocks)) }
-    ensures unjudged { report.new.unjudged ≡ report.old.unjudged }
+    ensures found { OnOk result (IfHeld F.seen files.old file.now (Segment 0)
+        (λ bytes. report.new ≡ joined report.old (each_below report_lists (block_found (Some bytes)) blocks))) }
     ensures asked { Asked F.seen files.old files.new result RunFault.ReadFault }
 {
     let mut page = [0u8; 8192];
@@ -65,7 +64,7 @@ fn judged_output<F: Files>(
 ) -> Result<Output, RunFault>
     requires { IsHeldAnd F.seen files.old file.now (Segment 0) (λ bytes. length bytes / 8192 ≡ blocks) }
     ensures output { IfOk result (λ o. IfHeld F.seen files.old file.now (Segment 0)
-        (λ bytes. outcome_seen o ≡ reported (file_lists (Some bytes)))) }
+        (λ bytes. outcome_seen o ≡ reported (file_found (Some bytes)))) }
     ensures asked { Asked F.seen files.old files.new result RunFault.ReadFault }
 {
     let mut report = Report::new(alloc);

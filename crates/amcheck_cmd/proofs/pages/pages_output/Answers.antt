@@ -4,17 +4,17 @@ use Rattle.std.proofs.lemmas.Result.{IfOk-weaker}
 use Rattle.outside.specs.declared.files.Part.TheVariants.{Segment}
 use Rattle.amcheck_cmd.specs.Files.{file_refusal}
 use Rattle.amcheck_cmd.specs.Outcome.{Outcome, owed_by, reported}
-use Rattle.amcheck_cmd.specs.Pages.{file_lists, judged_unless, pages_judged}
+use Rattle.amcheck_cmd.specs.Pages.{file_found, judged_unless, pages_judged}
 use Rattle.amcheck_cmd.specs.Seen.{IsOpening}
 use Rattle.amcheck_cmd.specs.declared.blocks.Opening.{Opening}
 use Rattle.amcheck_cmd.proofs.pages.pages_output.Goals as goal
 
 -- a file that is there and isn't refused has a report
 owed : (name : List ℕ) (file : Option (List ℕ)) (P : List ℕ → Type 0) (o : Outcome) → file_refusal name file ≡ None → IsSomeAnd file P
-    → ((bytes : List ℕ) → file ≡ Some bytes → o ≡ reported (file_lists (Some bytes))) → o ≡ owed_by (pages_judged name file)
+    → ((bytes : List ℕ) → file ≡ Some bytes → o ≡ reported (file_found (Some bytes))) → o ≡ owed_by (pages_judged name file)
 owed name None P o none some by = absurd some
 owed name (Some bytes) P o none some by =
-    by bytes refl ∙ ap (λ (r : Option Outcome). owed_by (judged_unless r (file_lists (Some bytes)))) (sym none)
+    by bytes refl ∙ ap (λ (r : Option Outcome). owed_by (judged_unless r (file_found (Some bytes)))) (sym none)
 
 pub returns-in-Blocks-clause-output : goal.returns-in-Blocks-clause-output
 returns-in-Blocks-clause-output g c =
