@@ -1,14 +1,22 @@
--- What is found of the file of a table that the code judges.
+-- The file of a table that the code judges: what is at hand of it, and what is found of it.
 use Rattle.std.specs.Prelude.{ℕ}
 use Rattle.std.specs.Option.{option_copied}
 use Rattle.outside.specs.Outside.{Names}
-use Rattle.rel_files.specs.Relation.{base_of, count_of, long_of, size_of}
+use Rattle.rel_files.specs.Relation.{IsAttached, base_of, count_of, long_of, size_of}
 use Rattle.heap_pages.specs.Found.{FoundLists}
 use Rattle.heap_pages.specs.Table.{chunks_seen, table_seen}
 use Rattle.heap_pages.specs.declared.table.TableRules.{TableRules}
 use Rattle.heap_files.specs.Map.{bits_seen}
+use Rattle.heap_files.specs.MapPage.{IsMapAttached, IsOptionalMapInHand}
 use Rattle.heap_files.specs.Relations.{block_found, blocks_found, table_found}
+use Rattle.heap_files.specs.declared.map.MapPage.{MapPage}
 use Rattle.heap_files.specs.declared.relations.TableFile.{TableFile}
+
+-- the table's file is attached, and its map where it has one; and what is in hand of a map is a page of that one
+pub record AreAtHand (names : Names) (file : TableFile) (hand : MapPage) : Type 0 where
+  pub relation : IsAttached names file.relation.now
+  pub map : IsMapAttached names (option_copied file.map)
+  pub page : IsOptionalMapInHand names (option_copied file.map) hand
 
 abbrev pub found_of_block : Names → TableRules → TableFile → ℕ → FoundLists
 found_of_block names table file block =

@@ -1,13 +1,11 @@
 //! Judges the blocks of a table's file.
 ghost use Rattle.std.specs.Prelude.{◌≡◌, ◌<◌, None, IfOk, OnOk};
-ghost use Rattle.std.specs.Option.{option_copied};
 ghost use Rattle.outside.specs.Outside.{Asked, IfTold};
-ghost use Rattle.rel_files.specs.Relation.{IsAttached, count_of};
+ghost use Rattle.rel_files.specs.Relation.{count_of};
 ghost use Rattle.heap_pages.specs.Found.{both_found, nothing_found, only_listed};
 ghost use Rattle.heap_pages.specs.Table.{AreReadable, rel_of};
-ghost use Rattle.heap_files.specs.MapPage.{IsMapAttached, IsOptionalMapInHand};
 ghost use Rattle.heap_files.specs.Relations.{segment_found};
-ghost use Rattle.heap_files.specs.TableFiles.{found_of_block, found_of_blocks, found_of_table};
+ghost use Rattle.heap_files.specs.TableFiles.{AreAtHand, found_of_block, found_of_blocks, found_of_table};
 
 use crate::map::MapPage;
 use heap_pages::{Found, PageInHand, TableKind, TableRules, Work, judge_table_page};
@@ -64,15 +62,11 @@ fn judge_block<F: Transactions>(
     hands: &mut Hands,
 ) -> Result<(), PageFault>
     requires columns { AreReadable table.now.columns.now }
-    requires attached { IfTold F.seen files.old (λ names. IsAttached names file.relation.now) }
     requires inside { block < count_of file.relation.now }
-    requires map { IfTold F.seen files.old (λ names. IsMapAttached names (option_copied file.map)) }
-    requires hand { IfTold F.seen files.old (λ names.
-        IsOptionalMapInHand names (option_copied file.map) hands.old.map) }
+    requires at_hand { IfTold F.seen files.old (λ names. AreAtHand names file hands.old.map) }
     ensures found { OnOk result (IfTold F.seen files.old (λ names.
         hands.new.work.found ≡ both_found hands.old.work.found (found_of_block names table.now file.entry block))) }
-    ensures hand { IfTold F.seen files.old (λ names.
-        IsOptionalMapInHand names (option_copied file.entry.map) hands.new.map) }
+    ensures at_hand { IfTold F.seen files.old (λ names. AreAtHand names file.entry hands.new.map) }
     ensures asked { Asked F.seen files.old files.new result PageFault.ReadFault }
 {
     let bits = hands.map.bits_of(files, file.map, block)?;
@@ -95,10 +89,7 @@ fn judge_blocks<F: Transactions>(
     hands: &mut Hands,
 ) -> Result<(), PageFault>
     requires columns { AreReadable table.now.columns.now }
-    requires attached { IfTold F.seen files.old (λ names. IsAttached names file.relation.now) }
-    requires map { IfTold F.seen files.old (λ names. IsMapAttached names (option_copied file.map)) }
-    requires hand { IfTold F.seen files.old (λ names.
-        IsOptionalMapInHand names (option_copied file.map) hands.old.map) }
+    requires at_hand { IfTold F.seen files.old (λ names. AreAtHand names file hands.old.map) }
     ensures found { OnOk result (IfTold F.seen files.old (λ names.
         hands.new.work.found ≡ both_found hands.old.work.found (found_of_blocks names table.now file.entry))) }
     ensures asked { Asked F.seen files.old files.new result PageFault.ReadFault }
@@ -127,10 +118,7 @@ pub(crate) fn judge_table<F: Transactions>(
     hands: &mut Hands,
 ) -> Result<(), PageFault>
     requires columns { AreReadable table.now.columns.now }
-    requires attached { IfTold F.seen files.old (λ names. IsAttached names file.relation.now) }
-    requires map { IfTold F.seen files.old (λ names. IsMapAttached names (option_copied file.map)) }
-    requires hand { IfTold F.seen files.old (λ names.
-        IsOptionalMapInHand names (option_copied file.map) hands.old.map) }
+    requires at_hand { IfTold F.seen files.old (λ names. AreAtHand names file hands.old.map) }
     ensures found { OnOk result (IfTold F.seen files.old (λ names.
         hands.new.work.found ≡ both_found hands.old.work.found (found_of_table names table.now file.entry))) }
     ensures asked { Asked F.seen files.old files.new result PageFault.ReadFault }

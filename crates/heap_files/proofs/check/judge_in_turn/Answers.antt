@@ -20,10 +20,15 @@ judge_table-requires-clause-columns g c =
     let is = c.heap_rules-table.ensures.columns ∙ (c.new-columns.ensures ∙ c.column_types.ensures) in
     rw is (record { few = omega (arith, c.sound.ensures.column_count, length-map c.args.case.now.columns (λ (column : Column). column.ctype)); aligned = columns_aligned _ c.sound.ensures.columns })
 
-pub judge_table-requires-clause-map : goal.judge_table-requires-clause-map
-judge_table-requires-clause-map g c names told =
-    let before = sym c.in_ok-toast.ensures.asked.same ∙ (sym c.in_ok-judge_map.ensures.asked.same ∙ told) in
-    rw c.as_ref.ensures.value (map_is_attached names _ _ _ c.args.at.now.map (c.requires.told names before).map)
+pub judge_table-requires-clause-at_hand : goal.judge_table-requires-clause-at_hand
+judge_table-requires-clause-at_hand g c names told =
+    let after_toast = sym c.in_ok-judge_map.ensures.asked.same ∙ told in
+    let files = c.requires.told names (sym c.in_ok-toast.ensures.asked.same ∙ after_toast) in
+    record {
+      relation = files.heap.attached;
+      map = rw c.as_ref.ensures.value (map_is_attached names _ _ _ c.args.at.now.map files.map);
+      page = rw c.as_ref.ensures.value (c.in_ok-judge_map.ensures.hand names after_toast);
+    }
 
 pub returns-clause-found : goal.returns-clause-found
 unfolding table_with

@@ -3,9 +3,12 @@ use Rattle.heap_pages.specs.Table.{chunks_seen, table_seen, table_with}
 use Rattle.heap_files.proofs.CaseRules.{from_nothing, no_toast, toast_absent, toast_is_case, toast_of, toast_rules_are, unmapped_is}
 use Rattle.heap_files.proofs.check.judge_toast.Goals as goal
 
-pub judge_table-requires-clause-attached : goal.judge_table-requires-clause-attached
-judge_table-requires-clause-attached g c names told =
-    (toast_of c.args.case.now names c.in-Some.relation (rw c.in-Some.is at (c.requires.told names told).toast) (rw c.in-Some.is at c.requires.belong.toast)).attached.attached
+pub judge_table-requires-clause-at_hand : goal.judge_table-requires-clause-at_hand
+judge_table-requires-clause-at_hand g c names told = record {
+  relation = (toast_of c.args.case.now names c.in-Some.relation (rw c.in-Some.is at (c.requires.told names told).toast) (rw c.in-Some.is at c.requires.belong.toast)).attached.attached;
+  map = tt;
+  page = tt;
+}
 
 pub returns-in-None-clause-found : goal.returns-in-None-clause-found
 returns-in-None-clause-found g c names told =

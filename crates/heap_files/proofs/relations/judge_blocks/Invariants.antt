@@ -6,7 +6,7 @@ use Rattle.rel_files.specs.Relation.{base_of, size_of}
 use Rattle.heap_pages.specs.Found.{both_found, found_parts}
 use Rattle.heap_pages.specs.Table.{chunks_seen, table_seen}
 use Rattle.heap_files.specs.Map.{bits_seen}
-use Rattle.heap_files.specs.MapPage.{IsOptionalMapInHand}
+use Rattle.heap_files.specs.TableFiles.{AreAtHand}
 use Rattle.heap_files.specs.Relations.{block_found}
 use Rattle.heap_files.proofs.relations.judge_blocks.Given as goal
 
@@ -14,6 +14,6 @@ use Rattle.heap_files.proofs.relations.judge_blocks.Given as goal
 abbrev pub invariant-loop-block : goal.invariant-loop-block
 invariant-loop-block g l = record {
   found : IfTold g.F.Files.seen l.initial.files (λ names. l.hands.work.found ≡ both_found l.initial.hands.work.found (each_below found_parts (block_found (table_seen names l.table) (chunks_seen l.table.toast) (bits_seen names (option_copied l.file.map)) names (base_of l.file.relation.now) (size_of l.file.relation.now)) l.block));
-  hand : IfTold g.F.Files.seen l.initial.files (λ names. IsOptionalMapInHand names (option_copied l.file.map) l.hands.map);
+  at_hand : IfTold g.F.Files.seen l.initial.files (λ names. AreAtHand names l.file l.hands.map);
   asked : Passed g.F.Files.seen l.initial.files l.files;
 }
