@@ -1,3 +1,4 @@
+pub mod RowCells
 pub mod FromFiles
 pub mod Lists
 pub mod LiveTuples
@@ -9,3 +10,7 @@ pub mod RowSources
 pub mod RowSteps
 pub mod RowValues
 pub mod Stand
+pub mod RowBodies
+pub mod RowFinds
+pub mod RowHeads
+pub mod RowCopies

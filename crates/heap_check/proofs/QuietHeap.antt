@@ -1,7 +1,6 @@
 -- What a quiet case says of the page that was read, and what is left of the rows.
-use Rattle.std.proofs.Common.{◌≡◌, ◌⊎◌, inl, inr, ℕ, ◌+◌, ◌-◌, ◌<◌, ◌≤◌, Bool, true, false, List, [], ◌∷◌, ◌++◌, All, length, get_or, map, refl, ap, sym, subst, ◌∙◌, arith}
+use Rattle.std.proofs.Common.{◌≡◌, inl, inr, ℕ, ◌+◌, ◌-◌, ◌<◌, ◌≤◌, true, false, List, [], ◌++◌, All, length, get_or, map, refl, ap, sym, subst, ◌∙◌, arith}
 use Rattle.std.specs.Prelude.{Option, Some, None, Contains}
-use Rattle.std.specs.Option.{is_some, option_map}
 use Rattle.std.proofs.lemmas.List.Elements.{All-from_get_or, All-nil, Contains-get_or}
 use Rattle.outside.specs.Adds.{one_list}
 use Rattle.outside.specs.Outside.{Names}
@@ -40,16 +39,16 @@ use Rattle.heap_files.specs.Found.{IsQuiet, chunks_of}
 use Rattle.heap_files.specs.Files.{IsToastNamed, heap_in}
 use Rattle.heap_check.specs.declared.row_page.RowPage.{RowPage}
 use Rattle.heap_check.specs.declared.rows.LiveRow.{LiveRow}
-use Rattle.heap_check.specs.declared.rows.LiveRows.{LiveRows}
-use Rattle.heap_check.specs.RowCursor.{AreRowsOf, IsPageDone, IsPageDoneBy, case_of, heap_of, rows_left}
-use Rattle.heap_check.specs.RowPages.{AreStates, IsInHand, rows_given, rows_in_hand}
+use Rattle.heap_check.specs.declared.row_cursor.RowCursor.{RowCursor}
+use Rattle.heap_check.specs.RowCursor.{IsCursorOf, IsPageDone, case_at, heap_at, rows_ahead}
+use Rattle.heap_check.specs.RowPages.{AreStates, IsInHand, rows_in_hand}
 use Rattle.heap_check.specs.RowRoots.{AreRoots}
 use Rattle.heap_check.specs.RowValues.{IsThere}
 use Rattle.heap_check.specs.Rows.{block_rows, each_from, heap_page, item_rows, page_rows, rows_by_rule}
 use Rattle.heap_check.proofs.FromFiles.{heap_has_nothing, value_has_table, values_are_whole}
 use Rattle.heap_check.proofs.LiveTuples.{header_place, live_are_read, sound_tuple}
-use Rattle.heap_check.proofs.RowSources.{left_is}
-use Rattle.heap_check.proofs.RowSteps.{all_upto, each_from-next, each_from-none, in_hand_done, none_given}
+use Rattle.heap_check.proofs.RowSources.{ahead_is}
+use Rattle.heap_check.proofs.RowSteps.{all_upto, each_from-next, each_from-none, in_hand_done}
 
 pub heap_types : (case : CaseRecord) (names : Names) → (table_of case names).columns ≡ map (λ (c : Column). c.ctype) case.columns
 unfolding table_of
@@ -162,29 +161,29 @@ loaded case names toast chunks page block quiet below named are at done bytes sa
 -- The cursor
 
 -- one block is read more
-pub unread_next : (names : Names) (old new : LiveRows) → IsPageDone names old → case_of new ≡ case_of old → new.next ≡ old.next + 1 → old.next < heap_blocks (case_of old) names → rows_in_hand (case_of old) names new.page ≡ block_rows (case_of old) names old.next → rows_left names new ≡ rows_left names old
+pub unread_next : (names : Names) (old new : RowCursor) → IsPageDone names old → case_at new ≡ case_at old → new.next ≡ old.next + 1 → old.next < heap_blocks (case_at old) names → rows_in_hand (case_at old) names new.page ≡ block_rows (case_at old) names old.next → rows_ahead names new ≡ rows_ahead names old
 unread_next names old new done case next below rows =
-    let f = block_rows (case_of old) names in
-    let n = heap_blocks (case_of old) names in
-    left_is names new
+    let f = block_rows (case_at old) names in
+    let n = heap_blocks (case_at old) names in
+    ahead_is names new
     ∙ ap (λ (c : CaseRecord). rows_in_hand c names new.page ++ each_from (block_rows c names) new.next (heap_blocks c names - new.next)) case
     ∙ ap (λ (xs : List LiveRow). xs ++ each_from f new.next (n - new.next)) rows
     ∙ ap (λ (k : ℕ). f old.next ++ each_from f k (n - k)) next
     ∙ sym (each_from-next f old.next (n - (old.next + 1)))
     ∙ ap (λ (m : ℕ). each_from f old.next m) (omega (arith, below))
     ∙ ap (λ (xs : List LiveRow). xs ++ each_from f old.next (n - old.next)) (sym done)
-    ∙ sym (left_is names old)
+    ∙ sym (ahead_is names old)
 
 -- none is
-pub unread_same : (names : Names) (old new : LiveRows) → IsPageDone names old → case_of new ≡ case_of old → new.next ≡ old.next → new.page.work.states.items ≡ [] → rows_left names new ≡ rows_left names old
+pub unread_same : (names : Names) (old new : RowCursor) → IsPageDone names old → case_at new ≡ case_at old → new.next ≡ old.next → new.page.work.states.items ≡ [] → rows_ahead names new ≡ rows_ahead names old
 unread_same names old new done case next none =
-    let f = block_rows (case_of old) names in
-    let n = heap_blocks (case_of old) names in
-    left_is names new
+    let f = block_rows (case_at old) names in
+    let n = heap_blocks (case_at old) names in
+    ahead_is names new
     ∙ ap (λ (c : CaseRecord). rows_in_hand c names new.page ++ each_from (block_rows c names) new.next (heap_blocks c names - new.next)) case
-    ∙ ap (λ (xs : List LiveRow). xs ++ each_from f new.next (n - new.next)) (in_hand_done (case_of old) names new.page (omega (arith, ap length none)) ∙ sym done)
-    ∙ ap (λ (k : ℕ). rows_in_hand (case_of old) names old.page ++ each_from f k (n - k)) next
-    ∙ sym (left_is names old)
+    ∙ ap (λ (xs : List LiveRow). xs ++ each_from f new.next (n - new.next)) (in_hand_done (case_at old) names new.page (omega (arith, ap length none)) ∙ sym done)
+    ∙ ap (λ (k : ℕ). rows_in_hand (case_at old) names old.page ++ each_from f k (n - k)) next
+    ∙ sym (ahead_is names old)
 
 pub nothing_in_hand : (case : CaseRecord) (names : Names) (toast : Option Relation) (chunks : List Chunk) (page : RowPage) → page.work.states.items ≡ [] → IsInHand case names toast chunks page
 nothing_in_hand case names toast chunks page none = λ i first last. absurd (omega (arith, first, last, ap length none))
@@ -193,24 +192,12 @@ pub heap_count : (case : CaseRecord) (names : Names) (n : ℕ) (r : Relation) �
 unfolding heap_blocks
 heap_count case names n r is below = subst (λ (m : ℕ). n < m) is.count below
 
--- no row was given, so none of the page in hand is left
-pub done_none : (names : Names) (found : Option LiveRow) (rows : LiveRows) → is_some found ≡ false → IsPageDoneBy names found rows → IsPageDone names rows
-done_none names None rows none done = done
-done_none names (Some row) rows none done = absurd (none_some none)
-  where
-    none_some : ◌≡◌ {A = Bool} true false → ⊥
-    none_some e = cc
-
 -- where all blocks were read, and no row of the page in hand is left, none is left
-pub rows_end : (names : Names) (rows : LiveRows) (n : ℕ) → AreRowsOf names rows → IsPageDone names rows → n ≡ blocks_in_relation (heap_in (heap_of rows)) → n ≤ rows.next → rows_left names rows ≡ []
+pub rows_end : (names : Names) (rows : RowCursor) (n : ℕ) → IsCursorOf names rows → IsPageDone names rows → n ≡ blocks_in_relation (heap_in (heap_at rows)) → n ≤ rows.next → rows_ahead names rows ≡ []
 unfolding heap_blocks
 rows_end names rows n are done is le =
-    let count : n ≡ heap_blocks (case_of rows) names = is ∙ are.heap.files.heap.count in
-    left_is names rows
-    ∙ ap (λ (xs : List LiveRow). xs ++ each_from (block_rows (case_of rows) names) rows.next (heap_blocks (case_of rows) names - rows.next)) done
-    ∙ ap (λ (m : ℕ). each_from (block_rows (case_of rows) names) rows.next m) (omega (arith, count, le))
-    ∙ each_from-none (block_rows (case_of rows) names) rows.next
-
--- one row fewer, or none
-pub passed : (found : Option LiveRow) (before here after : List LiveRow) → before ≡ here → here ≡ rows_given found ++ after → is_some found ≡ false → before ≡ after
-passed found before here after same is none = same ∙ is ∙ ap (λ (xs : List LiveRow). xs ++ after) (none_given found none)
+    let count : n ≡ heap_blocks (case_at rows) names = is ∙ are.heap.files.heap.count in
+    ahead_is names rows
+    ∙ ap (λ (xs : List LiveRow). xs ++ each_from (block_rows (case_at rows) names) rows.next (heap_blocks (case_at rows) names - rows.next)) done
+    ∙ ap (λ (m : ℕ). each_from (block_rows (case_at rows) names) rows.next m) (omega (arith, count, le))
+    ∙ each_from-none (block_rows (case_at rows) names) rows.next

@@ -1,15 +1,10 @@
 -- The attributes of a tuple fit the types of its columns.
-use Rattle.std.proofs.Common.{◌≡◌, ℕ, zero, suc, ◌+◌, ◌-◌, ◌<◌, ◌≤◌, true, List, [], ◌∷◌, ◌++◌, length, drop, get_or, All, refl, sym, subst, ◌∙◌, arith}
-use Rattle.std.specs.Prelude.{Option, Some, None, Ok, IfSome}
+use Rattle.std.proofs.Common.{◌≡◌, ℕ, suc, ◌+◌, ◌-◌, ◌≤◌, List, [], ◌∷◌, length, drop, All, sym, subst, ◌∙◌, arith}
+use Rattle.std.specs.Prelude.{Option, Some, None, Ok}
 use Rattle.std.proofs.lemmas.List.{length-take-le, length-drop}
 use Rattle.std.proofs.lemmas.List.Elements.{recursion_from_All}
 use Rattle.key_orders.specs.declared.columns.ColType.{ColType}
-use Rattle.key_orders.specs.declared.columns.ColType.TheVariants as ctype
-use Rattle.key_orders.specs.declared.columns.Value.{Value}
-use Rattle.key_orders.specs.declared.columns.Value.TheVariants as value
-use Rattle.key_orders.specs.Orders.{fits_type}
 use Rattle.case_file.specs.declared.case.Column.{Column}
-use Rattle.case_file.proofs.MissingValues.{null_fits}
 use Rattle.varlena_attrs.specs.Attributes.{AttributesFrom, IsAttribute, Presence, Absent, As_null, Stored}
 use Rattle.key_orders.specs.Types.{fixed_length}
 use Rattle.varlena_attrs.specs.Forms.{Attribute, External, IsStored, Missing, Null, Packed, Plain, bytes_between, fixed, varlena}
@@ -19,7 +14,6 @@ use Rattle.tuple_head.specs.Head.{natts_of, tuple_head_of}
 use Rattle.key_orders.specs.Types.{IsLength}
 use Rattle.varlena_attrs.proofs.Law.{read_sound}
 use Rattle.heap_check.specs.declared.row_cells.Cell.{Cell}
-use Rattle.heap_check.specs.declared.row_cells.Cell.TheVariants.{Held}
 use Rattle.heap_check.specs.RowFits.{FitColumns, FitsColumn}
 use Rattle.heap_check.specs.RowValues.{FitTypes, FitsType}
 
@@ -63,45 +57,11 @@ attributes_fit columns tuple list aligned is =
 
 -- Cells
 
-pub null_fit : (column : Column) → FitsColumn column (Held value.Null)
-null_fit column = null_fits column.ctype
-
--- any bytes may stand in a varlena column
-pub octets_fit : (ctype : ColType) (bytes : List ℕ) → fixed_length ctype ≡ None → fits_type ctype (value.Bytes bytes) ≡ true
-octets_fit ctype.Text bytes is = refl
-octets_fit ctype.Bytea bytes is = refl
-octets_fit (ctype.Varlena align) bytes is = refl
-octets_fit ctype.Bool bytes is = cc
-octets_fit ctype.Int2 bytes is = cc
-octets_fit ctype.Int4 bytes is = cc
-octets_fit ctype.Int8 bytes is = cc
-octets_fit ctype.Uuid bytes is = cc
-octets_fit ctype.Oid bytes is = cc
-octets_fit ctype.Date bytes is = cc
-octets_fit ctype.Timestamp bytes is = cc
-octets_fit ctype.Timestamptz bytes is = cc
-octets_fit (ctype.Fixed len align) bytes is = cc
-
--- a value that is the same fits as well
-pub same_fits : (column : Column) (v w : Value) → v ≡ w → fits_type column.ctype w ≡ true → FitsColumn column (Held v)
-same_fits column v w is fits = subst (λ (x : Value). fits_type column.ctype x ≡ true) (sym is) fits
-
--- a cell that was found fits
-pub some_fits : (column : Column) (found : Option Cell) (c : Cell) → found ≡ Some c → IfSome found (FitsColumn column) → FitsColumn column c
-some_fits column found c is fits = subst (λ (o : Option Cell). IfSome o (FitsColumn column)) is fits
-
 -- the cells so far fit the first columns
 abbrev pub FitFirst : List Column → List Cell → Type 0
 FitFirst columns [] = Unit {0}
 FitFirst (column ∷ columns) (c ∷ cells) = FitsColumn column c × FitFirst columns cells
 FitFirst [] (c ∷ cells) = ⊥
-
-pub fit_next : (columns : List Column) (cells : List Cell) (k : ℕ) (d : Column) (c : Cell) → length cells ≡ k → k < length columns → FitFirst columns cells → FitsColumn (get_or columns k d) c → FitFirst columns (cells ++ c ∷ [])
-fit_next (column ∷ columns) [] zero d c long lt first fits = (fits, tt)
-fit_next (column ∷ columns) (x ∷ cells) (suc k) d c long lt first fits = (first.0, fit_next columns cells k d c (omega (arith, long)) (omega (arith, lt)) first.1 fits)
-fit_next (column ∷ columns) [] (suc k) d c long lt first fits = cc
-fit_next (column ∷ columns) (x ∷ cells) zero d c long lt first fits = cc
-fit_next [] cells k d c long lt first fits = absurd (omega (arith, lt))
 
 pub fit_all : (columns : List Column) (cells : List Cell) → length cells ≡ length columns → FitFirst columns cells → FitColumns columns cells
 fit_all [] [] long first = tt

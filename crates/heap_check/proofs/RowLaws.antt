@@ -1,9 +1,9 @@
 -- The rows are live tuples, and where nothing is found of the heap they are exactly these.
-use Rattle.std.proofs.Common.{◌≡◌, ℕ, zero, suc, ◌<◌, ◌≤◌, Bool, true, false, List, [], ◌∷◌, ◌++◌, length, All, append-nil, append_assoc, refl, ap, sym, subst, ◌∙◌, arith}
+use Rattle.std.proofs.Common.{◌≡◌, ℕ, suc, ◌<◌, ◌≤◌, Bool, true, false, List, [], ◌∷◌, All, refl, ap, sym, subst, ◌∙◌, arith}
 use Rattle.std.specs.Prelude.{Option, Some, None, Ok, Err, if◌then◌else◌, map, unwrap_or, AllPairs, Contains}
 use Rattle.std.proofs.lemmas.Bool.{cond-false, cond-true, false≢true}
 use Rattle.std.proofs.lemmas.List.Elements.{All-cons, All-contains, All-nil, All-weaker, recursion_from_All}
-use Rattle.outside.specs.Adds.{each_below, one_list}
+use Rattle.outside.specs.Adds.{one_list}
 use Rattle.outside.specs.Outside.{Names}
 use Rattle.page_layout.specs.Items.{is_normal}
 use Rattle.page_layout.specs.Page.{count_of, page_rule_of}
@@ -27,7 +27,7 @@ use Rattle.varlena_attrs.proofs.First.{fails_first}
 use Rattle.varlena_attrs.proofs.Law.{read_sound}
 use Rattle.liveness.specs.declared.states.ItemState.{ItemState}
 use Rattle.hot_chains.specs.Chains.{IsRootOf, Reaches, is_live, is_live_tuple, item_at, root_of}
-use Rattle.hot_chains.specs.Quiet.{HasOneRoot, IsLiveItem}
+use Rattle.hot_chains.specs.Quiet.{HasOneRoot}
 use Rattle.hot_chains.proofs.Whole.{root_is_right}
 use Rattle.heap_tuples.specs.Places.{tuple_at}
 use Rattle.heap_tuples.specs.Tuples.{IsReadAs, attributes_in, body_of, nulls_of}
@@ -54,9 +54,9 @@ use Rattle.heap_check.specs.declared.row_cells.Cell.{Cell}
 use Rattle.heap_check.specs.declared.rows.LiveRow.{LiveRow}
 use Rattle.heap_check.specs.RowLaws.{AreAttributesOf, AreCellsOf, AreLiveTuples, IsBefore, IsCellOf, IsLiveAt, IsRowOfTuple, IsWholeRow, RowsAreLive, TidsRise, in_lower_block, in_place, in_same_block, in_toast_table, no_columns, of_missing, of_null, one_more, packed_in_place, packed_in_toast_table, states_at}
 use Rattle.heap_check.specs.RowValues.{FitTypes}
-use Rattle.heap_check.specs.Rows.{block_rows, cell_at, cell_of, cells_of, external_cell, heap_page, item_rows, page_rows, root_item, row_at, row_by, rows_by_rule, rows_of, toast_bytes}
+use Rattle.heap_check.specs.Rows.{block_rows, cell_of, cells_of, external_cell, heap_page, item_rows, page_rows, root_item, row_at, row_by, rows_by_rule, rows_of, toast_bytes}
 use Rattle.heap_check.proofs.FromFiles.{heap_has_nothing, values_are_whole}
-use Rattle.heap_check.proofs.Lists.{each_below-first}
+use Rattle.heap_check.proofs.RowCells.{cells_of-next, cells_of-none}
 use Rattle.heap_check.proofs.LiveTuples.{live_are_read, sound_tuple}
 use Rattle.heap_check.proofs.QuietHeap.{heap_types, page_passes}
 use Rattle.heap_check.proofs.RowFits.{attributes_fit}
@@ -225,14 +225,6 @@ attributes_are columns tuple list aligned is =
     read_sound (map (λ c. c.ctype) columns) (nulls_of tuple) (natts_of (tuple_head_of tuple)) (body_of tuple) 0 0 list (recursion_from_All HasAlignment (map (λ c. c.ctype) columns) aligned) is
 
 -- Cells
-
-cells_of-next : (bytes : ToastPointer → List ℕ) (column : Column) (columns : List Column) (a : Attribute) (list : List Attribute) → cells_of bytes (column ∷ columns) (a ∷ list) ≡ cell_of bytes column a ∷ cells_of bytes columns list
-unfolding cells_of cell_at
-cells_of-next bytes column columns a list = each_below-first (cell_at bytes (column ∷ columns) (a ∷ list)) (length columns)
-
-cells_of-none : (bytes : ToastPointer → List ℕ) → cells_of bytes [] [] ≡ []
-unfolding cells_of each_below
-cells_of-none bytes = refl
 
 module _ (case : CaseRecord) (names : Names) where
   external_is : (column : Column) (p : ToastPointer) (packed : Bool) → is_compressed p ≡ packed → IsWhole (chunks_of case names) p → IsCellOf case names column (External p) (external_cell (toast_bytes case names p) p)

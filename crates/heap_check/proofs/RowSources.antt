@@ -1,6 +1,7 @@
 -- What a quiet case says of the values of its rows.
-use Rattle.std.proofs.Common.{◌≡◌, ℕ, ◌-◌, ◌≤◌, List, [], ◌∷◌, ◌++◌, append_assoc, length, All, map, refl, ap, sym, subst, ◌∙◌, arith}
+use Rattle.std.proofs.Common.{◌≡◌, ℕ, ◌-◌, ◌<◌, ◌≤◌, Bool, true, false, List, [], ◌∷◌, ◌++◌, length, All, map, refl, ap, sym, subst, ◌∙◌, arith}
 use Rattle.std.specs.Prelude.{Result, Ok, Err, IfOk, OnErr, Option, Some, None}
+use Rattle.std.proofs.lemmas.Bool.{false≢true}
 use Rattle.std.specs.List.{AllByRecursion}
 use Rattle.std.specs.Option.{option_copied}
 use Rattle.std.proofs.lemmas.List.{length-map}
@@ -22,15 +23,16 @@ use Rattle.heap_files.specs.Case.{heap_blocks}
 use Rattle.heap_files.specs.Found.{chunks_of}
 use Rattle.heap_files.specs.Files.{IsToastIn, IsToastNamed, chunks_in, toast_in}
 use Rattle.heap_files.proofs.ColumnLaws.{columns_aligned}
-use Rattle.heap_check.specs.RowCursor.{AreRowsOf, IsPageDoneBy, case_of, heap_of, rows_left, rows_unread}
-use Rattle.heap_check.specs.RowPages.{AreValuesOf, IsFirst, IsInHand, rows_given, rows_in_hand}
-use Rattle.heap_check.specs.RowValues.{IsReadable, bytes_seen}
+use Rattle.heap_check.specs.RowCursor.{IsAtRow, IsCursorOf, asked_at, case_at, heap_at, rows_ahead, rows_unread}
+use Rattle.heap_check.specs.RowPages.{HasPlaces, IsInHand, IsNext, rows_in_hand}
+use Rattle.heap_check.specs.RowValues.{AreValuesOf, AsksColumns, IsReadable, bytes_seen}
 use Rattle.heap_check.specs.RowFits.{HasMissing}
 use Rattle.heap_check.specs.Rows.{block_rows, bytes_in_toast, each_from, toast_bytes}
 use Rattle.heap_check.specs.declared.row_page.RowPage.{RowPage}
-use Rattle.heap_check.specs.declared.row_values.RowValues.{RowValues}
+use Rattle.heap_check.specs.declared.row_values.AskedColumns.{AskedColumns}
+use Rattle.heap_check.specs.declared.row_values.ValueSources.{ValueSources}
 use Rattle.heap_check.specs.declared.rows.LiveRow.{LiveRow}
-use Rattle.heap_check.specs.declared.rows.LiveRows.{LiveRows}
+use Rattle.heap_check.specs.declared.row_cursor.RowCursor.{RowCursor}
 use Rattle.heap_check.proofs.Stand.{all_stand}
 
 -- Columns
@@ -71,81 +73,76 @@ bytes_by case names (Some t) (Some r) chunks p is named are =
 bytes_by case names None (Some r) chunks p is named are = absurd named
 bytes_by case names (Some t) None chunks p is named are = absurd named
 
-pub readable : (names : Names) (rows : LiveRows) (toast : Option Relation) (chunks : List Chunk) → toast ≡ (toast_in (heap_of rows)) → chunks ≡ chunks_in (heap_of rows) → AreRowsOf names rows → IsReadable names toast chunks
-readable names rows toast chunks is same are =
-    subst (λ (cs : List Chunk). IsReadable names toast cs) (sym same) (
-    subst (λ (t : Option Relation). IsReadable names t (chunks_in (heap_of rows))) (sym is)
-    (readable_by (case_of rows) names _ (toast_in (heap_of rows)) (chunks_in (heap_of rows)) refl are.heap.files.toast are.belong.toast are.heap.chunks))
+pub readable : (names : Names) (cursor : RowCursor) (toast : Option Relation) (chunks : List Chunk) → toast ≡ toast_in (heap_at cursor) → chunks ≡ chunks_in (heap_at cursor) → IsCursorOf names cursor → IsReadable names toast chunks
+readable names cursor toast chunks is same are =
+    subst (λ (cs : List Chunk). IsReadable names toast cs) (sym same)
+    (subst (λ (t : Option Relation). IsReadable names t (chunks_in (heap_at cursor))) (sym is)
+    (readable_by (case_at cursor) names _ (toast_in (heap_at cursor)) (chunks_in (heap_at cursor)) refl are.heap.files.toast are.belong.toast are.heap.chunks))
 
-pub values_are : (names : Names) (rows : LiveRows) (values : RowValues) → option_copied values.toast ≡ (toast_in (heap_of rows)) → values.chunks.now ≡ (chunks_in (heap_of rows)) → values.columns.now ≡ (case_of rows).columns → AreRowsOf names rows → AreValuesOf (case_of rows) names values
-values_are names rows values toast chunks columns are = record {
+pub values_are : (names : Names) (cursor : RowCursor) (from : ValueSources) → option_copied from.toast ≡ toast_in (heap_at cursor) → from.chunks.now ≡ chunks_in (heap_at cursor) → from.columns.now ≡ (case_at cursor).columns → from.asked.now ≡ asked_at cursor → IsCursorOf names cursor → AreValuesOf (case_at cursor) names from
+values_are names cursor from toast chunks columns asked are = record {
   columns = columns;
   bytes = λ p.
-      ap (λ (t : Option Relation). bytes_seen names t values.chunks.now p) toast
-      ∙ bytes_by (case_of rows) names _ (toast_in (heap_of rows)) values.chunks.now p refl are.belong.toast (chunks ∙ are.heap.chunks);
+      ap (λ (t : Option Relation). bytes_seen names t from.chunks.now p) toast
+      ∙ bytes_by (case_at cursor) names _ (toast_in (heap_at cursor)) from.chunks.now p refl are.belong.toast (chunks ∙ are.heap.chunks);
+  asked = subst (AsksColumns (length (case_at cursor).columns)) (sym asked) are.asked;
 }
+
+pub in_hand : (names : Names) (cursor : RowCursor) (from : ValueSources) → option_copied from.toast ≡ toast_in (heap_at cursor) → from.chunks.now ≡ chunks_in (heap_at cursor) → IsCursorOf names cursor → IsInHand (case_at cursor) names (option_copied from.toast) from.chunks.now cursor.page
+in_hand names cursor from toast chunks are =
+    subst (λ (t : Option Relation). IsInHand (case_at cursor) names t from.chunks.now cursor.page) (sym toast)
+    (subst (λ (cs : List Chunk). IsInHand (case_at cursor) names (toast_in (heap_at cursor)) cs cursor.page) (sym chunks) are.hand)
 
 -- The page in hand of a cursor
 
-pub left_is : (names : Names) (rows : LiveRows) → rows_left names rows ≡ rows_in_hand (case_of rows) names rows.page ++ each_from (block_rows (case_of rows) names) rows.next (heap_blocks (case_of rows) names - rows.next)
-unfolding rows_left rows_unread
-left_is names rows = refl
+pub ahead_is : (names : Names) (cursor : RowCursor) → rows_ahead names cursor ≡ rows_in_hand (case_at cursor) names cursor.page ++ each_from (block_rows (case_at cursor) names) cursor.next (heap_blocks (case_at cursor) names - cursor.next)
+unfolding rows_ahead rows_unread
+ahead_is names cursor = refl
 
 -- the cursor with another page in hand
-pub moved : (names : Names) (rows : LiveRows) (page : RowPage) (next : ℕ) → AreRowsOf names rows → length page.work.states.items ≤ 2042 → IsInHand (case_of rows) names (toast_in (heap_of rows)) (chunks_in (heap_of rows)) page → AreRowsOf names (record { case = rows.case; heap = rows.heap; logs = rows.logs; page = page; next = next })
-moved names rows page next are few hand = record {
+pub moved : (names : Names) (cursor : RowCursor) (page : RowPage) (next : ℕ) → IsCursorOf names cursor → length page.work.states.items ≤ 2042 → IsInHand (case_at cursor) names (toast_in (heap_at cursor)) (chunks_in (heap_at cursor)) page → (page.found ≡ true → IsNext (case_at cursor) names cursor.asked page) → IsCursorOf names (record { case = cursor.case; heap = cursor.heap; asked = cursor.asked; logs = cursor.logs; page = page; next = next })
+moved names cursor page next are few hand found = record {
   heap = are.heap;
   belong = are.belong;
   quiet = are.quiet;
   logs = are.logs;
+  asked = are.asked;
   few = few;
   hand = hand;
+  next = found;
 }
 
-given_first : (found : Option LiveRow) (before after : List LiveRow) → IsFirst found before after → before ≡ rows_given found ++ after
-given_first (Some row) before after first = first
-given_first None before after first = first.0 ∙ sym first.1
-
-given_left : (names : Names) (old new : LiveRows) (found : Option LiveRow) → new.next ≡ old.next → case_of new ≡ case_of old → rows_in_hand (case_of old) names old.page ≡ rows_given found ++ rows_in_hand (case_of old) names new.page → rows_left names old ≡ rows_given found ++ rows_left names new
-given_left names old new found next case gives =
-    let unread : List LiveRow = each_from (block_rows (case_of old) names) old.next (heap_blocks (case_of old) names - old.next) in
-    let same : rows_left names new ≡ rows_in_hand (case_of old) names new.page ++ unread =
-    left_is names new
+-- with another page of which as many rows are ahead
+pub ahead_same : (names : Names) (old new : RowCursor) → case_at new ≡ case_at old → new.next ≡ old.next → rows_in_hand (case_at old) names new.page ≡ rows_in_hand (case_at old) names old.page → rows_ahead names new ≡ rows_ahead names old
+ahead_same names old new case next rows =
+    ahead_is names new
     ∙ ap (λ (c : CaseRecord). rows_in_hand c names new.page ++ each_from (block_rows c names) new.next (heap_blocks c names - new.next)) case
-    ∙ ap (λ (k : ℕ). rows_in_hand (case_of old) names new.page ++ each_from (block_rows (case_of old) names) k (heap_blocks (case_of old) names - k)) next in
-    left_is names old
-    ∙ ap (λ (xs : List LiveRow). xs ++ unread) gives
-    ∙ append_assoc (rows_given found) (rows_in_hand (case_of old) names new.page) unread
-    ∙ ap (λ (xs : List LiveRow). rows_given found ++ xs) (sym same)
+    ∙ ap (λ (k : ℕ). rows_in_hand (case_at old) names new.page ++ each_from (block_rows (case_at old) names) k (heap_blocks (case_at old) names - k)) next
+    ∙ ap (λ (xs : List LiveRow). xs ++ each_from (block_rows (case_at old) names) old.next (heap_blocks (case_at old) names - old.next)) rows
+    ∙ sym (ahead_is names old)
 
--- a row of the page in hand was given, or none is left there
-pub given_by : {S E : Type 0} (result : Result (Option LiveRow) E) (seen : S → Seen) (files : S) (old new : LiveRows) → new.next ≡ old.next → case_of new ≡ case_of old → IfOk result (λ found. IfTold seen files (λ names. IsFirst found (rows_in_hand (case_of old) names old.page) (rows_in_hand (case_of old) names new.page))) → IfOk result (λ found. IfTold seen files (λ names. rows_left names old ≡ rows_given found ++ rows_left names new))
-given_by (Ok found) seen files old new next case first = λ names told. given_left names old new found next case (given_first found _ _ (first names told))
-given_by (Err e) seen files old new next case first = tt
+-- What was told of a look at the page, for a cursor
 
-page_done : (names : Names) (old new : LiveRows) (found : Option LiveRow) → case_of new ≡ case_of old → IsFirst found (rows_in_hand (case_of old) names old.page) (rows_in_hand (case_of old) names new.page) → IsPageDoneBy names found new
-page_done names old new (Some row) case first = tt
-page_done names old new None case first = ap (λ (c : CaseRecord). rows_in_hand c names new.page) case ∙ first.1
+module _ {S E : Type 0} (seen : S → Seen) (files : S) (old : RowCursor) (page : RowPage) (told : IfTold seen files (λ names. IsCursorOf names old)) where
+  pub done_by : (result : Result Bool E) → IfOk result (λ found. IfTold seen files (λ names. (case : CaseRecord) → found ≡ false → length old.page.work.states.items ≤ 2042 → rows_in_hand case names page ≡ []))
+      → IfOk result (λ found. IfTold seen files (λ names. found ≡ false → rows_in_hand (case_at old) names page ≡ []))
+  done_by (Ok found) none = λ names held not. none names held (case_at old) not (told names held).few
+  done_by (Err e) none = tt
 
-pub done_by : {S E : Type 0} (result : Result (Option LiveRow) E) (seen : S → Seen) (files : S) (old new : LiveRows) → case_of new ≡ case_of old → IfOk result (λ found. IfTold seen files (λ names. IsFirst found (rows_in_hand (case_of old) names old.page) (rows_in_hand (case_of old) names new.page))) → IfOk result (λ found. IfTold seen files (λ names. IsPageDoneBy names found new))
-done_by (Ok found) seen files old new case first = λ names told. page_done names old new found case (first names told)
-done_by (Err e) seen files old new case first = tt
+  pub next_by : (result : Result Bool E) (from : ValueSources) → option_copied from.toast ≡ toast_in (heap_at old) → from.chunks.now ≡ chunks_in (heap_at old) → from.columns.now ≡ (case_at old).columns → from.asked.now ≡ asked_at old
+      → IfOk result (λ found. page.found ≡ found) → OnErr result (page.found ≡ false)
+      → IfOk result (λ found. IfTold seen files (λ names. (case : CaseRecord) → found ≡ true → IsInHand case names (option_copied from.toast) from.chunks.now old.page → AreValuesOf case names from → IsNext case names from.asked.now page))
+      → IfTold seen files (λ names. page.found ≡ true → IsNext (case_at old) names old.asked page)
+  next_by (Ok found) from toast chunks columns asked is err next = λ names held yes.
+      let here = told names held in
+      subst (λ (a : AskedColumns). IsNext (case_at old) names a page) asked
+      (next names held (case_at old) (sym is ∙ yes) (in_hand names old from toast chunks here) (values_are names old from toast chunks columns asked here))
+  next_by (Err e) from toast chunks columns asked is err next = λ names held yes. absurd (false≢true (sym err ∙ yes))
 
-pub kept_by : {S E : Type 0} (result : Result (Option LiveRow) E) (seen : S → Seen) (files : S) (old new : LiveRows) → new.next ≡ old.next → case_of new ≡ case_of old → OnErr result (IfTold seen files (λ names. rows_in_hand (case_of old) names new.page ≡ rows_in_hand (case_of old) names old.page)) → OnErr result (IfTold seen files (λ names. rows_left names new ≡ rows_left names old))
-kept_by (Ok found) seen files old new next case left = tt
-kept_by (Err e) seen files old new next case left = λ names told. sym (given_left names old new None next case (sym (left names told)))
-
--- what was told of the call on the page, for a cursor
-pub first_told : {S E : Type 0} (result : Result (Option LiveRow) E) (seen : S → Seen) (files : S) (old : LiveRows) (new : RowPage) (values : RowValues) → option_copied values.toast ≡ (toast_in (heap_of old)) → values.chunks.now ≡ (chunks_in (heap_of old)) → values.columns.now ≡ (case_of old).columns → IfTold seen files (λ names. AreRowsOf names old) → IfOk result (λ found. IfTold seen files (λ names. (case : CaseRecord) → IsInHand case names (option_copied values.toast) values.chunks.now old.page → AreValuesOf case names values → length old.page.work.states.items ≤ 2042 → IsFirst found (rows_in_hand case names old.page) (rows_in_hand case names new))) → IfOk result (λ found. IfTold seen files (λ names. IsFirst found (rows_in_hand (case_of old) names old.page) (rows_in_hand (case_of old) names new)))
-first_told (Ok found) seen files old new values toast chunks columns are first = λ names told.
-    let here = are names told in
-    let hand = subst (λ (t : Option Relation). IsInHand (case_of old) names t values.chunks.now old.page) (sym toast) (subst (λ (cs : List Chunk). IsInHand (case_of old) names (toast_in (heap_of old)) cs old.page) (sym chunks) here.hand) in
-    first names told (case_of old) hand (values_are names old values toast chunks columns here) here.few
-first_told (Err e) seen files old new values toast chunks columns are first = tt
-
-pub left_told : {S E : Type 0} (result : Result (Option LiveRow) E) (seen : S → Seen) (files : S) (old : LiveRows) (new : RowPage) (values : RowValues) → option_copied values.toast ≡ (toast_in (heap_of old)) → values.chunks.now ≡ (chunks_in (heap_of old)) → values.columns.now ≡ (case_of old).columns → IfTold seen files (λ names. AreRowsOf names old) → OnErr result (IfTold seen files (λ names. (case : CaseRecord) → IsInHand case names (option_copied values.toast) values.chunks.now old.page → AreValuesOf case names values → length old.page.work.states.items ≤ 2042 → rows_in_hand case names new ≡ rows_in_hand case names old.page)) → OnErr result (IfTold seen files (λ names. rows_in_hand (case_of old) names new ≡ rows_in_hand (case_of old) names old.page))
-left_told (Ok found) seen files old new values toast chunks columns are left = tt
-left_told (Err e) seen files old new values toast chunks columns are left = λ names told.
-    let here = are names told in
-    let hand = subst (λ (t : Option Relation). IsInHand (case_of old) names t values.chunks.now old.page) (sym toast) (subst (λ (cs : List Chunk). IsInHand (case_of old) names (toast_in (heap_of old)) cs old.page) (sym chunks) here.hand) in
-    left names told (case_of old) hand (values_are names old values toast chunks columns here) here.few
+pub at_row_by : {E : Type 0} (result : Result Bool E) (old new : RowCursor) (columns : List Column) (asked : AskedColumns) → columns ≡ (case_at old).columns → asked ≡ new.asked → case_at new ≡ case_at old
+    → IfOk result (λ found. found ≡ true → HasPlaces columns asked new.page) → IfOk result (λ found. found ≡ true → new.page.done < 2042) → IfOk result (λ found. found ≡ true → IsAtRow new)
+at_row_by (Ok found) old new columns asked cols same case places few = λ yes. record {
+  places = subst (λ (a : AskedColumns). HasPlaces (case_at new).columns a new.page) same (subst (λ (cs : List Column). HasPlaces cs asked new.page) (cols ∙ sym (ap (λ (c : CaseRecord). c.columns) case)) (places yes));
+  few = few yes;
+}
+at_row_by (Err e) old new columns asked cols same case places few = tt

@@ -1,7 +1,6 @@
 -- What is left of the rows, step by step.
-use Rattle.std.proofs.Common.{◌≡◌, ℕ, zero, suc, ◌+◌, ◌-◌, ◌<◌, ◌≤◌, List, [], ◌++◌, All, Bool, true, false, length, map, refl, ap, sym, subst, ◌∙◌, arith, add-one, add-zero, append-nil, append_assoc}
-use Rattle.std.specs.Prelude.{Option, Some, None, IsSome}
-use Rattle.std.specs.Option.{is_some}
+use Rattle.std.proofs.Common.{◌≡◌, ℕ, zero, suc, ◌+◌, ◌-◌, ◌<◌, ◌≤◌, List, [], ◌++◌, All, true, length, map, refl, ap, sym, subst, ◌∙◌, arith, add-one, add-zero, append-nil, append_assoc}
+use Rattle.std.specs.Prelude.{Option}
 use Rattle.outside.specs.Outside.{Names}
 use Rattle.case_file.specs.Record.{CaseRecord}
 use Rattle.liveness.specs.declared.states.ItemState.{ItemState}
@@ -14,16 +13,16 @@ use Rattle.heap_pages.specs.Found.{live_attributes, states_of}
 use Rattle.heap_pages.specs.Verdicts.{item_verdict}
 use Rattle.heap_pages.specs.declared.verdict.ItemVerdict.TheVariants.{Passes}
 use Rattle.heap_files.specs.Case.{heap_blocks, table_of}
-use Rattle.heap_check.specs.RowCursor.{rows_left, rows_unread}
+use Rattle.heap_check.specs.RowCursor.{rows_ahead, rows_unread}
 use Rattle.heap_check.specs.declared.row_roots.Roots.{Roots}
 use Rattle.heap_check.specs.RowRoots.{AreRoots}
-use Rattle.heap_check.specs.RowPages.{HasAttributes, IsFirst, IsInHand, IsSamePage, rows_given, rows_in_hand}
+use Rattle.heap_check.specs.RowPages.{HasAttributes, IsInHand, IsSamePage, rows_in_hand}
 use Rattle.heap_check.specs.RowValues.{IsThere}
 use Rattle.heap_check.proofs.Lists.{each_below-next, each_below-none, each_upto-next, each_upto-none}
 use Rattle.heap_check.specs.Rows.{block_rows, each_from, item_rows, rows_of}
 use Rattle.heap_check.specs.declared.row_page.RowPage.{RowPage}
 use Rattle.heap_check.specs.declared.rows.LiveRow.{LiveRow}
-use Rattle.heap_check.specs.declared.rows.LiveRows.{LiveRows}
+use Rattle.heap_check.specs.declared.row_cursor.RowCursor.{RowCursor}
 
 -- Places from one on
 
@@ -99,12 +98,12 @@ pub in_hand_same : (case : CaseRecord) (names : Names) (old new : RowPage) → I
 in_hand_same case names old new same at = in_hand_at case names old new old.done same at ∙ sym (parts_are case names old)
 
 -- and one of which one more is done
-pub in_hand_next : (case : CaseRecord) (names : Names) (old new : RowPage) (found : Option LiveRow) → IsSamePage old new → new.done ≡ old.done + 1 → old.done < length old.work.states.items → rows_given found ≡ item_rows case names old.block old.bytes (old.done + 1) → rows_in_hand case names old ≡ rows_given found ++ rows_in_hand case names new
-in_hand_next case names old new found same at lt gives =
+pub in_hand_next : (case : CaseRecord) (names : Names) (old new : RowPage) (rows : List LiveRow) → IsSamePage old new → new.done ≡ old.done + 1 → old.done < length old.work.states.items → item_rows case names old.block old.bytes (old.done + 1) ≡ rows → rows_in_hand case names old ≡ rows ++ rows_in_hand case names new
+in_hand_next case names old new rows same at lt gives =
     parts_are case names old
     ∙ parts_next case names old.block old.bytes old.work.states.items old.done lt
-    ∙ ap (λ (xs : List LiveRow). xs ++ rows_by_parts case names old.block old.bytes old.work.states.items (old.done + 1)) (sym gives)
-    ∙ ap (λ (xs : List LiveRow). rows_given found ++ xs) (sym (in_hand_at case names old new (old.done + 1) same at))
+    ∙ ap (λ (xs : List LiveRow). xs ++ rows_by_parts case names old.block old.bytes old.work.states.items (old.done + 1)) gives
+    ∙ ap (λ (xs : List LiveRow). rows ++ xs) (sym (in_hand_at case names old new (old.done + 1) same at))
 
 pub same_as : (a b c : RowPage) → IsSamePage a b → IsSamePage b c → IsSamePage a c
 same_as a b c first second = record {
@@ -126,24 +125,12 @@ known_same case names toast chunks old new same known = λ i first last.
       values = subst (λ (s : List ItemState). is_live_tuple (item_at s i) ≡ true → All (IsThere toast chunks) (live_attributes (table_of case names) new.bytes i)) (sym same.states) (subst (λ (p : List ℕ). is_live_tuple (item_at old.work.states.items i) ≡ true → All (IsThere toast chunks) (live_attributes (table_of case names) p i)) (sym same.bytes) here.values);
     }
 
-none_some : ◌≡◌ {A = Bool} false true → ⊥
-none_some e = cc
-
-pub none_given : (found : Option LiveRow) → is_some found ≡ false → rows_given found ≡ []
-none_given None none = refl
-none_given (Some row) none = cc
-
--- no row so far, and then one, or none
-pub first_by : (found : Option LiveRow) (before here after : List LiveRow) → before ≡ here → here ≡ rows_given found ++ after → IsSome found → IsFirst found before after
-first_by (Some r) before here after same is some = same ∙ is
-first_by None before here after same is some = absurd (none_some some)
-
 -- No row is left
 
-pub first_rows : (names : Names) (rows : LiveRows) → rows.page.work.states.items ≡ [] → rows.next ≡ 0 → rows_left names rows ≡ rows_of rows.case.now names
-unfolding rows_left rows_unread rows_of
-first_rows names rows none next =
-    ap (λ (xs : List LiveRow). xs ++ each_from (block_rows rows.case.now names) rows.next (heap_blocks rows.case.now names - rows.next)) (in_hand_done rows.case.now names rows.page (omega (arith, ap length none)))
-    ∙ ap (λ (k : ℕ). each_from (block_rows rows.case.now names) k (heap_blocks rows.case.now names - k)) next
-    ∙ ap (λ (n : ℕ). each_from (block_rows rows.case.now names) 0 n) (omega arith)
-    ∙ all_below (block_rows rows.case.now names) (heap_blocks rows.case.now names)
+pub first_rows : (names : Names) (cursor : RowCursor) → cursor.page.work.states.items ≡ [] → cursor.next ≡ 0 → rows_ahead names cursor ≡ rows_of cursor.case.now names
+unfolding rows_ahead rows_unread rows_of
+first_rows names cursor none next =
+    ap (λ (xs : List LiveRow). xs ++ each_from (block_rows cursor.case.now names) cursor.next (heap_blocks cursor.case.now names - cursor.next)) (in_hand_done cursor.case.now names cursor.page (omega (arith, ap length none)))
+    ∙ ap (λ (k : ℕ). each_from (block_rows cursor.case.now names) k (heap_blocks cursor.case.now names - k)) next
+    ∙ ap (λ (n : ℕ). each_from (block_rows cursor.case.now names) 0 n) (omega arith)
+    ∙ all_below (block_rows cursor.case.now names) (heap_blocks cursor.case.now names)

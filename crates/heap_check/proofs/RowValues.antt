@@ -1,14 +1,12 @@
 -- The values of a row's cells.
-use Rattle.std.proofs.Common.{◌≡◌, ℕ, zero, suc, ◌+◌, ◌<◌, true, false, Bor, List, [], ◌∷◌, ◌++◌, length, get_or, All, refl, ap, sym, subst, ◌∙◌, arith}
-use Rattle.std.specs.Prelude.{map, slice_get, Option, Some, None}
-use Rattle.std.specs.Option.{option_copied}
-use Rattle.std.proofs.lemmas.Bool.{cond-false}
-use Rattle.outside.specs.Adds.{each_below, one_list}
+use Rattle.std.proofs.Common.{◌≡◌, ◌⊎◌, inl, inr, ℕ, zero, suc, ◌+◌, ◌<◌, ◌≤◌, Bor, List, [], ◌∷◌, ◌++◌, length, get_or, All, refl, ap, sym, subst, ◌∙◌, arith}
+use Rattle.std.specs.Prelude.{IfSome, map, slice_get, Option, Some, None}
+use Rattle.std.specs.Option.{IsSomeAnd, option_copied}
 use Rattle.outside.specs.Outside.{Names}
-use Rattle.rel_files.specs.Relation.{IsAttached, base_of, size_of}
+use Rattle.rel_files.specs.Relation.{IsAttached}
 use Rattle.rel_files.specs.declared.relation.Relation.{Relation}
 use Rattle.key_orders.specs.declared.columns.Value.TheVariants as value
-use Rattle.std.proofs.lemmas.List.{get_or-map, length-append, length-map}
+use Rattle.std.proofs.lemmas.List.{get_or-map, get_or_append_left, get_or_push, length-map}
 use Rattle.std.proofs.lemmas.List.Elements.{All-get_or}
 use Rattle.std.proofs.lemmas.Option.{slice_get-get_or}
 use Rattle.key_orders.specs.declared.columns.ColType.{ColType}
@@ -17,39 +15,21 @@ use Rattle.varlena_attrs.specs.Forms.{Attribute}
 use Rattle.varlena_attrs.specs.Shown.{shown_at, shown_in}
 use Rattle.varlena_attrs.specs.declared.places.AttrPlace.{AttrPlace}
 use Rattle.varlena_attrs.specs.declared.places.ToastPointer.{ToastPointer}
-use Rattle.toast_chunks.specs.Pointer.{is_compressed}
 use Rattle.toast_chunks.specs.Stored.{AllStand}
-use Rattle.toast_chunks.specs.Value.{HasBytes, IsState, joined_bytes, value_of_pointer}
-use Rattle.toast_chunks.specs.declared.detoast.ToastState.{ToastState}
-use Rattle.toast_chunks.specs.declared.detoast.ToastState.TheVariants as state
 use Rattle.toast_chunks.specs.declared.map.Chunk.{Chunk}
 use Rattle.heap_check.specs.declared.row_cells.Cell.{Cell}
 use Rattle.heap_check.specs.declared.row_cells.Cell.TheVariants as cell
-use Rattle.heap_check.specs.Rows.{cell_at, cell_by, cell_of, cells_of, external_cell}
-use Rattle.heap_check.specs.RowValues.{FitTypes, FitsType, IsReadable, bytes_seen}
-use Rattle.heap_check.proofs.Lists.{each_below-next}
+use Rattle.heap_check.specs.declared.row_values.AskedColumns.{AskedColumns}
+use Rattle.heap_check.specs.declared.row_values.ValuePlace.{ValuePlace}
+use Rattle.heap_check.specs.declared.row_values.ValuePlace.TheVariants as place
+use Rattle.heap_check.specs.Rows.{cell_at, cell_by, cell_of}
+use Rattle.heap_check.specs.RowValues.{AreCellsAsked, FitAsked, FitTypes, FitsColumnAt, FitsPlace, FitsType, IsReadable, asked_cell, cell_shown, column_asked, shown_by}
+use Rattle.heap_check.proofs.RowBodies.{piece_grown}
 
 -- Values in the TOAST table
 
 pub readable_in : (names : Names) (toast : Option (Bor Relation)) (r : Bor Relation) (chunks : List Chunk) → toast ≡ Some r → IsReadable names (option_copied toast) chunks → IsAttached names r.now × AllStand names r.now chunks
 readable_in names toast r chunks e h = subst (λ (t : Option (Bor Relation)). IsReadable names (option_copied t) chunks) e h
-
--- the state is that of a whole value
-pub whole_is_plain : (chunks : List Chunk) (p : ToastPointer) (s : ToastState) (bytes : List ℕ) → s ≡ state.Whole bytes → IsState chunks p s → is_compressed p ≡ false
-whole_is_plain chunks p s bytes e h = (subst (λ (t : ToastState). IsState chunks p t) e h).1
-
-pub packed_is_compressed : (chunks : List Chunk) (p : ToastPointer) (s : ToastState) → s ≡ state.Packed → IsState chunks p s → is_compressed p ≡ true
-packed_is_compressed chunks p s e h = (subst (λ (t : ToastState). IsState chunks p t) e h).1
-
-pub whole_has : (s : ToastState) (bytes value : List ℕ) → s ≡ state.Whole bytes → HasBytes s value → bytes ≡ value
-whole_has s bytes value e h = subst (λ (t : ToastState). HasBytes t value) e h
-
--- a whole value that isn't compressed is the cell of its bytes
-pub whole_cell : (names : Names) (toast : Option (Bor Relation)) (r : Bor Relation) (chunks : List Chunk) (p : ToastPointer) (bytes : List ℕ) → toast ≡ Some r → is_compressed p ≡ false → bytes ≡ value_of_pointer names r.now chunks p → ◌≡◌ {A = Option Cell} (Some (cell.Held (value.Bytes bytes))) (Some (external_cell (bytes_seen names (option_copied toast) chunks p) p))
-whole_cell names toast r chunks p bytes e plain is =
-    let seen : bytes_seen names (option_copied toast) chunks p ≡ joined_bytes names (base_of r.now) (size_of r.now) chunks p = ap (λ (t : Option (Bor Relation)). bytes_seen names (option_copied t) chunks p) e in
-    let same : bytes ≡ bytes_seen names (option_copied toast) chunks p = is ∙ sym seen in
-    ap (λ (b : List ℕ). Some (cell.Held (value.Bytes b))) same ∙ ap (λ (c : Cell). Some c) (sym (cond-false _ _ _ plain))
 
 -- Each column
 
@@ -86,7 +66,7 @@ there_at P body places k e lt all =
     let long : length (shown_in body places) ≡ length places = length-map places (shown_at body) in
     subst P (get_or-map (shown_at body) places k e (shown_at body e) lt) (All-get_or P (shown_in body places) k (shown_at body e) (omega (arith, lt, long)) all)
 
-cell_is : (bytes : ToastPointer → List ℕ) (columns : List Column) (body : List ℕ) (places : List AttrPlace) (k : ℕ) (d : Column) (e : AttrPlace) → k < length columns → k < length places → cell_at bytes columns (shown_in body places) k ≡ cell_of bytes (get_or columns k d) (shown_at body (get_or places k e)) ∷ []
+pub cell_is : (bytes : ToastPointer → List ℕ) (columns : List Column) (body : List ℕ) (places : List AttrPlace) (k : ℕ) (d : Column) (e : AttrPlace) → k < length columns → k < length places → cell_at bytes columns (shown_in body places) k ≡ cell_of bytes (get_or columns k d) (shown_at body (get_or places k e)) ∷ []
 unfolding cell_at
 cell_is bytes columns body places k d e lt within =
     let long : length (shown_in body places) ≡ length places = length-map places (shown_at body) in
@@ -96,25 +76,90 @@ cell_is bytes columns body places k d e lt within =
     ap (λ (c : Option Column). cell_by bytes c (slice_get (shown_in body places) k)) column
     ∙ ap (λ (o : Option Attribute). cell_by bytes (Some (get_or columns k d)) o) (at ∙ ap (λ (x : Attribute). Some x) a)
 
-some_cell : (c d : Cell) → ◌≡◌ {A = Option Cell} (Some c) (Some d) → c ≡ d
-some_cell c d e = cc
+-- The columns that are asked for
 
--- one more cell
-pub next_cell : (bytes : ToastPointer → List ℕ) (columns : List Column) (body : List ℕ) (places : List AttrPlace) (k : ℕ) (d : Column) (e : AttrPlace) (found : Option Cell) (c : Cell) (old new : List Cell) → k < length columns → k < length places → old ≡ each_below one_list (cell_at bytes columns (shown_in body places)) k → found ≡ Some (cell_of bytes (get_or columns k d) (shown_at body (get_or places k e))) → found ≡ Some c → new ≡ old ++ c ∷ [] → new ≡ each_below one_list (cell_at bytes columns (shown_in body places)) (k + 1)
-next_cell bytes columns body places k d e found c old new lt within so_far is was now =
-    let same : c ≡ cell_of bytes (get_or columns k d) (shown_at body (get_or places k e)) = some_cell _ _ (sym was ∙ is) in
-    now ∙ ap (λ (cells : List Cell). cells ++ c ∷ []) so_far
-    ∙ ap (λ (x : Cell). each_below one_list (cell_at bytes columns (shown_in body places)) k ++ x ∷ []) same
-    ∙ ap (λ (cells : List Cell). each_below one_list (cell_at bytes columns (shown_in body places)) k ++ cells) (sym (cell_is bytes columns body places k d e lt within))
-    ∙ sym (each_below-next (cell_at bytes columns (shown_in body places)) k)
+-- bytes that are joined later change no cell
+grown_cell : (page joined more : List ℕ) (o : Option Column) (at : ValuePlace) → FitsColumnAt (length joined) o at → shown_by page (joined ++ more) o at ≡ shown_by page joined o at
+grown_cell page joined more None at fits = absurd fits
+grown_cell page joined more (Some column) place.Null fits = refl
+grown_cell page joined more (Some column) place.Missing fits = refl
+grown_cell page joined more (Some column) (place.OnPage start len) fits = refl
+grown_cell page joined more (Some column) (place.Joined start len) fits = ap (λ (b : List ℕ). cell.Held (value.Bytes b) ∷ []) (piece_grown start len joined more fits.0)
+grown_cell page joined more (Some column) place.Packed fits = refl
 
-pub length_next : (old new : List Cell) (c : Cell) (k : ℕ) → length old ≡ k → new ≡ old ++ c ∷ [] → length new ≡ k + 1
-length_next old new c k was now = ap (λ (cells : List Cell). length cells) now ∙ length-append old (c ∷ []) ∙ ap (λ (n : ℕ). n + 1) was
+grown_fit : (joined more : ℕ) (o : Option Column) (at : ValuePlace) → joined ≤ more → FitsColumnAt joined o at → FitsColumnAt more o at
+grown_fit joined more None at le fits = fits
+grown_fit joined more (Some column) place.Null le fits = tt
+grown_fit joined more (Some column) place.Missing le fits = tt
+grown_fit joined more (Some column) (place.OnPage start len) le fits = fits
+grown_fit joined more (Some column) (place.Joined start len) le fits = let h = fits.0 in (omega (arith, h, le), fits.1)
+grown_fit joined more (Some column) place.Packed le fits = fits
 
--- a cell that is there isn't missing
-pub none_missing : (found : Option Cell) (c : Cell) → found ≡ None → found ≡ Some c → ⊥
-none_missing found c none is = cc
+before_or_last : (j k : ℕ) → j < k + 1 → (j < k) ⊎ (j ≡ k)
+before_or_last j k lt = search (arith, inl, inr)
 
-pub all_cells : (bytes : ToastPointer → List ℕ) (columns : List Column) (list : List Attribute) (k : ℕ) (cells : List Cell) → k ≡ length columns → cells ≡ each_below one_list (cell_at bytes columns list) k → ◌≡◌ {A = Option (List Cell)} (Some cells) (Some (cells_of bytes columns list))
-unfolding cells_of
-all_cells bytes columns list k cells end is = ap (λ (x : List Cell). Some x) (is ∙ ap (each_below one_list (cell_at bytes columns list)) end)
+place_before : (places : List ValuePlace) (p : ValuePlace) (j k : ℕ) → length places ≡ k → j < k → get_or (places ++ p ∷ []) j place.Null ≡ get_or places j place.Null
+place_before places p j k long lt = get_or_append_left places (p ∷ []) place.Null j (omega (arith, long, lt))
+
+place_last : (places : List ValuePlace) (p : ValuePlace) (k : ℕ) → length places ≡ k → get_or (places ++ p ∷ []) k place.Null ≡ p
+place_last places p k long = get_or_push places p place.Null k long
+
+-- one more place
+pub next_fit : (joined more : ℕ) (columns : List Column) (asked : AskedColumns) (places : List ValuePlace) (p : ValuePlace) (k : ℕ) → length places ≡ k → joined ≤ more → FitAsked joined columns asked places k → FitsColumnAt more (slice_get columns (column_asked asked k)) p → FitAsked more columns asked (places ++ p ∷ []) (k + 1)
+next_fit joined more columns asked places p k long le so_far fits j lt =
+    let cases = before_or_last j k lt in
+    elim cases [
+      | inl before ↦
+          subst (FitsColumnAt more (slice_get columns (column_asked asked j))) (sym (place_before places p j k long before))
+          (grown_fit joined more (slice_get columns (column_asked asked j)) (get_or places j place.Null) le (so_far j before))
+      | inr last ↦
+          subst (λ (i : ℕ). FitsColumnAt more (slice_get columns (column_asked asked i)) (get_or (places ++ p ∷ []) i place.Null)) (sym last)
+          (subst (FitsColumnAt more (slice_get columns (column_asked asked k))) (sym (place_last places p k long)) fits)
+    ]
+
+pub next_asked : (page joined more : List ℕ) (columns : List Column) (asked : AskedColumns) (places : List ValuePlace) (p : ValuePlace) (cells : ℕ → List Cell) (k : ℕ) → length places ≡ k → FitAsked (length joined) columns asked places k → AreCellsAsked page joined columns asked places cells k → shown_by page (joined ++ more) (slice_get columns (column_asked asked k)) p ≡ cells (column_asked asked k) → AreCellsAsked page (joined ++ more) columns asked (places ++ p ∷ []) cells (k + 1)
+unfolding asked_cell
+next_asked page joined more columns asked places p cells k long fits so_far is j lt =
+    let cases = before_or_last j k lt in
+    elim cases [
+      | inl before ↦
+          ap (shown_by page (joined ++ more) (slice_get columns (column_asked asked j))) (place_before places p j k long before)
+          ∙ grown_cell page joined more (slice_get columns (column_asked asked j)) (get_or places j place.Null) (fits j before)
+          ∙ so_far j before
+      | inr last ↦
+          subst (λ (i : ℕ). shown_by page (joined ++ more) (slice_get columns (column_asked asked i)) (get_or (places ++ p ∷ []) i place.Null) ≡ cells (column_asked asked i)) (sym last)
+          (ap (shown_by page (joined ++ more) (slice_get columns (column_asked asked k))) (place_last places p k long) ∙ is)
+    ]
+
+-- no place yet
+pub none_fit : (joined : ℕ) (columns : List Column) (asked : AskedColumns) (places : List ValuePlace) → FitAsked joined columns asked places 0
+none_fit joined columns asked places k lt = absurd (omega (arith, lt))
+
+pub none_asked : (page joined : List ℕ) (columns : List Column) (asked : AskedColumns) (places : List ValuePlace) (cells : ℕ → List Cell) → AreCellsAsked page joined columns asked places cells 0
+none_asked page joined columns asked places cells k lt = absurd (omega (arith, lt))
+
+-- a value that is there isn't missing
+pub none_missing : (found : Option ValuePlace) (P : ValuePlace → Type 0) → found ≡ None → IsSomeAnd found P → ⊥
+none_missing found P none is = subst (λ (o : Option ValuePlace). IsSomeAnd o P) none is
+
+pub found_is : (found : Option ValuePlace) (p : ValuePlace) (P : ValuePlace → Type 0) → found ≡ Some p → IsSomeAnd found P → P p
+found_is found p P is has = subst (λ (o : Option ValuePlace). IsSomeAnd o P) is has
+
+pub found_fits : (found : Option ValuePlace) (p : ValuePlace) (P : ValuePlace → Type 0) → found ≡ Some p → IfSome found P → P p
+found_fits found p P is has = subst (λ (o : Option ValuePlace). IfSome o P) is has
+
+-- the column that has a number
+pub column_is : (columns : List Column) (a : ℕ) (d : Column) → a < length columns → slice_get columns a ≡ Some (get_or columns a d)
+column_is columns a d lt = slice_get-get_or columns a d lt
+
+-- the cell of a column whose value was found at a place is the cell of its attribute
+pub shown_is : (bytes : ToastPointer → List ℕ) (page joined : List ℕ) (columns : List Column) (body : List ℕ) (attrs : List AttrPlace) (a : ℕ) (d : Column) (e : AttrPlace) (found : Option ValuePlace) (p : ValuePlace) → a < length columns → a < length attrs → found ≡ Some p
+    → IsSomeAnd found (λ at. cell_shown page joined (get_or columns a d) at ≡ cell_of bytes (get_or columns a d) (shown_at body (get_or attrs a e))) → shown_by page joined (slice_get columns a) p ≡ cell_at bytes columns (shown_in body attrs) a
+shown_is bytes page joined columns body attrs a d e found p lt within is has =
+    ap (λ (o : Option Column). shown_by page joined o p) (column_is columns a d lt)
+    ∙ ap (λ (c : Cell). c ∷ []) (found_is found p (λ at. cell_shown page joined (get_or columns a d) at ≡ cell_of bytes (get_or columns a d) (shown_at body (get_or attrs a e))) is has)
+    ∙ sym (cell_is bytes columns body attrs a d e lt within)
+
+pub fits_is : (joined : ℕ) (columns : List Column) (a : ℕ) (d : Column) (found : Option ValuePlace) (p : ValuePlace) → a < length columns → found ≡ Some p → IfSome found (λ at. FitsPlace joined (get_or columns a d).ctype at) → FitsColumnAt joined (slice_get columns a) p
+fits_is joined columns a d found p lt is has =
+    subst (λ (o : Option Column). FitsColumnAt joined o p) (sym (column_is columns a d lt)) (found_fits found p (λ at. FitsPlace joined (get_or columns a d).ctype at) is has)

@@ -4,4 +4,5 @@ pub mod RowRoots
 pub mod RowValues
 pub mod RowPages
 pub mod RowCursor
+pub mod LiveRows
 pub mod RowLaws

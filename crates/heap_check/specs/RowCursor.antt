@@ -1,5 +1,5 @@
--- The cursor over the live rows of a heap: what it stands for, and what is left of the rows.
-use Rattle.std.specs.Prelude.{◌≡◌, ◌-◌, ◌≤◌, List, [], ◌++◌, length, Option, Some, None}
+-- The cursor over the live rows of a heap: what it stands for, which rows are ahead of it, and which is the next.
+use Rattle.std.specs.Prelude.{◌≡◌, ℕ, ◌-◌, ◌<◌, ◌≤◌, true, List, [], ◌∷◌, ◌++◌, length, Option, Some, None}
 use Rattle.outside.specs.Outside.{Names}
 use Rattle.case_file.specs.Record.{CaseRecord}
 use Rattle.heap_files.specs.declared.files.SoundHeap.{SoundHeap}
@@ -7,45 +7,68 @@ use Rattle.heap_files.specs.Case.{heap_blocks, log_files_in}
 use Rattle.heap_files.specs.Found.{IsQuiet}
 use Rattle.heap_files.specs.CaseLogs.{log_files_kept}
 use Rattle.heap_files.specs.Files.{BelongTo, IsSoundHeapOf, chunks_in, files_of, toast_in}
+use Rattle.heap_check.specs.declared.row_cursor.RowCursor.{RowCursor}
+use Rattle.heap_check.specs.declared.row_cursor.RowPlace.{RowPlace}
+use Rattle.heap_check.specs.declared.row_values.AskedColumns.{AskedColumns}
+use Rattle.heap_check.specs.declared.row_values.AskedColumns.TheVariants as asked
 use Rattle.heap_check.specs.declared.rows.LiveRow.{LiveRow}
-use Rattle.heap_check.specs.declared.rows.LiveRows.{LiveRows}
-use Rattle.heap_check.specs.RowPages.{IsInHand, rows_in_hand}
+use Rattle.heap_check.specs.RowPages.{HasPlaces, IsInHand, IsNext, rows_in_hand}
+use Rattle.heap_check.specs.RowValues.{AsksColumns}
 use Rattle.heap_check.specs.Rows.{block_rows, each_from}
 
--- the case whose rows they are, and its heap
-abbrev pub case_of : LiveRows → CaseRecord
-case_of rows = rows.case.now
+-- the case whose rows they are, its heap, and the columns that are asked for
+abbrev pub case_at : RowCursor → CaseRecord
+case_at cursor = cursor.case.now
 
-abbrev pub heap_of : LiveRows → SoundHeap
-heap_of rows = rows.heap.now
+abbrev pub heap_at : RowCursor → SoundHeap
+heap_at cursor = cursor.heap.now
 
--- the cursor was made for a case and its heap, in which nothing is found in these files, and what it has in hand is from them
-pub record AreRowsOf (names : Names) (rows : LiveRows) : Type 0 where
-  pub heap : IsSoundHeapOf (case_of rows) names (heap_of rows)
-  pub belong : BelongTo (case_of rows) (files_of (heap_of rows))
-  pub quiet : IsQuiet (case_of rows) names
-  pub logs : log_files_kept rows.logs ≡ log_files_in (case_of rows)
-  pub few : length rows.page.work.states.items ≤ 2042
-  pub hand : IsInHand (case_of rows) names (toast_in (heap_of rows)) (chunks_in (heap_of rows)) rows.page
+abbrev pub asked_at : RowCursor → AskedColumns
+asked_at cursor = cursor.asked
+
+-- these are the numbers of the columns that are asked for
+abbrev pub AreAsked : List ℕ → AskedColumns → Type 0
+AreAsked columns asked.All = ⊥
+AreAsked columns (asked.Only numbers) = numbers.items ≡ columns
+
+-- the cursor was made for a case and its heap, in which nothing is found in these files, and what it has in hand is
+-- from them
+pub record IsCursorOf (names : Names) (cursor : RowCursor) : Type 0 where
+  pub heap : IsSoundHeapOf (case_at cursor) names (heap_at cursor)
+  pub belong : BelongTo (case_at cursor) (files_of (heap_at cursor))
+  pub quiet : IsQuiet (case_at cursor) names
+  pub logs : log_files_kept cursor.logs ≡ log_files_in (case_at cursor)
+  pub asked : AsksColumns (length (case_at cursor).columns) cursor.asked
+  pub few : length cursor.page.work.states.items ≤ 2042
+  pub hand : IsInHand (case_at cursor) names (toast_in (heap_at cursor)) (chunks_in (heap_at cursor)) cursor.page
+  pub next : cursor.page.found ≡ true → IsNext (case_at cursor) names cursor.asked cursor.page
 
 -- the rows of the blocks that weren't read yet
-unfoldable pub rows_unread : Names → LiveRows → List LiveRow
-rows_unread names rows = each_from (block_rows (case_of rows) names) rows.next (heap_blocks (case_of rows) names - rows.next)
+unfoldable pub rows_unread : Names → RowCursor → List LiveRow
+rows_unread names cursor =
+    each_from (block_rows (case_at cursor) names) cursor.next (heap_blocks (case_at cursor) names - cursor.next)
 
--- the rows that are left
-unfoldable pub rows_left : Names → LiveRows → List LiveRow
-rows_left names rows = rows_in_hand (case_of rows) names rows.page ++ rows_unread names rows
+-- the rows that are ahead
+unfoldable pub rows_ahead : Names → RowCursor → List LiveRow
+rows_ahead names cursor = rows_in_hand (case_at cursor) names cursor.page ++ rows_unread names cursor
 
--- none of the rows of the page in hand is left
-abbrev pub IsPageDone : Names → LiveRows → Type 0
-IsPageDone names rows = rows_in_hand (case_of rows) names rows.page ≡ []
+-- none of the rows of the page in hand is ahead
+abbrev pub IsPageDone : Names → RowCursor → Type 0
+IsPageDone names cursor = rows_in_hand (case_at cursor) names cursor.page ≡ []
 
--- where no row was given, none of the page in hand is left
-abbrev pub IsPageDoneBy : Names → Option LiveRow → LiveRows → Type 0
-IsPageDoneBy names (Some row) rows = Unit {0}
-IsPageDoneBy names None rows = IsPageDone names rows
+-- the cursor has found a row, whose values can be lent
+pub record IsAtRow (cursor : RowCursor) : Type 0 where
+  pub places : HasPlaces (case_at cursor).columns cursor.asked cursor.page
+  pub few : cursor.page.done < 2042
 
--- a cursor over the same heap
-pub record IsSameHeap (before after : LiveRows) : Type 0 where
-  pub case : case_of after ≡ case_of before
-  pub heap : heap_of after ≡ heap_of before
+-- the place is that of the first of these rows; none exactly where there are none
+abbrev pub IsPlaceOfFirst : Option RowPlace → List LiveRow → Type 0
+IsPlaceOfFirst (Some place) (row ∷ rows) = (place.tid ≡ row.tid) × (place.root ≡ row.root)
+IsPlaceOfFirst (Some place) [] = ⊥
+IsPlaceOfFirst None rows = rows ≡ []
+
+-- a cursor over the same heap that is asked for the same columns
+pub record IsSameCursor (before after : RowCursor) : Type 0 where
+  pub case : case_at after ≡ case_at before
+  pub heap : heap_at after ≡ heap_at before
+  pub asked : asked_at after ≡ asked_at before

@@ -1,6 +1,6 @@
 -- The page of a heap from which rows are taken.
-use Rattle.std.specs.Prelude.{◌≡◌, ℕ, ◌+◌, ◌-◌, ◌≤◌, true, false, List, [], ◌∷◌, All, length, map, Option, Some, None}
-use Rattle.std.specs.Option.{option_copied}
+use Rattle.std.specs.Prelude.{◌≡◌, ℕ, ◌+◌, ◌-◌, ◌<◌, ◌≤◌, true, false, List, [], ◌∷◌, All, drop, length, map, take}
+use Rattle.std.specs.Prelude.{slice_get, Option, Some, None}
 use Rattle.outside.specs.Outside.{Names}
 use Rattle.page_layout.specs.Page.{item_of}
 use Rattle.rel_files.specs.declared.relation.Relation.{Relation}
@@ -9,11 +9,12 @@ use Rattle.case_file.specs.Record.{CaseRecord}
 use Rattle.case_file.specs.declared.case.Column.{Column}
 use Rattle.tuple_head.specs.Head.{has_misplaced_attributes}
 use Rattle.varlena_attrs.specs.Forms.{Attribute}
+use Rattle.varlena_attrs.specs.Shown.{IsWithin, shown_in}
+use Rattle.varlena_attrs.specs.declared.places.AttrPlace.{AttrPlace}
+use Rattle.heap_tuples.specs.Places.{IsTupleAt, tuple_at}
 use Rattle.heap_tuples.specs.Tuples.{IsReadAs, attributes_in}
-use Rattle.varlena_attrs.specs.declared.places.ToastPointer.{ToastPointer}
 use Rattle.liveness.specs.declared.states.ItemState.{ItemState}
 use Rattle.hot_chains.specs.Chains.{is_live_tuple, item_at}
-use Rattle.heap_tuples.specs.Places.{IsTupleAt, tuple_at}
 use Rattle.toast_chunks.specs.declared.map.Chunk.{Chunk}
 use Rattle.heap_pages.specs.declared.verdict.ItemVerdict.TheVariants.{Passes}
 use Rattle.heap_pages.specs.Broken.{AllPass}
@@ -21,19 +22,33 @@ use Rattle.heap_pages.specs.Found.{live_attributes, states_of}
 use Rattle.heap_pages.specs.Table.{Table}
 use Rattle.heap_pages.specs.Verdicts.{head_at, item_verdict}
 use Rattle.heap_files.specs.Case.{table_of}
+use Rattle.heap_check.specs.declared.row_cells.Cell.{Cell}
+use Rattle.heap_check.specs.declared.row_page.BodyPlace.{BodyPlace}
 use Rattle.heap_check.specs.declared.row_page.RowPage.{RowPage}
+use Rattle.heap_check.specs.declared.row_values.AskedColumns.{AskedColumns}
 use Rattle.heap_check.specs.declared.rows.LiveRow.{LiveRow}
-use Rattle.heap_check.specs.declared.row_values.RowValues.{RowValues}
 use Rattle.heap_check.specs.RowFits.{FitColumns}
 use Rattle.heap_check.specs.RowRoots.{AreRoots}
-use Rattle.heap_check.specs.RowValues.{IsThere, bytes_seen}
-use Rattle.heap_check.specs.Rows.{each_from, item_rows, toast_bytes}
+use Rattle.heap_check.specs.RowValues.{FitAsked, FitTypes, IsThere, asked_cell, column_asked, count_asked}
+use Rattle.heap_check.specs.Rows.{each_from, item_rows, row_at}
+
+-- Attributes
 
 -- the item is a tuple, whose attributes are these
 pub record HasAttributes (columns : List ColType) (page : List ℕ) (i : ℕ) (list : List Attribute) : Type 0 where
   pub tuple : IsTupleAt page i
   pub header : has_misplaced_attributes (item_of page i).len (head_at page i) ≡ false
   pub read : IsReadAs (attributes_in columns (tuple_at page i)) list
+
+-- the body of a tuple that lies at this place
+abbrev pub body_at : List ℕ → BodyPlace → List ℕ
+body_at page at = take at.len (drop at.start page)
+
+-- a body on the page, whose attributes lie at these places in it and fit the columns
+pub record IsBody (columns : List ColType) (page : List ℕ) (attrs : List AttrPlace) (at : BodyPlace) : Type 0 where
+  pub inside : at.start + at.len ≤ 8192
+  pub within : All (IsWithin at.len) attrs
+  pub fit : FitTypes columns (shown_in (body_at page at) attrs)
 
 -- States
 
@@ -44,12 +59,17 @@ AreStates table block page states = AllPass table block page → states ≡ stat
 -- The page in hand
 
 -- what is known of item i of the page in hand: its state, its root, and if it is live its values
-pub record IsKnown (case : CaseRecord) (names : Names) (toast : Option Relation) (chunks : List Chunk) (page : RowPage) (i : ℕ) : Type 0 where
+pub record IsKnown
+    (case : CaseRecord) (names : Names) (toast : Option Relation) (chunks : List Chunk) (page : RowPage) (i : ℕ)
+    : Type 0 where
   pub states : page.work.states.items ≡ states_of (table_of case names) page.bytes
   pub roots : AreRoots page.block page.work.states.items page.roots
   pub verdict : item_verdict (table_of case names) page.bytes i ≡ Passes (item_at page.work.states.items i)
-  pub attributes : is_live_tuple (item_at page.work.states.items i) ≡ true → HasAttributes (map (λ c. c.ctype) case.columns) page.bytes i (live_attributes (table_of case names) page.bytes i)
-  pub values : is_live_tuple (item_at page.work.states.items i) ≡ true → All (IsThere toast chunks) (live_attributes (table_of case names) page.bytes i)
+  pub attributes : is_live_tuple (item_at page.work.states.items i) ≡ true
+      → HasAttributes (map (λ c. c.ctype) case.columns) page.bytes i
+      (live_attributes (table_of case names) page.bytes i)
+  pub values : is_live_tuple (item_at page.work.states.items i) ≡ true
+      → All (IsThere toast chunks) (live_attributes (table_of case names) page.bytes i)
 
 -- the page is a case's, and all its items are known
 abbrev pub IsInHand : CaseRecord → Names → Option Relation → List Chunk → RowPage → Type 0
@@ -61,15 +81,43 @@ unfoldable pub rows_in_hand : CaseRecord → Names → RowPage → List LiveRow
 rows_in_hand case names page =
     each_from (item_rows case names page.block page.bytes) (page.done + 1) (length page.work.states.items - page.done)
 
+-- A row that was found
+
+-- the cells of a row at a column, one or none
+abbrev pub cell_or_none : Option Cell → List Cell
+cell_or_none (Some c) = c ∷ []
+cell_or_none None = []
+
+-- the cell of the k-th column that is asked for, by where its value was found
+abbrev pub cell_found : List Column → AskedColumns → RowPage → ℕ → List Cell
+cell_found columns asked page k =
+    asked_cell page.bytes page.values.joined.items columns asked page.values.places.items k
+
+-- places were found of all columns that are asked for, at which these may have values
+pub record HasPlaces (columns : List Column) (asked : AskedColumns) (page : RowPage) : Type 0 where
+  pub found : page.found ≡ true
+  pub count : length page.values.places.items ≡ count_asked (length columns) asked
+  pub fit : FitAsked (length page.values.joined.items) columns asked page.values.places.items
+      (count_asked (length columns) asked)
+
+-- the item gives one row, and the values that were found are cells of it
+pub record IsRowFound (case : CaseRecord) (names : Names) (asked : AskedColumns) (page : RowPage) (i : ℕ) : Type 0 where
+  pub one : item_rows case names page.block page.bytes i ≡ row_at case names page.block page.bytes i ∷ []
+  pub columns : length (row_at case names page.block page.bytes i).cells ≡ length case.columns
+  pub cells : (k : ℕ) → k < count_asked (length case.columns) asked → cell_found case.columns asked page k
+      ≡ cell_or_none (slice_get (row_at case names page.block page.bytes i).cells (column_asked asked k))
+
+-- the next item that isn't done is that of the row that was found
+pub record IsNext (case : CaseRecord) (names : Names) (asked : AskedColumns) (page : RowPage) : Type 0 where
+  pub inside : page.done < length page.work.states.items
+  pub row : IsRowFound case names asked page (page.done + 1)
+
+-- Rows
+
 -- the first of them with the others after it; none exactly where none was left
 abbrev pub IsFirst : Option LiveRow → List LiveRow → List LiveRow → Type 0
 IsFirst (Some row) before after = before ≡ row ∷ after
 IsFirst None before after = (before ≡ []) × (after ≡ [])
-
--- one row or none
-abbrev pub rows_given : Option LiveRow → List LiveRow
-rows_given (Some row) = row ∷ []
-rows_given None = []
 
 -- a row has places in its block, and one cell for each column, which fits it
 pub record IsRow (columns : List Column) (row : LiveRow) : Type 0 where
@@ -77,14 +125,9 @@ pub record IsRow (columns : List Column) (row : LiveRow) : Type 0 where
   pub root : 1 ≤ row.root.item
   pub cells : FitColumns columns row.cells
 
--- the page after a look at its tuples: only the memory for attributes and how many items are done may differ
+-- the page after a look at its tuples: only the memory for attributes and values and how many items are done may differ
 pub record IsSamePage (old new : RowPage) : Type 0 where
   pub block : new.block ≡ old.block
   pub bytes : new.bytes ≡ old.bytes
   pub states : new.work.states.items ≡ old.work.states.items
   pub roots : new.roots ≡ old.roots
-
--- the values are those of a case: its columns, and the bytes that stand in its TOAST table
-pub record AreValuesOf (case : CaseRecord) (names : Names) (values : RowValues) : Type 0 where
-  pub columns : values.columns.now ≡ case.columns
-  pub bytes : (p : ToastPointer) → bytes_seen names (option_copied values.toast) values.chunks.now p ≡ toast_bytes case names p

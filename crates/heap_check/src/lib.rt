@@ -2,6 +2,7 @@
 #![tactic(auto)]
 
 mod row_cells;
+mod row_cursor;
 mod row_laws;
 mod row_page;
 mod row_roots;
@@ -13,6 +14,7 @@ mod tests;
 pub use heap_files::{HeapFiles, SoundHeap, check_heap};
 pub use heap_pages::{judge_page, lone_pages_are_judged};
 pub use reports::{CheckFault, PageFault, Which};
-pub use row_cells::{Cell, Cells};
+pub use row_cells::{Cell, CellRef, Cells};
+pub use row_cursor::{RowCursor, RowPlace};
 pub use row_laws::rows_are_live_tuples;
 pub use rows::{LiveRow, LiveRows};

@@ -1,7 +1,8 @@
 //! The cells of a row.
-ghost use Rattle.std.specs.Prelude.{◌≡◌, ◌∷◌, [], ◌++◌, OnErr, OnOk};
+ghost use Rattle.std.specs.Prelude.{◌≡◌, ◌∷◌, [], ◌++◌, IfOk, OnErr, OnOk};
+ghost use Rattle.heap_check.specs.RowValues.{cell_lent};
 
-use key_orders::Value;
+use key_orders::{Value, ValueRef};
 use outside::NoMemory;
 use std::alloc::Global;
 use std::marker::Model;
@@ -13,6 +14,27 @@ pub enum Cell {
     Held(Value),
     /// A compressed value, in place or in the TOAST table: it isn't unpacked.
     Packed,
+}
+
+/// The same, lent.
+#[derive(Clone, Copy, Debug)]
+pub enum CellRef<'p> {
+    /// A value as it lies on a page, in the case, or among bytes that were joined.
+    Held(ValueRef<'p>),
+    /// A compressed value.
+    Packed,
+}
+
+impl CellRef<'_> {
+    /// The same, with memory of its own.
+    pub fn to_cell(self, alloc: Global) -> Result<Cell, NoMemory>
+        ensures { IfOk result (λ c. c ≡ cell_lent self.entry) }
+    {
+        match self {
+            CellRef::Held(v) => Ok(Cell::Held(v.to_value(alloc)?)),
+            CellRef::Packed => Ok(Cell::Packed),
+        }
+    }
 }
 
 /// The cells of a row, one for each column of its table. Contracts see the list of the cells. It keeps

@@ -1,116 +1,280 @@
-//! The values of a live tuple as cells of its row.
-ghost use Rattle.std.specs.Prelude.{◌≡◌, ◌<◌, ◌≤◌, All, None, Some, length, map, IfOk, IfSome};
-ghost use Rattle.key_orders.specs.Types.{fixed_length};
-ghost use Rattle.std.specs.Option.{option_copied};
+//! Where the values of a live tuple stand that are asked for.
+ghost use Rattle.std.specs.Prelude.{◌↔◌, ◌≡◌, ◌+◌, ◌<◌, ◌≤◌, All, List, ℕ, None, Some, length, map, true, [], ◌∷◌};
+ghost use Rattle.std.specs.Prelude.{◌++◌, IfOk, IfSome, OnOk};
+ghost use Rattle.std.specs.Option.{IsSomeAnd, option_copied};
 ghost use Rattle.outside.specs.Outside.{Asked, IfTold, Tells};
-ghost use Rattle.varlena_attrs.specs.Shown.{IsWithin, shown_at, shown_in};
-ghost use Rattle.heap_check.specs.Rows.{cell_of, cells_of, external_cell};
-ghost use Rattle.heap_check.specs.RowFits.{FitColumns, FitsColumn, HasMissing};
-ghost use Rattle.heap_check.specs.RowValues.{FitTypes, FitsType, IsReadable, IsThere, IsWholeIn, bytes_seen};
+ghost use Rattle.key_orders.specs.Types.{fixed_length};
+ghost use Rattle.key_orders.specs.declared.columns.ColType.{ColType as ColumnType};
+ghost use Rattle.case_file.specs.declared.case.Column.{Column as TableColumn};
+ghost use Rattle.varlena_attrs.specs.Shown.{IsWithin, shown_at};
+ghost use Rattle.toast_chunks.specs.InHand.{Grows};
+ghost use Rattle.heap_check.specs.declared.row_values.AskedColumns.TheVariants as asked;
+ghost use Rattle.heap_check.specs.Rows.{cell_at, cell_of, external_cell};
+ghost use Rattle.heap_check.specs.RowValues.{AreCellsAsked, FitAsked, FitTypes, FitsPlace, FitsType, IsReadable};
+ghost use Rattle.heap_check.specs.RowValues.{IsThere};
+ghost use Rattle.heap_check.specs.RowValues.{AsksColumns, IsWholeIn, attributes_seen, body_in, bytes_seen};
+ghost use Rattle.heap_check.specs.RowValues.{cell_shown, count_asked};
 
-use crate::row_cells::{Cell, Cells};
 use case_file::Column;
-use key_orders::Value;
-use outside::Files;
+use outside::{Files, NoMemory};
 use rel_files::Relation;
 use reports::PageFault;
 use std::alloc::Global;
-use toast_chunks::{ToastFault, ToastMap, ToastState, value};
-use varlena_attrs::{AttrPlace, ToastPointer, pointer_at, value_of};
+use toast_chunks::{ChunkReader, ToastFault, ToastMap, is_compressed, push_value};
+use varlena_attrs::{AttrPlace, ToastPointer, pointer_at};
 
-/// Where the values of a table's rows stand: its columns, and its TOAST table, where it has one, with the
-/// live chunks of that.
+/// Which columns of a table are asked for: all, or those of these numbers, counted from 0.
+#[derive(Drop)]
+pub(crate) enum AskedColumns {
+    All,
+    Only(Vec<u16>),
+}
+
+impl AskedColumns {
+    ghost use Rattle.heap_check.specs.RowValues.{column_asked, count_asked};
+
+    /// Whether all are.
+    pub(crate) fn is_all(&self) -> bool
+        ensures { (result ≡ true) ↔ (self.now ≡ asked.All) }
+    {
+        match self {
+            AskedColumns::All => true,
+            AskedColumns::Only(_) => false,
+        }
+    }
+
+    /// How many of so many columns they are.
+    pub(crate) fn count(&self, columns: usize) -> usize
+        ensures { result ≡ count_asked columns self.now }
+    {
+        match self {
+            AskedColumns::All => columns,
+            AskedColumns::Only(numbers) => numbers.len(),
+        }
+    }
+
+    /// The number of the k-th of them, counted from 0.
+    pub(crate) fn column(&self, k: usize) -> usize
+        ensures { result ≡ column_asked self.now k }
+    {
+        match self {
+            AskedColumns::All => k,
+            AskedColumns::Only(numbers) => match numbers.get(k) {
+                Some(number) => *number as usize,
+                None => 0,
+            },
+        }
+    }
+}
+
+/// Where the values of a table's rows come from: its columns, its TOAST table, where it has one, with the
+/// live chunks of that, and the columns that are asked for.
 #[derive(Clone, Copy)]
-pub(crate) struct RowValues<'a> {
+pub(crate) struct ValueSources<'a> {
     pub(crate) columns: &'a [Column],
     pub(crate) toast: Option<&'a Relation>,
     pub(crate) chunks: &'a ToastMap,
+    pub(crate) asked: &'a AskedColumns,
 }
 
-// The cell of a value in the TOAST table; none where its chunks aren't whole.
-fn external_cell<F: Files>(
-    alloc: Global,
-    files: &mut F,
-    values: &RowValues<'_>,
-    column: &Column,
-    p: ToastPointer,
-) -> Result<Option<Cell>, PageFault>
-    requires readable { IfTold F.seen files.old (λ names. IsReadable names (option_copied values.now.toast) values.now.chunks.now) }
-    requires varlena { fixed_length column.now.ctype ≡ None }
-    ensures fits { IfOk result (λ found. IfSome found (FitsColumn column.now)) }
-    ensures told { Tells F.seen files.old result (λ found names. IsWholeIn (option_copied values.now.toast) values.now.chunks.now p
-        → found ≡ Some (external_cell (bytes_seen names (option_copied values.now.toast) values.now.chunks.now p) p)) }
-    ensures asked { Asked F.seen files.old files.new result PageFault.ReadFault }
-{
-    let Some(toast) = values.toast else {
-        return Ok(None);
-    };
-    match value(alloc, files, toast, values.chunks, p) {
-        Ok(ToastState::Whole(bytes)) => Ok(Some(Cell::Held(Value::Bytes(bytes)))),
-        Ok(ToastState::Packed) => Ok(Some(Cell::Packed)),
-        Ok(ToastState::Broken) => Ok(None),
-        Err(ToastFault::ReadFault) => Err(PageFault::ReadFault),
-        Err(ToastFault::NoMemory) => Err(PageFault::NoMemory),
+/// A tuple whose attributes were read: its page, where its body lies there, and where they lie in the body.
+#[derive(Clone, Copy)]
+pub(crate) struct RowTuple<'p> {
+    pub(crate) page: &'p [u8; 8192],
+    pub(crate) start: usize,
+    pub(crate) len: usize,
+    pub(crate) attrs: &'p [AttrPlace],
+}
+
+impl<'p> RowTuple<'p> {
+    // Its body.
+    fn body(&self) -> &'p [u8]
+        requires { self.now.start + self.now.len ≤ 8192 }
+        ensures bytes { result.now ≡ body_in self.now }
+        ensures long { length result.now ≡ self.now.len }
+    {
+        let page = self.page;
+        &page[self.start..self.start + self.len]
     }
 }
 
-// The cell of a column by its place in a tuple's body; none where its value isn't whole.
-fn cell_of<F: Files>(
-    alloc: Global,
-    files: &mut F,
-    values: &RowValues<'_>,
-    column: &Column,
-    body: &[u8],
-    place: AttrPlace,
-) -> Result<Option<Cell>, PageFault>
-    requires readable { IfTold F.seen files.old (λ names. IsReadable names (option_copied values.now.toast) values.now.chunks.now) }
-    requires within { IsWithin (length body.now) place }
-    requires fits { FitsType column.now.ctype (shown_at body.now place) }
-    requires missing { HasMissing column.now }
-    ensures fits { IfOk result (λ found. IfSome found (FitsColumn column.now)) }
-    ensures told { Tells F.seen files.old result (λ found names. IsThere (option_copied values.now.toast) values.now.chunks.now (shown_at body.now place)
-        → found ≡ Some (cell_of (bytes_seen names (option_copied values.now.toast) values.now.chunks.now) column.now (shown_at body.now place))) }
-    ensures asked { Asked F.seen files.old files.new result PageFault.ReadFault }
-{
-    match place {
-        AttrPlace::Null => Ok(Some(Cell::Held(Value::Null))),
-        AttrPlace::Missing => Ok(Some(Cell::Held(column.missing.as_ref().to_value(alloc)?))),
-        AttrPlace::Plain { start, len } => {
-            let piece = &body[start..start + len];
-            Ok(Some(Cell::Held(value_of(column.ctype, piece).to_value(alloc)?)))
-        }
-        AttrPlace::Packed { .. } => Ok(Some(Cell::Packed)),
-        AttrPlace::External { start } => {
-            external_cell(alloc, files, values, column, pointer_at(body, start))
-        }
-    }
+/// A column of a table, and what it is in a tuple.
+#[derive(Clone, Copy)]
+pub(crate) struct TupleColumn<'p> {
+    pub(crate) column: &'p Column,
+    pub(crate) attr: AttrPlace,
 }
 
-/// The cells of a tuple's columns, by their places in its body; none where a value isn't whole, which
-/// can't be in a sound heap.
-pub(crate) fn cells_of<F: Files>(
-    alloc: Global,
-    files: &mut F,
-    values: &RowValues<'_>,
-    body: &[u8],
-    places: &[AttrPlace],
-) -> Result<Option<Cells>, PageFault>
-    requires readable { IfTold F.seen files.old (λ names. IsReadable names (option_copied values.now.toast) values.now.chunks.now) }
-    requires within { All (IsWithin (length body.now)) places.now }
-    requires fit { FitTypes (map (λ c. c.ctype) values.now.columns.now) (shown_in body.now places.now) }
-    requires missing { All HasMissing values.now.columns.now }
-    ensures told { Tells F.seen files.old result (λ found names. All (IsThere (option_copied values.now.toast) values.now.chunks.now) (shown_in body.now places.now)
-        → found ≡ Some (cells_of (bytes_seen names (option_copied values.now.toast) values.now.chunks.now) values.now.columns.now (shown_in body.now places.now))) }
-    ensures fits { IfOk result (λ found. IfSome found (FitColumns values.now.columns.now)) }
-    ensures asked { Asked F.seen files.old files.new result PageFault.ReadFault }
-{
-    let mut cells = Cells::new(alloc);
-    for k in 0..values.columns.len() {
-        let column = &values.columns[k];
-        match cell_of(alloc, files, values, column, body, places[k])? {
-            Some(cell) => cells.push(cell)?,
-            None => return Ok(None),
+/// Where the value of a column stands: on the page, or among the bytes that were joined of chunks.
+#[derive(Clone, Copy, Debug, PartialEq, Eq)]
+pub(crate) enum ValuePlace {
+    /// A null by the tuple's null bits.
+    Null,
+    /// A column past those that the tuple stores: the case has its value.
+    Missing,
+    OnPage { start: usize, len: usize },
+    Joined { start: usize, len: usize },
+    /// A compressed value, in place or in the TOAST table.
+    Packed,
+}
+
+/// The values of a row that are asked for, in their order, by their places, and the bytes of those that
+/// stand in the TOAST table. It keeps its memory, so that it serves one row after another.
+#[derive(Drop)]
+pub(crate) struct RowValues {
+    pub(crate) places: Vec<ValuePlace>,
+    pub(crate) joined: Vec<u8>,
+    pub(crate) reader: ChunkReader,
+}
+
+impl RowValues {
+    /// Of no row yet. It takes no memory.
+    pub(crate) fn new(alloc: Global) -> RowValues {
+        RowValues {
+            places: Vec::new(alloc),
+            joined: Vec::new(alloc),
+            reader: ChunkReader::new(alloc),
         }
     }
-    Ok(Some(cells))
+
+    // Joins a value in the TOAST table, unless it is compressed; none where its chunks aren't whole.
+    fn join<F: Files>(
+        &mut self,
+        files: &mut F,
+        from: &ValueSources<'_>,
+        p: ToastPointer,
+    ) -> Result<Option<ValuePlace>, PageFault>
+        requires readable { IfTold F.seen files.old (λ names.
+            IsReadable names (option_copied from.now.toast) from.now.chunks.now) }
+        ensures told { Tells F.seen files.old result (λ found names. (page : List ℕ) (column : TableColumn)
+            → IsWholeIn (option_copied from.now.toast) from.now.chunks.now p
+            → IsSomeAnd found (λ at. cell_shown page self.new.joined.items column at
+            ≡ external_cell (bytes_seen names (option_copied from.now.toast) from.now.chunks.now p) p)) }
+        ensures fits { IfOk result (λ found. IfSome found (λ at. (ctype : ColumnType) → fixed_length ctype ≡ None
+            → FitsPlace (length self.new.joined.items) ctype at)) }
+        ensures grows { Grows self.old.joined.items self.new.joined.items }
+        ensures places { self.new.places.items ≡ self.old.places.items }
+        ensures asked { Asked F.seen files.old files.new result PageFault.ReadFault }
+    {
+        let Some(toast) = from.toast else {
+            return Ok(None);
+        };
+        if !from.chunks.whole(p) {
+            return Ok(None);
+        }
+        if is_compressed(p) {
+            return Ok(Some(ValuePlace::Packed));
+        }
+        let start = self.joined.len();
+        match push_value(
+            files,
+            toast,
+            from.chunks,
+            p,
+            &mut self.reader,
+            &mut self.joined,
+        ) {
+            Ok(()) => Ok(Some(ValuePlace::Joined {
+                start,
+                len: self.joined.len() - start,
+            })),
+            Err(ToastFault::ReadFault) => Err(PageFault::ReadFault),
+            Err(ToastFault::NoMemory) => Err(PageFault::NoMemory),
+        }
+    }
+
+    // Where the value of a column of a tuple stands; none where its chunks aren't whole.
+    fn place_of<F: Files>(
+        &mut self,
+        files: &mut F,
+        from: &ValueSources<'_>,
+        tuple: &RowTuple<'_>,
+        at: TupleColumn<'_>,
+    ) -> Result<Option<ValuePlace>, PageFault>
+        requires readable { IfTold F.seen files.old (λ names.
+            IsReadable names (option_copied from.now.toast) from.now.chunks.now) }
+        requires inside { tuple.now.start + tuple.now.len ≤ 8192 }
+        requires within { IsWithin tuple.now.len at.attr }
+        requires fits { FitsType at.column.now.ctype (shown_at (body_in tuple.now) at.attr) }
+        ensures told { Tells F.seen files.old result (λ found names.
+            IsThere (option_copied from.now.toast) from.now.chunks.now (shown_at (body_in tuple.now) at.entry.attr)
+            → IsSomeAnd found (λ place. cell_shown tuple.now.page.now self.new.joined.items at.entry.column.now place
+            ≡ cell_of (bytes_seen names (option_copied from.now.toast) from.now.chunks.now) at.entry.column.now
+            (shown_at (body_in tuple.now) at.entry.attr))) }
+        ensures fits { IfOk result (λ found. IfSome found (λ place.
+            FitsPlace (length self.new.joined.items) at.entry.column.now.ctype place)) }
+        ensures grows { Grows self.old.joined.items self.new.joined.items }
+        ensures places { self.new.places.items ≡ self.old.places.items }
+        ensures asked { Asked F.seen files.old files.new result PageFault.ReadFault }
+    {
+        let body = tuple.body();
+        match at.attr {
+            AttrPlace::Null => Ok(Some(ValuePlace::Null)),
+            AttrPlace::Missing => Ok(Some(ValuePlace::Missing)),
+            AttrPlace::Plain { start, len } => Ok(Some(ValuePlace::OnPage {
+                start: tuple.start + start,
+                len,
+            })),
+            AttrPlace::Packed { .. } => Ok(Some(ValuePlace::Packed)),
+            AttrPlace::External { start } => self.join(files, from, pointer_at(body, start)),
+        }
+    }
+
+    // Keeps one more place.
+    fn keep(&mut self, place: ValuePlace) -> Result<(), NoMemory>
+        ensures places { OnOk result (self.new.places.items ≡ self.old.places.items ++ place ∷ []) }
+        ensures joined { self.new.joined ≡ self.old.joined }
+    {
+        self.places.push(place)?;
+        Ok(())
+    }
+
+    /// Finds the values of a tuple that are asked for; whether all were found, which all are in a sound
+    /// heap.
+    pub(crate) fn find<F: Files>(
+        &mut self,
+        files: &mut F,
+        from: &ValueSources<'_>,
+        tuple: &RowTuple<'_>,
+    ) -> Result<bool, PageFault>
+        requires readable { IfTold F.seen files.old (λ names.
+            IsReadable names (option_copied from.now.toast) from.now.chunks.now) }
+        requires inside { tuple.now.start + tuple.now.len ≤ 8192 }
+        requires within { All (IsWithin tuple.now.len) tuple.now.attrs.now }
+        requires fit { FitTypes (map (λ c. c.ctype) from.now.columns.now) (attributes_seen tuple.now) }
+        ensures told { Tells F.seen files.old result (λ found names.
+            AsksColumns (length from.now.columns.now) from.now.asked.now
+            → All (IsThere (option_copied from.now.toast) from.now.chunks.now) (attributes_seen tuple.now)
+            → found ≡ true) }
+        ensures cells { Tells F.seen files.old result (λ found names.
+            found ≡ true → All (IsThere (option_copied from.now.toast) from.now.chunks.now) (attributes_seen tuple.now)
+            → AreCellsAsked tuple.now.page.now self.new.joined.items from.now.columns.now from.now.asked.now
+            self.new.places.items (cell_at (bytes_seen names (option_copied from.now.toast) from.now.chunks.now)
+            from.now.columns.now (attributes_seen tuple.now))
+            (count_asked (length from.now.columns.now) from.now.asked.now)) }
+        ensures fits { IfOk result (λ found. found ≡ true → FitAsked (length self.new.joined.items) from.now.columns.now
+            from.now.asked.now self.new.places.items (count_asked (length from.now.columns.now) from.now.asked.now)) }
+        ensures count { IfOk result (λ found. found ≡ true →
+            length self.new.places.items ≡ count_asked (length from.now.columns.now) from.now.asked.now) }
+        ensures asked { Asked F.seen files.old files.new result PageFault.ReadFault }
+    {
+        self.places.clear();
+        self.joined.clear();
+        let columns = from.columns.len();
+        for k in 0..from.asked.count(columns) {
+            let a = from.asked.column(k);
+            if columns <= a {
+                return Ok(false);
+            }
+            let at = TupleColumn {
+                column: &from.columns[a],
+                attr: tuple.attrs[a],
+            };
+            match self.place_of(files, from, tuple, at)? {
+                Some(place) => self.keep(place)?,
+                None => return Ok(false),
+            }
+        }
+        Ok(true)
+    }
 }

@@ -2,7 +2,7 @@ use Rattle.std.proofs.Common.{◌≡◌, refl, sym, ◌∙◌}
 use Rattle.std.specs.Prelude.{◌↔◌, Option, Some, None, IfSome, IsSome}
 use Rattle.outside.specs.Outside.{Names}
 use Rattle.case_file.specs.Record.{CaseRecord}
-use Rattle.heap_files.specs.Case.{IsQuiet}
+use Rattle.heap_files.specs.Found.{IsQuiet}
 use Rattle.heap_files.specs.Files.{IsSoundHeapOf}
 use Rattle.heap_files.specs.declared.files.SoundHeap.{SoundHeap}
 use Rattle.heap_check.proofs.tests.sound_heap.Goals as goal
