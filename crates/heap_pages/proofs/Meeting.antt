@@ -263,3 +263,8 @@ broken_item page i header item test he it tested holds =
 
 pub other_item : (page : List ℕ) (i : ℕ) (item : LinePtr) (flag : LineFlag) → item ≡ item_of page i → item.flag ≡ flag → is_normal flag ≡ false → is_normal (item_of page i).flag ≡ false
 other_item page i item flag it is none = rw (← it, is) none
+
+-- and one that isn't normal has no cells
+pub other_skipped : (page : List ℕ) (i : ℕ) (item : LinePtr) (flag : LineFlag) (cells : Marking) → 1 ≤ i → item ≡ item_of page i → item.flag ≡ flag → is_normal flag ≡ false → AreCells page (i - 1) cells → AreCells page i cells
+other_skipped page i item flag cells some it is none are =
+    skipped_at page i cells some (other_has_none (upper_of page) (item_of page i) (other_item page i item flag it is none)) are

@@ -3,16 +3,16 @@ use Rattle.page_layout.specs.View.{page_bytes}
 use Rattle.liveness.specs.declared.states.ItemState.TheVariants.{Unused, Dead, Redirect}
 use Rattle.heap_pages.specs.Table.{chunks_seen, table_seen, table_with}
 use Rattle.heap_pages.proofs.ItemRules.{bare_adds_nothing, bare_state, redirect_verdict, verdict_by_flag}
-use Rattle.heap_pages.proofs.Meeting.{other_has_none, other_item, skipped_at}
+use Rattle.heap_pages.proofs.Meeting.{other_skipped}
 use Rattle.heap_pages.proofs.items.judge_and_add.Goals as goal
 
 pub returns-in_ok-push_state-in-Unused-clause-after : goal.returns-in_ok-push_state-in-Unused-clause-after
 returns-in_ok-push_state-in-Unused-clause-after g c =
-    skipped_at _ _ _ c.requires.first (other_has_none _ _ (other_item _ _ _ _ c.item-item.ensures.value c.in-Unused.is refl)) c.requires.before
+    other_skipped _ _ _ _ _ c.requires.first c.item-item.ensures.value c.in-Unused.is refl c.requires.before
 
 pub returns-in_err-push_state-in-Unused-clause-after : goal.returns-in_err-push_state-in-Unused-clause-after
 returns-in_err-push_state-in-Unused-clause-after g c =
-    skipped_at _ _ _ c.requires.first (other_has_none _ _ (other_item _ _ _ _ c.item-item.ensures.value c.in-Unused.is refl)) c.requires.before
+    other_skipped _ _ _ _ _ c.requires.first c.item-item.ensures.value c.in-Unused.is refl c.requires.before
 
 pub returns-in_ok-push_state-in-Unused-clause-found : goal.returns-in_ok-push_state-in-Unused-clause-found
 unfolding table_with
@@ -29,11 +29,11 @@ returns-in_ok-push_state-in-Unused-clause-states g c names told =
 
 pub returns-in_ok-push_state-in-Redirect-clause-after : goal.returns-in_ok-push_state-in-Redirect-clause-after
 returns-in_ok-push_state-in-Redirect-clause-after g c =
-    skipped_at _ _ _ c.requires.first (other_has_none _ _ (other_item _ _ _ _ c.item-item.ensures.value c.in-Redirect.is refl)) c.requires.before
+    other_skipped _ _ _ _ _ c.requires.first c.item-item.ensures.value c.in-Redirect.is refl c.requires.before
 
 pub returns-in_err-push_state-in-Redirect-clause-after : goal.returns-in_err-push_state-in-Redirect-clause-after
 returns-in_err-push_state-in-Redirect-clause-after g c =
-    skipped_at _ _ _ c.requires.first (other_has_none _ _ (other_item _ _ _ _ c.item-item.ensures.value c.in-Redirect.is refl)) c.requires.before
+    other_skipped _ _ _ _ _ c.requires.first c.item-item.ensures.value c.in-Redirect.is refl c.requires.before
 
 pub returns-in_ok-push_state-in-Redirect-clause-found : goal.returns-in_ok-push_state-in-Redirect-clause-found
 unfolding table_with
@@ -50,11 +50,11 @@ returns-in_ok-push_state-in-Redirect-clause-states g c names told =
 
 pub returns-in_ok-push_state-in-Dead-clause-after : goal.returns-in_ok-push_state-in-Dead-clause-after
 returns-in_ok-push_state-in-Dead-clause-after g c =
-    skipped_at _ _ _ c.requires.first (other_has_none _ _ (other_item _ _ _ _ c.item-item.ensures.value c.in-Dead.is refl)) c.requires.before
+    other_skipped _ _ _ _ _ c.requires.first c.item-item.ensures.value c.in-Dead.is refl c.requires.before
 
 pub returns-in_err-push_state-in-Dead-clause-after : goal.returns-in_err-push_state-in-Dead-clause-after
 returns-in_err-push_state-in-Dead-clause-after g c =
-    skipped_at _ _ _ c.requires.first (other_has_none _ _ (other_item _ _ _ _ c.item-item.ensures.value c.in-Dead.is refl)) c.requires.before
+    other_skipped _ _ _ _ _ c.requires.first c.item-item.ensures.value c.in-Dead.is refl c.requires.before
 
 pub returns-in_ok-push_state-in-Dead-clause-found : goal.returns-in_ok-push_state-in-Dead-clause-found
 unfolding table_with
