@@ -1,5 +1,5 @@
 //! The attributes of a heap tuple, whose header is given.
-ghost use Rattle.std.specs.Prelude.{◌≡◌, ◌≤◌, false, Ok, [], length, OnOk, OnErr, IfOk, IfErr, IfSome, All};
+ghost use Rattle.std.specs.Prelude.{◌≡◌, ◌-◌, ◌≤◌, false, Ok, [], drop, length, OnOk, OnErr, IfOk, IfErr, IfSome, All};
 ghost use Rattle.std.specs.Option.{option_copied};
 ghost use Rattle.key_orders.specs.Types.{HasAlignment};
 ghost use Rattle.tuple_head.specs.Head.{has_misplaced_attributes, tuple_head_of};
@@ -75,6 +75,9 @@ pub fn try_read_tuple<'p>(
     ensures value { IfOk result (λ found. IfSome found (λ body.
         attributes_in columns.now tuple.now ≡ Ok (shown_in body.now buffer.new))) }
     ensures within { IfOk result (λ found. IfSome found (λ body. All (IsWithin (length body.now)) buffer.new)) }
+    ensures end { IfOk result (λ found. IfSome found (λ body.
+        body.now ≡ drop (length tuple.now - length body.now) tuple.now)) }
+    ensures part { IfOk result (λ found. IfSome found (λ body. length body.now ≤ length tuple.now)) }
     ensures read { IfOk result (λ found. has_misplaced_attributes (length tuple.now) (tuple_head_of tuple.now) ≡ false
         → IsRead columns.now tuple.now (option_copied found)) }
 {
