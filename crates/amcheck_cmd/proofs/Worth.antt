@@ -13,8 +13,9 @@ use Rattle.heap_pages.proofs.PageLaws.{none_listed}
 use Rattle.amcheck_cmd.specs.Answers.{answer_by, answer_code}
 use Rattle.amcheck_cmd.specs.Commands.{BreaksNothing, DoubtsNothing, IsComplete, IsSound, IsTrue, IsWorth, judged_by, outcome_of}
 use Rattle.amcheck_cmd.specs.Outcome.{Meets, Outcome, owed_by, reported}
-use Rattle.amcheck_cmd.specs.Words.{Check, Form, Heap, Judge, Pages}
-use Rattle.amcheck_cmd.proofs.HeapLaws.{heap_doubt_listed, heap_doubts, heap_listed, heap_sound, heap_true, the_case}
+use Rattle.amcheck_cmd.specs.Words.{Check, Form, Heap, Index, Judge, Pages}
+use Rattle.amcheck_cmd.proofs.HeapLaws.{heap_doubt_listed, heap_doubts, heap_listed, heap_sound, heap_true}
+use Rattle.amcheck_cmd.proofs.IndexLaws.{index_doubt_listed, index_doubts, index_listed, index_sound, index_true}
 use Rattle.amcheck_cmd.proofs.PagesLaws.{file_certain, file_listed, file_sound, pages_are}
 
 -- each finding of a report is a broken rule, and each place that it calls unjudged is in doubt
@@ -24,7 +25,9 @@ sound_report (Pages name) names lists e =
     let P : Lists → Type 0 = IsSound (Pages name) names in
     subst P (pages_are name file lists e) (record { findings = file_sound file; unjudged = file_certain file })
 sound_report (Heap name) names lists e =
-    let has = the_case name names lists e in record { findings = heap_sound name names lists has; unjudged = heap_doubts name names lists has }
+    record { findings = heap_sound name names lists e; unjudged = heap_doubts name names lists e }
+sound_report (Index case name) names lists e =
+    record { findings = index_sound case name names lists e; unjudged = index_doubts case name names lists e }
 
 -- each place where something is stands in it
 complete_report : (check : Check) (names : Names) (lists : Lists) → judged_by check names ≡ Ok lists → IsComplete check names lists
@@ -33,7 +36,9 @@ complete_report (Pages name) names lists e =
     let P : Lists → Type 0 = IsComplete (Pages name) names in
     subst P (pages_are name file lists e) (record { broken = file_listed file; in_doubt = λ reason place doubted. absurd doubted })
 complete_report (Heap name) names lists e =
-    let has = the_case name names lists e in record { broken = heap_listed name names lists has; in_doubt = heap_doubt_listed name names lists has }
+    record { broken = heap_listed name names lists e; in_doubt = heap_doubt_listed name names lists e }
+complete_report (Index case name) names lists e =
+    record { broken = index_listed case name names lists e; in_doubt = index_doubt_listed case name names lists e }
 
 module _ (lists : Lists) (none : lists.findings ≡ []) (sure : lists.unjudged ≡ []) where
   -- a report without findings, and with nothing in doubt, tells that nothing is broken,
@@ -47,7 +52,8 @@ module _ (lists : Lists) (none : lists.findings ≡ []) (sure : lists.unjudged �
   -- and that what is said of clean files is true
   empty_is_true : (check : Check) (names : Names) → judged_by check names ≡ Ok lists → IsTrue check names
   empty_is_true (Pages name) names e = tt
-  empty_is_true (Heap name) names e = heap_true name names lists (the_case name names lists e) none sure
+  empty_is_true (Heap name) names e = heap_true name names lists e none sure
+  empty_is_true (Index case name) names e = index_true case name names lists e none sure
 
 -- what never comes isn't listed
 none_of : {X : Type 0} {P : X → Type 0} (xs : List X) → All P xs → ((x : X) → P x → ⊥) → xs ≡ []

@@ -8,7 +8,9 @@ use Rattle.reports.specs.declared.fault.CheckFault.{CheckFault}
 use Rattle.reports.specs.declared.fault.CheckFault.TheVariants as check
 use Rattle.reports.specs.declared.fault.Which.{Which}
 use Rattle.reports.specs.declared.fault.Which.TheVariants as which
-use Rattle.amcheck_cmd.specs.Outcome.{Outcome, case_refused, no_file, text_too_large, too_large, usage}
+use Rattle.reports.specs.Lists.{Lists}
+use Rattle.bt_levels.specs.Index.{index_of}
+use Rattle.amcheck_cmd.specs.Outcome.{Judged, Outcome, case_refused, no_file, text_too_large, too_large, usage}
 
 -- how many bytes a case file may have
 abbrev pub text_limit : ℕ
@@ -43,7 +45,7 @@ toast_named (Some t) = t.0
 abbrev pub file_named : CaseRecord → Which → List ℕ
 file_named case which.Heap = case.heap_file
 file_named case which.Toast = toast_named case.toast
-file_named case (which.Index n) = []
+file_named case (which.Index n) = (index_of case n).file
 
 -- why the files of a case are refused. A fault of reading and want of memory are no refusals
 abbrev pub files_refused : CaseRecord → CheckFault → Outcome
@@ -51,3 +53,13 @@ files_refused case (check.NoFile which) = no_file (file_named case which)
 files_refused case (check.TooLarge which blocks limit) = too_large (file_named case which) blocks limit
 files_refused case check.ReadFault = usage
 files_refused case check.NoMemory = usage
+
+-- what a command says of a case: its report, unless a file of the case is refused
+abbrev pub unless_refused : Option CheckFault → CaseRecord → Lists → Judged
+unless_refused None case lists = Ok lists
+unless_refused (Some fault) case lists = Err (files_refused case fault)
+
+-- what it says of a file in which a case is to stand
+abbrev pub of_read : (CaseRecord → Judged) → CaseRead → Judged
+of_read judge (Ok case) = judge case
+of_read judge (Err refusal) = Err refusal

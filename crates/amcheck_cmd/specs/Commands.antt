@@ -10,15 +10,17 @@ use Rattle.reports.specs.declared.places.Place.{Place}
 use Rattle.reports.specs.declared.places.Reason.{Reason}
 use Rattle.amcheck_cmd.specs.Answers.{GaveUp}
 use Rattle.amcheck_cmd.specs.Heap.{BreaksHeap, DoubtsHeap, HasTrueHeap, heap_judged}
+use Rattle.amcheck_cmd.specs.Index.{BreaksIndex, DoubtsIndex, HasTrueIndex, index_judged}
 use Rattle.amcheck_cmd.specs.Outcome.{Judged, Meets, Outcome, owed_by, reported, usage}
 use Rattle.amcheck_cmd.specs.Pages.{BreaksFile, pages_judged}
 use Rattle.amcheck_cmd.specs.Show.{show_outcome}
-use Rattle.amcheck_cmd.specs.Words.{Check, Form, Heap, Judge, Pages, Show, form_of}
+use Rattle.amcheck_cmd.specs.Words.{Check, Form, Heap, Index, Judge, Pages, Show, form_of}
 
 -- what a command that judges finds
 abbrev pub judged_by : Check → Names → Judged
 judged_by (Pages name) names = pages_judged name (names name (Segment 0))
 judged_by (Heap name) names = heap_judged name names
+judged_by (Index case name) names = index_judged case name names
 
 -- what a command owes
 abbrev pub outcome_of : Form → Names → Outcome
@@ -37,16 +39,19 @@ outcome words names = outcome_by (form_of words) names
 abbrev pub IsBroken : Check → Names → Rule → Place → Type 0
 IsBroken (Pages name) names rule place = BreaksFile (names name (Segment 0)) rule place
 IsBroken (Heap name) names rule place = BreaksHeap name names rule place
+IsBroken (Index case name) names rule place = BreaksIndex case name names rule place
 
 -- a place of the command's files can't be judged
 abbrev pub IsInDoubt : Check → Names → Reason → Place → Type 0
 IsInDoubt (Pages name) names reason place = ⊥
 IsInDoubt (Heap name) names reason place = DoubtsHeap name names reason place
+IsInDoubt (Index case name) names reason place = DoubtsIndex case name names reason place
 
 -- what is true of the command's files where they are clean
 abbrev pub IsTrue : Check → Names → Type 0
 IsTrue (Pages name) names = Unit {0}
 IsTrue (Heap name) names = HasTrueHeap name names
+IsTrue (Index case name) names = HasTrueIndex case name names
 
 abbrev pub BreaksNothing : Check → Names → Type 0
 BreaksNothing check names = (rule : Rule) (place : Place) → IsBroken check names rule place → ⊥

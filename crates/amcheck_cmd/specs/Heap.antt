@@ -1,30 +1,24 @@
 -- The command `heap`: what it says of a case, and what is true where it finds nothing.
-use Rattle.std.specs.Prelude.{◌≡◌, ℕ, List, Option, Some, None, Ok, Err}
+use Rattle.std.specs.Prelude.{◌≡◌, ℕ, List, Ok}
 use Rattle.outside.specs.Outside.{Names}
 use Rattle.page_layout.specs.declared.rules.Rule.{Rule}
 use Rattle.case_file.specs.Record.{CaseRecord}
-use Rattle.reports.specs.declared.fault.CheckFault.{CheckFault}
 use Rattle.reports.specs.declared.places.Place.{Place}
 use Rattle.reports.specs.declared.places.Reason.{Reason}
 use Rattle.heap_files.specs.Broken.{Breaks, Doubts}
 use Rattle.heap_files.specs.Files.{refusal_of}
 use Rattle.heap_files.specs.Found.{case_found}
 use Rattle.heap_files.specs.Truth.{IsTrueHeap}
-use Rattle.amcheck_cmd.specs.Cases.{CaseRead, case_in, files_refused}
+use Rattle.amcheck_cmd.specs.Cases.{case_in, of_read, unless_refused}
 use Rattle.amcheck_cmd.specs.Outcome.{Judged}
 
 -- the report on a case, unless its files are refused
-abbrev pub heap_unless : Option CheckFault → CaseRecord → Names → Judged
-heap_unless None case names = Ok (case_found case names)
-heap_unless (Some fault) case names = Err (files_refused case fault)
-
-abbrev pub heap_of : CaseRead → Names → Judged
-heap_of (Ok case) names = heap_unless (refusal_of case names) case names
-heap_of (Err refusal) names = Err refusal
+abbrev pub case_judged : Names → CaseRecord → Judged
+case_judged names case = unless_refused (refusal_of case names) case (case_found case names)
 
 -- the report on the case in a file
 abbrev pub heap_judged : List ℕ → Names → Judged
-heap_judged name names = heap_of (case_in name names) names
+heap_judged name names = of_read (case_judged names) (case_in name names)
 
 -- a rule is broken, or a place is in doubt, in the files of the case in a file
 pub record BreaksHeap (name : List ℕ) (names : Names) (rule : Rule) (place : Place) : Type 0 where

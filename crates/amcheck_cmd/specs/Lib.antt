@@ -3,6 +3,7 @@ pub mod Cases
 pub mod Commands
 pub mod Files
 pub mod Heap
+pub mod Index
 pub mod Numbers
 pub mod Outcome
 pub mod Pages

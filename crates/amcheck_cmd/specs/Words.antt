@@ -12,6 +12,8 @@ pub data Check : Type 0 where
   Pages : List ℕ → Check
   -- heap CASE
   Heap : List ℕ → Check
+  -- index CASE NAME
+  Index : (case name : List ℕ) → Check
 
 -- what the words ask for
 pub data Form : Type 0 where
@@ -25,6 +27,19 @@ name_alone [] = None
 name_alone ([] ∷ words) = None
 name_alone ((x ∷ xs) ∷ []) = Some (x ∷ xs)
 name_alone ((x ∷ xs) ∷ word ∷ words) = None
+
+-- a case and a name, unless one is empty
+abbrev pub index_by : (case name : List ℕ) → Option Form
+index_by [] name = None
+index_by (x ∷ xs) [] = None
+index_by (x ∷ xs) (y ∷ ys) = Some (Judge (Index (x ∷ xs) (y ∷ ys)))
+
+-- two words, neither of which is empty
+unfoldable pub index_form : List (List ℕ) → Option Form
+index_form [] = None
+index_form (case ∷ []) = None
+index_form (case ∷ name ∷ []) = index_by case name
+index_form (case ∷ name ∷ word ∷ words) = None
 
 -- what the page that a word names is a page of
 unfoldable pub shown_by : List ℕ → Option Shown
@@ -52,6 +67,7 @@ unfoldable pub command_form : List ℕ → List (List ℕ) → Option Form
 command_form command words =
     if bytes_eq command (codes "pages") then option_map (λ file. Judge (Pages file)) (name_alone words)
     else if bytes_eq command (codes "heap") then option_map (λ case. Judge (Heap case)) (name_alone words)
+    else if bytes_eq command (codes "index") then index_form words
     else if bytes_eq command (codes "show") then show_form words
     else None
 

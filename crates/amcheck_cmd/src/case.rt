@@ -3,6 +3,7 @@ ghost use Rattle.std.specs.Prelude.{◌≡◌, ◌≢◌, ℕ, List, Some, Err, 
 ghost use Rattle.outside.specs.declared.files.Part.TheVariants.{Segment};
 ghost use Rattle.outside.specs.Outside.{Asked, IsHeldAnd, Names, Tells};
 ghost use Rattle.case_file.specs.Case.{case_of};
+ghost use Rattle.bt_levels.specs.Index.{index_of};
 ghost use Rattle.amcheck_cmd.specs.Cases.{case_by, case_in, file_named, files_refused, toast_named};
 ghost use Rattle.amcheck_cmd.specs.Seen.{case_seen, outcome_seen};
 
@@ -38,6 +39,18 @@ fn toast_named(case: &Case) -> &str
     }
 }
 
+// The base name of the file of an index of a case; none where the case hasn't so many.
+fn index_named(case: &Case, index: u16) -> &str
+    ensures { result.now ≡ (index_of case.now index).file }
+{
+    let index = index.max(1);
+    if index <= case.index_count() {
+        case.index_file(index)
+    } else {
+        ""
+    }
+}
+
 // The base name of a file of a case.
 fn file_named(case: &Case, which: Which) -> &str
     ensures { result.now ≡ file_named case.now which }
@@ -45,7 +58,7 @@ fn file_named(case: &Case, which: Which) -> &str
     match which {
         Which::Heap => case.heap_file(),
         Which::Toast => toast_named(case),
-        Which::Index(_) => "",
+        Which::Index(index) => index_named(case, index),
     }
 }
 

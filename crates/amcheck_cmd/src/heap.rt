@@ -1,9 +1,10 @@
 //! The command `heap`: judges the heap of a case, with its visibility map and its TOAST table.
-ghost use Rattle.std.specs.Prelude.{◌≡◌};
+ghost use Rattle.std.specs.Prelude.{◌≡◌, OnOk};
 ghost use Rattle.outside.specs.Outside.{Asked, IfTold, Tells};
-ghost use Rattle.heap_files.specs.Files.{AreFilesOf, BelongTo, refusal_of};
+ghost use Rattle.reports.specs.Added.{joined};
+ghost use Rattle.heap_files.specs.Files.{AreFilesOf, BelongTo};
 ghost use Rattle.heap_files.specs.Found.{case_found};
-ghost use Rattle.amcheck_cmd.specs.Heap.{heap_judged, heap_unless};
+ghost use Rattle.amcheck_cmd.specs.Heap.{case_judged, heap_judged};
 ghost use Rattle.amcheck_cmd.specs.Outcome.{owed_by, reported};
 ghost use Rattle.amcheck_cmd.specs.Seen.{outcome_seen};
 
@@ -15,6 +16,27 @@ use heap_files::{HeapFiles, check_heap};
 use outside::Files;
 use reports::{CheckFault, Report};
 use std::alloc::Global;
+
+/// Judges the files of a case's table, and adds what is found of them to the report.
+pub fn judge_heap<F: Files>(
+    alloc: Global,
+    files: &mut F,
+    case: &Case,
+    at: HeapFiles,
+    report: &mut Report,
+) -> Result<(), RunFault>
+    requires told { IfTold F.seen files.old (λ names. AreFilesOf case.now names at) }
+    requires belong { BelongTo case.now at }
+    ensures found { OnOk result (IfTold F.seen files.old (λ names.
+        report.new ≡ joined report.old (case_found case.now names))) }
+    ensures asked { Asked F.seen files.old files.new result RunFault.ReadFault }
+{
+    match check_heap(alloc, files, case, at, report) {
+        Ok(_) => Ok(()),
+        Err(CheckFault::ReadFault) => Err(RunFault::ReadFault),
+        Err(_) => Err(RunFault::NoMemory),
+    }
+}
 
 // The report on the files of a case.
 fn judged_output<F: Files>(
@@ -29,17 +51,14 @@ fn judged_output<F: Files>(
     ensures asked { Asked F.seen files.old files.new result RunFault.ReadFault }
 {
     let mut report = Report::new(alloc);
-    match check_heap(alloc, files, case, at, &mut report) {
-        Ok(_) => Ok(report_output(alloc, &report)?),
-        Err(CheckFault::ReadFault) => Err(RunFault::ReadFault),
-        Err(_) => Err(RunFault::NoMemory),
-    }
+    judge_heap(alloc, files, case, at, &mut report)?;
+    Ok(report_output(alloc, &report)?)
 }
 
 // The report on a case, or why its files can't be judged.
 fn case_output<F: Files>(alloc: Global, files: &mut F, case: &Case) -> Result<Output, RunFault>
     ensures output { Tells F.seen files.old result (λ o names.
-        outcome_seen o ≡ owed_by (heap_unless (refusal_of case.now names) case.now names)) }
+        outcome_seen o ≡ owed_by (case_judged names case.now)) }
     ensures asked { Asked F.seen files.old files.new result RunFault.ReadFault }
 {
     match HeapFiles::attach(alloc, files, case) {

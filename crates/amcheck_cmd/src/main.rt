@@ -11,6 +11,7 @@ mod fixtures;
 mod heap;
 #[cfg(test)]
 mod heap_tests;
+mod index;
 mod numbers;
 mod output;
 mod pages;

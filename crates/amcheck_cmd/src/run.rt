@@ -8,6 +8,7 @@ ghost use Rattle.amcheck_cmd.specs.Words.{form_of};
 
 use crate::fault::RunFault;
 use crate::heap::heap_output;
+use crate::index::index_output;
 use crate::output::Output;
 use crate::pages::pages_output;
 use crate::show::show_output;
@@ -30,6 +31,7 @@ fn output_of<F: Files>(
     match command {
         Command::Pages(file) => pages_output(alloc, files, file),
         Command::Heap(case) => heap_output(alloc, files, case),
+        Command::Index { case, name } => index_output(alloc, files, case, name),
         Command::Show { of, file, block } => show_output(alloc, files, of, file, block),
     }
 }

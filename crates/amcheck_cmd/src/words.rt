@@ -3,7 +3,8 @@ ghost use Rattle.std.specs.Prelude.{◌≡◌, map, string_bytes};
 ghost use Rattle.std.specs.Option.{option_copied};
 ghost use Rattle.amcheck_cmd.specs.Numbers.{block_written};
 ghost use Rattle.amcheck_cmd.specs.Seen.{form_asked};
-ghost use Rattle.amcheck_cmd.specs.Words.{command_form, form_of, name_alone, page_by, show_form, shown_by};
+ghost use Rattle.amcheck_cmd.specs.Words.{command_form, form_of, index_by, index_form, name_alone};
+ghost use Rattle.amcheck_cmd.specs.Words.{page_by, show_form, shown_by};
 
 use crate::numbers::block_written;
 
@@ -23,6 +24,13 @@ pub enum Command<'w> {
     Pages(&'w str),
     /// `heap CASE`: judge the heap of a case.
     Heap(&'w str),
+    /// `index CASE NAME`: judge the heap of a case, and its index of this name.
+    Index {
+        /// The case's file.
+        case: &'w str,
+        /// The index's name.
+        name: &'w str,
+    },
     /// `show heap FILE BLOCK`, `show tree FILE BLOCK`: print one page of a file.
     Show {
         /// What the page is a page of.
@@ -41,6 +49,27 @@ fn name_alone(words: &[String]) -> Option<&str>
 {
     match words {
         [name] if !name.is_empty() => Some(name.as_str()),
+        _ => None,
+    }
+}
+
+// An index of a case, unless the case or the name is empty.
+fn index_by<'w>(case: &'w str, name: &'w str) -> Option<Command<'w>>
+    ensures { form_asked result ≡ index_by case.now name.now }
+{
+    if case.is_empty() || name.is_empty() {
+        return None;
+    }
+    Some(Command::Index { case, name })
+}
+
+// A case and a name, neither of which is empty.
+#[tactic(auto, unfolding(crate::specs::Words::index_form))]
+fn index_command(words: &[String]) -> Option<Command<'_>>
+    ensures { form_asked result ≡ index_form (map string_bytes words.now) }
+{
+    match words {
+        [case, name] => index_by(case.as_str(), name.as_str()),
         _ => None,
     }
 }
@@ -93,6 +122,9 @@ fn named_command<'w>(command: &str, words: &'w [String]) -> Option<Command<'w>>
     }
     if command == "heap" {
         return Some(Command::Heap(name_alone(words)?));
+    }
+    if command == "index" {
+        return index_command(words);
     }
     if command == "show" {
         return show_command(words);
