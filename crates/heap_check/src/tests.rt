@@ -4,9 +4,9 @@ ghost use Rattle.outside.specs.Outside.{IfTold};
 ghost use Rattle.heap_files.specs.Found.{IsQuiet};
 ghost use Rattle.heap_files.specs.Files.{BelongTo, IsSoundHeapOf, files_of};
 
-use crate::{Cell, CellRef, HeapFiles, LiveRow, LiveRows, RowCursor, SoundHeap, check_heap};
+use crate::{Cell, HeapFiles, LiveRow, LiveRows, SoundHeap, check_heap};
 use case_file::{Case, read_case};
-use key_orders::{Tid, Value, ValueRef};
+use key_orders::{Tid, Value};
 use outside::{Files, MemFiles, Part};
 use reports::Report;
 use std::alloc::Global;
@@ -115,33 +115,6 @@ fn is_one_row<F: Files>(
     }
 }
 
-// Whether a cursor that is asked for the first column lends so many zero bytes of one row, and then is at the end.
-fn lends_zeros<F: Files>(
-    alloc: Global,
-    files: &mut F,
-    case: &Case,
-    heap: &SoundHeap,
-    len: usize,
-) -> Result<bool, Fail>
-    requires told { IfTold F.seen files.old (λ names. IsSoundHeapOf case.now names heap.now × IsQuiet case.now names) }
-    requires belong { BelongTo case.now (files_of heap.now) }
-{
-    if case.columns().is_empty() {
-        return Ok(false);
-    }
-    let mut cursor = RowCursor::new(alloc, case, heap, &[0])?;
-    if cursor.find(files)?.is_none() {
-        return Ok(false);
-    }
-    let lent = match cursor.value(0) {
-        CellRef::Held(ValueRef::Bytes(bytes)) => bytes.len() == len
-            && bytes.iter().all(|b| *b == 0),
-        _ => false,
-    };
-    cursor.pass();
-    Ok(lent && cursor.find(files)?.is_none())
-}
-
 #[test]
 fn a_value_in_the_toast_table_is_joined(rt: HostRuntime) -> Result<(), Fail> {
     let alloc = rt.alloc();
@@ -150,6 +123,5 @@ fn a_value_in_the_toast_table_is_joined(rt: HostRuntime) -> Result<(), Fail> {
     let sound = sound_heap(alloc, &mut files, &case)?.ok_or("not sound")?;
     let tid = Tid { block: 0, item: 1 };
     assert!(rt; is_one_row(alloc, &mut files, &case, &sound, tid, 1996)?);
-    assert!(rt; lends_zeros(alloc, &mut files, &case, &sound, 1996)?);
     Ok(())
 }
