@@ -40,6 +40,7 @@ fn toast_named(case: &Case) -> &str
 }
 
 // The base name of the file of an index of a case; none where the case hasn't so many.
+// Indexes are numbered from 1: as in its definition, 0 is read as 1.
 fn index_named(case: &Case, index: u16) -> &str
     ensures { result.now ≡ (index_of case.now index).file }
 {

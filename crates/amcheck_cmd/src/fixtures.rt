@@ -216,6 +216,21 @@ pub(crate) const NOTHING: Want<'static> = Want {
     unjudged: &[],
 };
 
+/// These findings, or these doubts, alone.
+pub(crate) const fn found<'a>(findings: &'a [&'a str]) -> Want<'a> {
+    Want {
+        findings,
+        unjudged: &[],
+    }
+}
+
+pub(crate) const fn in_doubt<'a>(unjudged: &'a [&'a str]) -> Want<'a> {
+    Want {
+        findings: &[],
+        unjudged,
+    }
+}
+
 impl Want<'_> {
     /// The status.
     pub(crate) fn code(&self) -> u8 {

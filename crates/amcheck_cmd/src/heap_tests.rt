@@ -2,7 +2,7 @@
 use crate::fixtures::{
     BOOL_AND_TEXT, CLUSTER, DEAD, EXTERNAL, INT_COLUMN, Item, LIVE, NOTHING, POINTER, SUCCESSOR,
     TEXT_IN_TOAST, Tuple, UNUSED, UPDATED, Want, case_files, chunk_page, expect, expect_heap,
-    normal, page_of, put, redirect,
+    found, in_doubt, normal, page_of, put, redirect,
 };
 use outside::{MemFiles, Part};
 use std::alloc::Global;
@@ -27,21 +27,6 @@ const EMPTY: Row<'static> = Row {
     map: 0,
     want: NOTHING,
 };
-
-// One finding, or one doubt.
-const fn found<'a>(findings: &'a [&'a str]) -> Want<'a> {
-    Want {
-        findings,
-        unjudged: &[],
-    }
-}
-
-const fn in_doubt<'a>(unjudged: &'a [&'a str]) -> Want<'a> {
-    Want {
-        findings: &[],
-        unjudged,
-    }
-}
 
 // The page of a map whose first byte of bits is this.
 fn map_page(bits: u8) -> [u8; 8192] {

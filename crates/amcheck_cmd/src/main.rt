@@ -12,6 +12,8 @@ mod heap;
 #[cfg(test)]
 mod heap_tests;
 mod index;
+#[cfg(test)]
+mod index_tests;
 mod numbers;
 mod output;
 mod pages;
@@ -21,6 +23,8 @@ mod status;
 #[cfg(test)]
 mod tests;
 mod text;
+#[cfg(test)]
+mod trees;
 mod words;
 mod write;
 

@@ -3,6 +3,7 @@ use crate::fixtures::{
     CLEAN, CLUSTER, INT_COLUMN, Item, LIVE, NOTHING, Tuple, case_files, expect, expect_heap,
     page_of, run_words,
 };
+use crate::trees::{THREE, index_file};
 use outside::{MemFiles, MemSink, Part};
 use std::alloc::Global;
 use std::test::Fail;
@@ -210,27 +211,6 @@ fn files_of_a_case_are_refused(rt: HostRuntime) -> Result<(), Fail> {
     )
 }
 
-// The index of those three tuples: its metapage, and a leaf that is the root.
-fn index_of_three() -> [u8; 16384] {
-    let mut file = [0u8; 16384];
-    file[12..20].copy_from_slice(&[0x48, 0, 0xf0, 0x1f, 0xf0, 0x1f, 4, 0x20]);
-    file[24..36].copy_from_slice(&[0x62, 0x31, 5, 0, 4, 0, 0, 0, 1, 0, 0, 0]);
-    file[40] = 1;
-    file[8188] = 8;
-    let leaf = [
-        0x24, 0, 0xc0, 0x1f, 0xf0, 0x1f, 4, 0x20, 0, 0, 0, 0, 0xe0, 0x9f, 0x20, 0, 0xd0, 0x9f,
-        0x20, 0, 0xc0, 0x9f, 0x20, 0,
-    ];
-    file[8204..8228].copy_from_slice(&leaf);
-    for (place, item, key) in [(16352usize, 1u8, 5u8), (16336, 2, 7), (16320, 3, 9)] {
-        file[place + 4] = item;
-        file[place + 6] = 0x10;
-        file[place + 8] = key;
-    }
-    file[16380] = 3;
-    file
-}
-
 const HEAP_PAGE: &str =
     "page lsn 0 0 checksum 0 flags 0000 lower 36 upper 8096 special 8192 version 2004 prune 0\n\
 item 1 normal off 8160 len 28 xmin 700 xmax 0 field3 0 ctid 0 1 infomask2 0001 infomask 0900 hoff 24\n\
@@ -249,7 +229,11 @@ fn pages_that_are_shown(rt: HostRuntime) -> Result<(), Fail> {
     let alloc = rt.alloc();
     let mut files = MemFiles::new(alloc);
     files.add("t", Part::Segment(0), &three_tuples())?;
-    files.add("i", Part::Segment(0), &index_of_three())?;
+    files.add(
+        "i",
+        Part::Segment(0),
+        index_file(alloc, &[THREE])?.as_slice(),
+    )?;
     files.add("p", Part::Segment(0), &written_new_page())?;
     files.add("part", Part::Segment(0), &[0u8; 8191])?;
     let many = vec![in alloc; 0u8; 16385 * 8192]?;
