@@ -1,18 +1,16 @@
 -- What is found of a case's files is what is broken there, and where a rule is broken the place is listed.
-use Rattle.std.proofs.Common.{◌≡◌, ℕ, ◌<◌, List, [], ◌++◌, refl, sym, ap, subst, ◌∙◌, arith}
-use Rattle.std.specs.Prelude.{Option, Some, None, Contains}
+use Rattle.std.proofs.Common.{◌≡◌, ℕ, ◌<◌, List, [], ◌++◌, refl, sym, ap, subst}
+use Rattle.std.specs.Prelude.{Option, Some, None}
 use Rattle.std.specs.List.{All}
 use Rattle.std.proofs.lemmas.List.Elements.{All-append, All-nil, All-weaker, Contains-append_left, Contains-append_right}
 use Rattle.outside.specs.Outside.{Names}
 use Rattle.page_layout.specs.Page.{page_rule_of}
 use Rattle.page_layout.specs.declared.page.PageKind.TheVariants.{Map}
 use Rattle.page_layout.specs.declared.rules.Rule.{Rule}
-use Rattle.page_layout.specs.declared.rules.Rule.TheVariants.{S1}
 use Rattle.case_file.specs.Record.{CaseRecord}
 use Rattle.vis_map.specs.Bits.{no_bits}
 use Rattle.reports.proofs.Parts.{All-below, among_below}
 use Rattle.reports.specs.Added.{IsListed, finding_at, report_lists}
-use Rattle.reports.specs.Lists.{Lists}
 use Rattle.reports.specs.declared.places.Finding.{Finding}
 use Rattle.reports.specs.declared.places.Place.{Place}
 use Rattle.reports.specs.declared.places.Place.TheVariants.{Block, Segment}

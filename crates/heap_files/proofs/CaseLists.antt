@@ -1,6 +1,5 @@
 -- What is added to a report of a case, and when it is nothing.
 use Rattle.std.proofs.Common.{◌≡◌, List, [], ◌∷◌, ◌++◌, refl, sym, ap, ◌∙◌}
-use Rattle.std.specs.Prelude.{◌↔◌}
 use Rattle.outside.specs.Outside.{Names}
 use Rattle.case_file.specs.Record.{CaseRecord}
 use Rattle.reports.specs.Added.{joined, nothing, report_lists}

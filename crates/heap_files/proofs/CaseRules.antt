@@ -1,7 +1,6 @@
 -- What the code judges of a case is what is found of the case.
 use Rattle.std.proofs.Common.{◌≡◌, ℕ, ◌-◌, ◌/◌, ◌≤◌, Bool, false, List, [], refl, sym, ap, ◌∙◌}
 use Rattle.std.specs.Prelude.{Option, Some, None, IfSome, map, nat_lt, if◌then◌else◌}
-use Rattle.std.specs.Option.{option_copied, option_map}
 use Rattle.std.proofs.lemmas.Grind.{common_steps}
 use Rattle.std.proofs.Common.{arith}
 use Rattle.attach_files.proofs.Refusals.{first_is_last, no_blocks}

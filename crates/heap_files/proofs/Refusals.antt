@@ -1,7 +1,6 @@
 -- A refusal to attach a file is the refusal of the case: the heap's, or else the TOAST table's.
 use Rattle.std.proofs.Common.{◌≡◌, ℕ, List, subst}
 use Rattle.std.specs.Prelude.{Option, None, Err}
-use Rattle.std.specs.Option.{option_or}
 use Rattle.attach_files.proofs.Refusals.{first_tells, second_tells}
 use Rattle.attach_files.specs.Refusals.{TellsRefusal, file_refusal}
 use Rattle.outside.specs.Outside.{Names}

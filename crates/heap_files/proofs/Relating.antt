@@ -1,7 +1,6 @@
 -- What the code adds of a block and of a table is what is found of them.
-use Rattle.std.proofs.Common.{◌≡◌, ℕ, List, ◌∙◌, refl, ap}
+use Rattle.std.proofs.Common.{◌≡◌, ℕ, List, ◌∙◌, ap}
 use Rattle.outside.specs.Outside.{Names}
-use Rattle.page_layout.specs.View.{page_bytes}
 use Rattle.rel_files.specs.Blocks.{block_of}
 use Rattle.toast_chunks.specs.declared.map.Chunk.{Chunk}
 use Rattle.vis_map.specs.declared.bits.MapBits.{MapBits}

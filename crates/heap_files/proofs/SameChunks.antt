@@ -1,11 +1,9 @@
 -- Two lists of the same chunks, each once, have the same values whole.
-use Rattle.std.proofs.Common.{◌≡◌, ℕ, zero, suc, ◌+◌, ◌<◌, ◌≤◌, Bool, List, [], ◌∷◌, ◌++◌, length, get_or, refl, sym, ap, subst, ◌∙◌, arith}
+use Rattle.std.proofs.Common.{◌≡◌, zero, suc, ◌≤◌, Bool, List, [], ◌∷◌, ◌++◌, refl, sym, ap, subst, ◌∙◌, arith}
 use Rattle.std.specs.Prelude.{AllPairs, Contains, count_by, if◌then◌else◌}
-use Rattle.std.specs.List.{All}
 use Rattle.std.proofs.lemmas.List.Elements.{All-contains}
 use Rattle.std.proofs.lemmas.List.Sums.{sum_by-append, sum_by-cons}
 use Rattle.outside.specs.Outside.{Names}
-use Rattle.key_orders.specs.declared.Tid.{Tid}
 use Rattle.case_file.specs.Record.{CaseRecord}
 use Rattle.varlena_attrs.specs.declared.places.ToastPointer.{ToastPointer}
 use Rattle.toast_chunks.specs.Chunks.{IsWhole}
@@ -40,10 +38,10 @@ no_more p [] ys apart within = omega arith
 no_more p (x ∷ xs) ys apart within =
     let parts = parts_at ys x (within x (0, omega arith, refl)) in
     let rest = no_more p xs (parts.before ++ parts.after)
-      (λ i j d lt inside. apart (suc i) (suc j) d (omega arith) (omega arith))
-      (λ y has. other_member parts.before parts.after x y
-      (subst (λ l. Contains l y) parts.is (within y (suc has.0, omega (arith, has.1), has.2)))
-      (λ same. apart 0 (suc has.0) y (omega arith) (omega (arith, has.1)) (same ∙ sym has.2))) in
+    (λ i j d lt inside. apart (suc i) (suc j) d (omega arith) (omega arith))
+    (λ y has. other_member parts.before parts.after x y
+    (subst (λ l. Contains l y) parts.is (within y (suc has.0, omega (arith, has.1), has.2)))
+    (λ same. apart 0 (suc has.0) y (omega arith) (omega (arith, has.1)) (same ∙ sym has.2))) in
     let first = sum_by-cons (λ z. if p z then 1 else 0) x xs in
     let all = ap (count_by p) parts.is in
     let both = sum_by-append (λ z. if p z then 1 else 0) parts.before (x ∷ parts.after) in

@@ -1,6 +1,6 @@
 -- A case of which nothing is found, and what is found of its files in parts.
-use Rattle.std.proofs.Common.{◌≡◌, ℕ, ◌<◌, List, [], ◌++◌, refl, sym, ap, subst, ◌∙◌}
-use Rattle.std.specs.Prelude.{Option, Some, None}
+use Rattle.std.proofs.Common.{◌≡◌, ℕ, ◌<◌, List, [], ◌++◌, refl, subst}
+use Rattle.std.specs.Prelude.{Option, Some}
 use Rattle.outside.specs.Outside.{Names}
 use Rattle.case_file.specs.Record.{CaseRecord}
 use Rattle.toast_chunks.specs.declared.map.Chunk.{Chunk}
@@ -8,14 +8,14 @@ use Rattle.vis_map.specs.Bits.{no_bits}
 use Rattle.vis_map.specs.declared.bits.MapBits.{MapBits}
 use Rattle.reports.specs.Lists.{Lists}
 use Rattle.reports.proofs.Parts.{below_is_empty, first_is_empty, second_is_empty}
-use Rattle.heap_pages.specs.Found.{FoundLists, found_parts}
+use Rattle.heap_pages.specs.Found.{found_parts}
 use Rattle.heap_pages.specs.Judged.{HasNothing}
 use Rattle.heap_pages.specs.Pages.{if_silent}
 use Rattle.heap_pages.specs.Table.{Table}
 use Rattle.heap_pages.proofs.JointRules.{silent_is}
 use Rattle.heap_files.specs.Case.{case_bits, case_page, heap_blocks, heap_page, table_of, toast_blocks, toast_table_of, unmapped}
 use Rattle.heap_files.specs.Found.{IsQuiet, case_found, chunks_of, files_found, found_of_toast, heap_found, map_found, toast_found, toast_found_in}
-use Rattle.heap_files.specs.Relations.{block_found, blocks_found, segment_found, table_found}
+use Rattle.heap_files.specs.Relations.{block_found, blocks_found, table_found}
 
 -- nothing is listed
 pub record AreEmpty (lists : Lists) : Type 0 where

@@ -1,11 +1,10 @@
 -- What is found of a table, of its segments and its blocks, in the words of its pages.
 use Rattle.std.proofs.Common.{◌≡◌, ℕ, ◌<◌, List, [], refl, sym, subst, arith, ◌∙◌, ap}
-use Rattle.std.specs.Prelude.{Option, Some, None, AllPairs, Contains}
+use Rattle.std.specs.Prelude.{Option, Some, None, Contains}
 use Rattle.std.specs.List.{All}
 use Rattle.std.proofs.lemmas.List.Elements.{All-append, All-cons, All-contains, All-nil, Contains-append_left, Contains-append_right}
 use Rattle.outside.specs.Outside.{Names}
 use Rattle.key_orders.specs.declared.Tid.{Tid}
-use Rattle.page_layout.specs.declared.rules.Rule.{Rule}
 use Rattle.page_layout.specs.declared.rules.Rule.TheVariants.{S1}
 use Rattle.rel_files.specs.Blocks.{block_of}
 use Rattle.toast_chunks.specs.declared.map.Chunk.{Chunk}
@@ -13,14 +12,12 @@ use Rattle.vis_map.specs.declared.bits.MapBits.{MapBits}
 use Rattle.reports.proofs.Pairs.{pairs-below}
 use Rattle.reports.proofs.Parts.{All-below, among_below}
 use Rattle.reports.specs.Added.{IsListed, found}
-use Rattle.reports.specs.Lists.{Lists}
 use Rattle.reports.specs.declared.places.Finding.{Finding}
 use Rattle.reports.specs.declared.places.Place.{Place}
 use Rattle.reports.specs.declared.places.Place.TheVariants.{Segment}
 use Rattle.reports.specs.declared.places.Rel.{Rel}
 use Rattle.reports.specs.declared.places.UnjudgedPlace.{UnjudgedPlace}
 use Rattle.heap_pages.specs.Found.{FoundLists, found_parts}
-use Rattle.heap_pages.specs.Judged.{IsJudged}
 use Rattle.heap_pages.specs.Pages.{page_found}
 use Rattle.heap_pages.specs.Table.{Table, rel_of}
 use Rattle.heap_pages.proofs.Judged.{is_judged}

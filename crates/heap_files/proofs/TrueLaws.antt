@@ -1,7 +1,6 @@
 -- What the lists of a case say of it, and what is true where they are empty.
-use Rattle.std.proofs.Common.{◌≡◌, ◌⊎◌, inl, inr, ℕ, ◌+◌, ◌-◌, ◌<◌, ◌≤◌, Bool, true, false, List, [], ◌++◌, length, get_or, refl, sym, ap, subst, ◌∙◌, arith}
-use Rattle.std.specs.Prelude.{Option, Some, None, Contains, not, ◌||◌, slice_get}
-use Rattle.std.specs.Option.{option_map}
+use Rattle.std.proofs.Common.{◌≡◌, inl, inr, ℕ, ◌-◌, ◌<◌, Bool, true, false, List, [], refl, sym, ap, subst, ◌∙◌, arith}
+use Rattle.std.specs.Prelude.{Option, Some, None, Contains, not, ◌||◌}
 use Rattle.std.specs.List.{All}
 use Rattle.std.proofs.lemmas.Bool.{both_ways, cases_Bool}
 use Rattle.std.proofs.lemmas.Option.{slice_get_cases}
@@ -17,24 +16,23 @@ use Rattle.toast_chunks.specs.Chunks.{IsWhole, is_whole}
 use Rattle.toast_chunks.specs.declared.map.Chunk.{Chunk}
 use Rattle.toast_chunks.proofs.Finding.{is_whole-from, is_whole-tells}
 use Rattle.vis_map.specs.Bits.{no_bits}
-use Rattle.reports.specs.Added.{IsListed, nothing}
+use Rattle.reports.specs.Added.{IsListed}
 use Rattle.reports.specs.Lists.{Lists}
 use Rattle.reports.specs.declared.places.Finding.{Finding}
 use Rattle.reports.specs.declared.places.Place.{Place}
 use Rattle.reports.specs.declared.places.Place.TheVariants.{Column, Item}
-use Rattle.reports.specs.declared.places.Reason.{Reason}
 use Rattle.reports.specs.declared.places.Rel.TheVariants.{Heap as heap}
 use Rattle.reports.specs.declared.places.UnjudgedPlace.{UnjudgedPlace}
 use Rattle.heap_pages.specs.Broken.{HasExternal, at_item, on_item, stray_pointer}
 use Rattle.heap_pages.specs.Found.{FoundLists}
-use Rattle.heap_pages.specs.Judged.{HasNothing, IsSilent}
+use Rattle.heap_pages.specs.Judged.{IsSilent}
 use Rattle.heap_pages.specs.Left.{BreaksValue, not_whole, HasValue, IsRowOnPage}
-use Rattle.heap_pages.specs.Pages.{if_silent, page_found}
+use Rattle.heap_pages.specs.Pages.{if_silent}
 use Rattle.heap_pages.specs.Values.{has_externals, is_stray_pointer}
 use Rattle.heap_pages.specs.Verdicts.{head_at}
 use Rattle.heap_pages.proofs.Judged.{is_judged, is_silent}
 use Rattle.heap_pages.proofs.PageLaws.{listed_in, none_listed, silent_sound}
-use Rattle.heap_files.specs.Broken.{AreApart, AreChunksOf, Breaks, in_files, in_value, BreaksFiles, Doubts, FilesPass, IsChunkRow}
+use Rattle.heap_files.specs.Broken.{AreApart, AreChunksOf, Breaks, in_files, in_value, FilesPass, IsChunkRow}
 use Rattle.heap_files.specs.Case.{case_bits, case_page, heap_blocks, heap_long_segment, heap_page, table_of, toast_blocks, toast_long_segment, toast_table_of, unmapped}
 use Rattle.heap_files.specs.Found.{IsQuiet, case_found, chunks_of, files_found, found_of_toast, heap_found, toast_found, toast_found_in}
 use Rattle.heap_files.specs.Judged.{IsJudged}
@@ -188,6 +186,7 @@ module _ (case : CaseRecord) (names : Names) where
       where
         some_is : (a b : Attribute) → ◌≡◌ {A = Option Attribute} (Some a) (Some b) → a ≡ b
         some_is a b e = cc
+
         none_is : {a : Attribute} → ◌≡◌ {A = Option Attribute} None (Some a) → ⊥
         none_is e = cc
 

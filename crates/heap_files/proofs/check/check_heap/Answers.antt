@@ -5,7 +5,7 @@ use Rattle.reports.specs.Added.{joined, report_lists}
 use Rattle.reports.specs.Lists.{Lists}
 use Rattle.heap_pages.specs.Found.{FoundLists}
 use Rattle.heap_files.specs.Found.{case_found}
-use Rattle.heap_files.proofs.CaseLists.{nothing_added, nothing_is_quiet, nothing_joined, owed_of, quiet_is_nothing}
+use Rattle.heap_files.proofs.CaseLists.{nothing_added, nothing_is_quiet, owed_of, quiet_is_nothing}
 use Rattle.heap_files.proofs.check.check_heap.Goals as goal
 
 some_is_none : false ≡ true → ⊥

@@ -1,10 +1,10 @@
-use Rattle.std.proofs.Common.{◌∙◌, ◌≤◌, List, ap, arith, refl, sym}
+use Rattle.std.proofs.Common.{◌∙◌, ◌≤◌, ap, arith, sym}
 use Rattle.std.proofs.lemmas.List.{length-map}
 use Rattle.std.specs.Option.{option_copied}
 use Rattle.case_file.specs.declared.case.Column.{Column}
 use Rattle.heap_pages.specs.Found.{FoundLists}
 use Rattle.heap_files.specs.Found.{chunks_given}
-use Rattle.heap_pages.specs.Table.{chunks_seen, table_seen, table_with, toast_oid_seen}
+use Rattle.heap_pages.specs.Table.{chunks_seen, table_with, toast_oid_seen}
 use Rattle.heap_files.proofs.CaseRules.{bits_are, chunks_are_given, from_nothing, heap_is_case, heap_rules_are, lists_from_nothing, map_is_attached, parts_are}
 use Rattle.heap_files.proofs.ColumnLaws.{columns_aligned}
 use Rattle.heap_files.proofs.check.judge_in_turn.Goals as goal

@@ -1,5 +1,5 @@
 use Rattle.std.proofs.Common.{◌∙◌, ap}
-use Rattle.heap_pages.specs.Table.{chunks_seen, table_seen, table_with}
+use Rattle.heap_pages.specs.Table.{chunks_seen, table_with}
 use Rattle.heap_files.proofs.CaseRules.{from_nothing, no_toast, toast_absent, toast_is_case, toast_of, toast_rules_are, unmapped_is}
 use Rattle.heap_files.proofs.check.judge_toast.Goals as goal
 

@@ -1,6 +1,5 @@
-use Rattle.std.proofs.Common.{◌∙◌, sym, ap}
+use Rattle.std.proofs.Common.{◌∙◌}
 use Rattle.std.proofs.lemmas.Result.{on_ok_weaker}
-use Rattle.page_layout.specs.View.{page_bytes}
 use Rattle.heap_pages.specs.Table.{table_seen, table_with}
 use Rattle.heap_files.proofs.Relating.{block_added}
 use Rattle.heap_files.proofs.relations.judge_block.Goals as goal

@@ -1,4 +1,3 @@
-use Rattle.std.proofs.Common.{◌∙◌}
 use Rattle.std.proofs.lemmas.Result.{on_ok_weaker}
 use Rattle.heap_pages.specs.Table.{table_seen, table_with}
 use Rattle.heap_files.proofs.Relating.{table_added}
