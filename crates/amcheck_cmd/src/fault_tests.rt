@@ -3,6 +3,7 @@ use crate::fixtures::{
     CLEAN, CLUSTER, EXTERNAL, INT_COLUMN, Item, LIVE, SUCCESSOR, TEXT_IN_TOAST, Tuple, UPDATED,
     case_files, chunk_page, page_of, run_words,
 };
+use crate::trees::{INDEX, TWO_LEVELS, index_file};
 use outside::{MemFiles, MemSink, Part};
 use std::alloc::Global;
 use std::process::Abort;
@@ -19,21 +20,30 @@ enum Scene {
     Multixact,
     // A tuple whose value of 1996 bytes stands in the TOAST table.
     Toast,
+    // Three live tuples, and an index of two levels.
+    Index,
 }
 
-const SCENES: [Scene; 4] = [Scene::Pages, Scene::Heap, Scene::Multixact, Scene::Toast];
+const SCENES: [Scene; 5] = [
+    Scene::Pages,
+    Scene::Heap,
+    Scene::Multixact,
+    Scene::Toast,
+    Scene::Index,
+];
 
-fn words_of(scene: Scene) -> [&'static str; 2] {
+fn words_of(scene: Scene) -> &'static [&'static str] {
     match scene {
-        Scene::Pages => ["pages", "t"],
-        Scene::Heap | Scene::Multixact | Scene::Toast => ["heap", "case.toml"],
+        Scene::Pages => &["pages", "t"],
+        Scene::Heap | Scene::Multixact | Scene::Toast => &["heap", "case.toml"],
+        Scene::Index => &["index", "case.toml", "t_a"],
     }
 }
 
 // The heap of a scene.
 fn heap_of(scene: Scene) -> [u8; 8192] {
     match scene {
-        Scene::Pages | Scene::Heap => {
+        Scene::Pages | Scene::Heap | Scene::Index => {
             let second = Tuple { item: 2, ..LIVE };
             let third = Tuple { item: 3, ..LIVE };
             page_of(
@@ -61,11 +71,17 @@ fn heap_of(scene: Scene) -> [u8; 8192] {
 fn files_of(alloc: Global, scene: Scene) -> Result<MemFiles, Fail> {
     let rest = match scene {
         Scene::Toast => TEXT_IN_TOAST,
-        Scene::Pages | Scene::Heap | Scene::Multixact => INT_COLUMN,
+        Scene::Pages | Scene::Heap | Scene::Multixact | Scene::Index => INT_COLUMN,
     };
-    let text = format!(in alloc; "{CLUSTER}{rest}")?;
+    let index = match scene {
+        Scene::Index => INDEX,
+        _ => "",
+    };
+    let text = format!(in alloc; "{CLUSTER}{rest}{index}")?;
     let mut files = case_files(alloc, text.as_str(), &heap_of(scene))?;
     files.add("tt", Part::Segment(0), &chunk_page(0, 1996))?;
+    let tree = index_file(alloc, &TWO_LEVELS)?;
+    files.add("i", Part::Segment(0), tree.as_slice())?;
     Ok(files)
 }
 
@@ -80,7 +96,7 @@ fn faults_of(rt: &impl Abort, alloc: Global, scene: Scene, in_reads: bool) -> Re
             files.fail_length(n)?;
         }
         let mut sink = MemSink::new(alloc, 16)?;
-        let code = run_words(alloc, &words_of(scene), &mut files, &mut sink)?;
+        let code = run_words(alloc, words_of(scene), &mut files, &mut sink)?;
         if code == 0 {
             assert_eq!(rt; sink.bytes(), CLEAN.as_bytes());
             return Ok(n - 1);
@@ -110,7 +126,7 @@ fn each_put_may_fail(rt: HostRuntime) -> Result<(), Fail> {
             let mut files = files_of(alloc, scene)?;
             let mut sink = MemSink::new(alloc, 1)?;
             sink.fail_put(n as u64)?;
-            let code = run_words(alloc, &words_of(scene), &mut files, &mut sink)?;
+            let code = run_words(alloc, words_of(scene), &mut files, &mut sink)?;
             if n <= text.len() {
                 assert_eq!(rt; code, 8);
                 assert_eq!(rt; sink.bytes(), &text[..n - 1]);

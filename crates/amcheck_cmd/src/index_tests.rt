@@ -5,15 +5,13 @@ use crate::fixtures::{
     page_of,
 };
 use crate::trees::{
-    FIVE, IndexTuple, LONE_LEAF, NINE, THREE, TWO_LEVELS, TreePage, index_file, metapage, put_over,
+    FIVE, INDEX, IndexTuple, LONE_LEAF, NINE, THREE, TWO_LEVELS, TreePage, index_file, metapage,
+    put_over,
 };
 use outside::{MemFiles, Part};
 use std::alloc::Global;
 use std::process::Abort;
 use std::test::Fail;
-
-// An index on the column.
-const INDEX: &str = "[[index]]\nname = \"t_a\"\nfile = \"i\"\n[[index.key]]\ncolumn = \"a\"\n";
 
 // The last of a case's text, where the index's order is descending.
 const DESCENDING: &str = "desc = true\n";

@@ -3,6 +3,10 @@ use crate::fixtures::put;
 use std::alloc::Global;
 use std::test::Fail;
 
+/// An index on the column, in a case's text.
+pub(crate) const INDEX: &str =
+    "[[index]]\nname = \"t_a\"\nfile = \"i\"\n[[index.key]]\ncolumn = \"a\"\n";
+
 /// A tuple of a page of a tree: the fields of its header and its body. The block is below 65536.
 #[derive(Clone, Copy)]
 pub(crate) struct IndexTuple<'a> {
