@@ -13,7 +13,7 @@ use Rattle.reports.specs.declared.places.UnjudgedPlace.{UnjudgedPlace}
 use Rattle.heap_pages.specs.Alone.{BreaksAlone}
 use Rattle.heap_pages.proofs.AloneLaws.{lone_page_certain, lone_page_listed, lone_page_sound}
 use Rattle.heap_pages.proofs.PageLaws.{listed_in}
-use Rattle.amcheck_cmd.specs.Files.{file_refusal}
+use Rattle.amcheck_cmd.specs.Files.{lone_file_refusal}
 use Rattle.amcheck_cmd.specs.Outcome.{Outcome}
 use Rattle.amcheck_cmd.specs.Pages.{BreaksFile, block_found, file_found, judged_unless, pages_judged}
 
@@ -51,4 +51,4 @@ unless_is (Some refusal) owed lists e = cc
 
 -- a report of `pages` has what is found of the file
 pub pages_are : (name : List ℕ) (file : Option (List ℕ)) (lists : Lists) → pages_judged name file ≡ Ok lists → file_found file ≡ lists
-pages_are name file lists e = unless_is (file_refusal name file) (file_found file) lists e
+pages_are name file lists e = unless_is (lone_file_refusal name file) (file_found file) lists e

@@ -10,7 +10,8 @@ use Rattle.reports.specs.declared.fault.Which.{Which}
 use Rattle.reports.specs.declared.fault.Which.TheVariants as which
 use Rattle.reports.specs.Lists.{Lists}
 use Rattle.bt_levels.specs.Index.{index_of}
-use Rattle.amcheck_cmd.specs.Outcome.{Judged, Outcome, case_refused, no_file, text_too_large, too_large, usage}
+use Rattle.amcheck_cmd.specs.Outcome.{Judged, Outcome, case_refused, no_file, too_large, usage}
+use Rattle.amcheck_cmd.specs.declared.output.Unit.TheVariants.{Blocks, Bytes}
 
 -- how many bytes a case file may have
 abbrev pub text_limit : ℕ
@@ -26,7 +27,7 @@ case_by (Err refusal) = Err (case_refused refusal.0 refusal.1)
 
 abbrev pub case_unless : Bool → List ℕ → List ℕ → CaseRead
 case_unless large name text =
-    if large then Err (text_too_large name (length text) text_limit) else case_by (case_of text)
+    if large then Err (too_large name Bytes (length text) text_limit) else case_by (case_of text)
 
 -- the case in a file that is held or not
 unfoldable pub case_read : List ℕ → Option (List ℕ) → CaseRead
@@ -50,7 +51,7 @@ file_named case (which.Index n) = (index_of case n).file
 -- why the files of a case are refused. A fault of reading and want of memory are no refusals
 abbrev pub files_refused : CaseRecord → CheckFault → Outcome
 files_refused case (check.NoFile which) = no_file (file_named case which)
-files_refused case (check.TooLarge which blocks limit) = too_large (file_named case which) blocks limit
+files_refused case (check.TooLarge which blocks limit) = too_large (file_named case which) Blocks blocks limit
 files_refused case check.ReadFault = usage
 files_refused case check.NoMemory = usage
 

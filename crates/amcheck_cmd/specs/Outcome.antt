@@ -6,6 +6,8 @@ use Rattle.case_file.specs.declared.fault.CaseRule.{CaseRule}
 use Rattle.reports.specs.Lists.{Lists}
 use Rattle.reports.specs.Texts.{report_text, verdict_of}
 use Rattle.amcheck_cmd.specs.Answers.{answer_by, answer_code}
+use Rattle.amcheck_cmd.specs.declared.output.Unit.{Unit}
+use Rattle.amcheck_cmd.specs.declared.output.Unit.TheVariants.{Blocks, Bytes}
 use Rattle.amcheck_cmd.specs.declared.status.Answer.TheVariants.{CaseRefused, NoFile, TooLarge, NoBlock}
 
 -- the bytes and the code that a run owes
@@ -22,18 +24,14 @@ usage = record { bytes = codes "refused usage\n"; code = 3 }
 abbrev pub no_file : List ℕ → Outcome
 no_file name = record { bytes = codes "refused no file " ++ name ++ codes "\n"; code = answer_code NoFile }
 
--- a file of so many blocks, of which no more than the limit are judged
-abbrev pub too_large : List ℕ → (blocks limit : ℕ) → Outcome
-too_large name blocks limit = record {
-  bytes = codes "refused too large " ++ name ++ codes " blocks " ++ decimal blocks ++ codes " limit " ++ decimal limit
-      ++ codes "\n";
-  code = answer_code TooLarge;
-}
+abbrev pub unit_word : Unit → List ℕ
+unit_word Blocks = codes " blocks "
+unit_word Bytes = codes " bytes "
 
--- a case file of so many bytes
-abbrev pub text_too_large : List ℕ → (bytes limit : ℕ) → Outcome
-text_too_large name bytes limit = record {
-  bytes = codes "refused too large " ++ name ++ codes " bytes " ++ decimal bytes ++ codes " limit " ++ decimal limit
+-- a file that has so many blocks, or a case file of so many bytes, and may have no more than the limit
+abbrev pub too_large : List ℕ → Unit → (count limit : ℕ) → Outcome
+too_large name unit count limit = record {
+  bytes = codes "refused too large " ++ name ++ unit_word unit ++ decimal count ++ codes " limit " ++ decimal limit
       ++ codes "\n";
   code = answer_code TooLarge;
 }

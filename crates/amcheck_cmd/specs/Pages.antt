@@ -7,7 +7,7 @@ use Rattle.reports.specs.Added.{report_lists}
 use Rattle.reports.specs.Lists.{Lists}
 use Rattle.reports.specs.declared.places.Place.{Place}
 use Rattle.heap_pages.specs.Alone.{BreaksAlone, lone_page_found}
-use Rattle.amcheck_cmd.specs.Files.{file_refusal}
+use Rattle.amcheck_cmd.specs.Files.{lone_file_refusal}
 use Rattle.amcheck_cmd.specs.Outcome.{Judged, Outcome}
 
 -- a rule is broken at a place of a file: on one of its whole blocks
@@ -29,4 +29,4 @@ judged_unless None lists = Ok lists
 
 -- the report on a file that is held or not
 abbrev pub pages_judged : List ℕ → Option (List ℕ) → Judged
-pages_judged name file = judged_unless (file_refusal name file) (file_found file)
+pages_judged name file = judged_unless (lone_file_refusal name file) (file_found file)

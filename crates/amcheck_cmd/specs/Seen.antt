@@ -3,7 +3,7 @@ use Rattle.std.specs.Prelude.{◌≡◌, ℕ, ◌/◌, List, length, Option, Som
 use Rattle.std.specs.Option.{option_map}
 use Rattle.amcheck_cmd.specs.Answers.{answer_code}
 use Rattle.amcheck_cmd.specs.Cases.{CaseRead}
-use Rattle.amcheck_cmd.specs.Files.{file_refusal}
+use Rattle.amcheck_cmd.specs.Files.{lone_file_refusal}
 use Rattle.amcheck_cmd.specs.Outcome.{Outcome}
 use Rattle.amcheck_cmd.specs.Words.{Form, Heap, Index, Judge, Pages, Show}
 use Rattle.amcheck_cmd.specs.declared.blocks.Opening.{Opening}
@@ -32,9 +32,9 @@ outcome_seen o = record { bytes = o.text; code = answer_code o.answer }
 
 -- what is answered of a file that is read by itself, held or not: its refusal, or how many whole blocks it has
 abbrev pub IsOpening : List ℕ → Option (List ℕ) → Opening → Type 0
-IsOpening name file (Refused output) = file_refusal name file ≡ Some (outcome_seen output)
+IsOpening name file (Refused output) = lone_file_refusal name file ≡ Some (outcome_seen output)
 IsOpening name file (Blocks blocks) =
-    (file_refusal name file ≡ None) × IsSomeAnd file (λ bytes. length bytes / 8192 ≡ blocks)
+    (lone_file_refusal name file ≡ None) × IsSomeAnd file (λ bytes. length bytes / 8192 ≡ blocks)
 
 -- the case of a case file, or its refusal
 abbrev pub case_seen : CaseOpening → CaseRead

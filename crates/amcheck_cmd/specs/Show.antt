@@ -3,7 +3,7 @@ use Rattle.std.specs.Prelude.{ℕ, List, nat_lt, if◌then◌else◌, Option}
 use Rattle.rel_files.specs.Blocks.{block_in, blocks_in}
 use Rattle.reports.specs.Show.{heap_page_text, tree_page_text}
 use Rattle.amcheck_cmd.specs.Answers.{answer_code}
-use Rattle.amcheck_cmd.specs.Files.{file_refusal}
+use Rattle.amcheck_cmd.specs.Files.{lone_file_refusal}
 use Rattle.amcheck_cmd.specs.Outcome.{Outcome, no_block, refused_or}
 use Rattle.amcheck_cmd.specs.declared.status.Answer.TheVariants.{Clean}
 use Rattle.amcheck_cmd.specs.declared.words.Shown.{Shown}
@@ -21,6 +21,6 @@ page_shown kind block page = record { bytes = shown_text kind block page; code =
 -- one block of a file that is held or not, if it has that many
 unfoldable pub show_outcome : Shown → List ℕ → ℕ → Option (List ℕ) → Outcome
 show_outcome kind name block file =
-    refused_or (file_refusal name file)
+    refused_or (lone_file_refusal name file)
     (if nat_lt block (blocks_in file) then page_shown kind block (block_in file block)
     else no_block block (blocks_in file))

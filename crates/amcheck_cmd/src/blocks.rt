@@ -6,7 +6,7 @@ ghost use Rattle.rel_files.specs.Blocks.{block_in};
 ghost use Rattle.amcheck_cmd.specs.Seen.{IsOpening};
 
 use crate::fault::RunFault;
-use crate::output::{Output, no_file_output, too_large_output};
+use crate::output::{Output, Unit, no_file_output, too_large_output};
 use outside::{FileName, Files, Part};
 use std::alloc::Global;
 
@@ -23,7 +23,7 @@ pub enum Opening {
 }
 
 /// Asks for the length of a file that is read by itself.
-#[tactic(auto, unfolding(crate::specs::Files::file_refusal))]
+#[tactic(auto, unfolding(crate::specs::Files::lone_file_refusal))]
 pub fn open_file<F: Files>(alloc: Global, files: &mut F, file: &str) -> Result<Opening, RunFault>
     ensures opening { Tells F.seen files.old result (λ o names. IsOpening file.now (names file.now (Segment 0)) o) }
     ensures asked { Asked F.seen files.old files.new result RunFault.ReadFault }
@@ -37,6 +37,7 @@ pub fn open_file<F: Files>(alloc: Global, files: &mut F, file: &str) -> Result<O
         Some(len) if BLOCK_LIMIT < len / 8192 => Ok(Opening::Refused(too_large_output(
             alloc,
             file,
+            Unit::Blocks,
             len / 8192,
             BLOCK_LIMIT,
         )?)),

@@ -8,9 +8,7 @@ ghost use Rattle.amcheck_cmd.specs.Cases.{case_by, case_in, file_named, files_re
 ghost use Rattle.amcheck_cmd.specs.Seen.{case_seen, outcome_seen};
 
 use crate::fault::RunFault;
-use crate::output::{
-    Output, case_refused_output, no_file_output, text_too_large_output, too_large_output,
-};
+use crate::output::{Output, Unit, case_refused_output, no_file_output, too_large_output};
 use crate::text::read_text;
 use case_file::{Case, CaseFault, read_case};
 use outside::{FileName, Files, Part};
@@ -75,7 +73,13 @@ pub fn refuse_files(alloc: Global, case: &Case, fault: CheckFault) -> Result<Out
             which,
             blocks,
             limit,
-        } => Ok(too_large_output(alloc, file_named(case, which), blocks as u64, limit as u64)?),
+        } => Ok(too_large_output(
+            alloc,
+            file_named(case, which),
+            Unit::Blocks,
+            blocks as u64,
+            limit as u64,
+        )?),
         CheckFault::ReadFault => Err(RunFault::ReadFault),
         CheckFault::NoMemory => Err(RunFault::NoMemory),
     }
@@ -127,8 +131,12 @@ pub fn open_case<F: Files>(
     };
     match files.length(name)? {
         None => Ok(CaseOpening::Refused(no_file_output(alloc, file)?)),
-        Some(len) if TEXT_LIMIT < len => Ok(CaseOpening::Refused(text_too_large_output(
-            alloc, file, len, TEXT_LIMIT,
+        Some(len) if TEXT_LIMIT < len => Ok(CaseOpening::Refused(too_large_output(
+            alloc,
+            file,
+            Unit::Bytes,
+            len,
+            TEXT_LIMIT,
         )?)),
         Some(len) => open_long(alloc, files, file, len),
     }

@@ -1,6 +1,6 @@
 //! What a command is to write, and what it answers.
 ghost use Rattle.std.specs.Prelude.{◌≡◌, IfOk};
-ghost use Rattle.amcheck_cmd.specs.Outcome.{case_refused, no_block, no_file, reported, text_too_large, too_large};
+ghost use Rattle.amcheck_cmd.specs.Outcome.{case_refused, no_block, no_file, reported, too_large};
 ghost use Rattle.amcheck_cmd.specs.Seen.{outcome_seen};
 
 use crate::status::Answer;
@@ -31,43 +31,42 @@ pub fn no_file_output(alloc: Global, name: &str) -> Result<Output, NoMemory>
     })
 }
 
-/// The refusal of a file of so many blocks, of which no more than the limit are judged.
+/// What a file has too much of.
+#[derive(Clone, Copy, Debug, PartialEq, Eq)]
+pub enum Unit {
+    Blocks,
+    Bytes,
+}
+
+impl Unit {
+    ghost use Rattle.amcheck_cmd.specs.Outcome.{unit_word};
+
+    // Its word in a refusal.
+    fn word(self) -> &'static [u8]
+        ensures { result.now ≡ unit_word self }
+    {
+        match self {
+            Unit::Blocks => b" blocks ",
+            Unit::Bytes => b" bytes ",
+        }
+    }
+}
+
+/// The refusal of a file that has so much, and may have no more than the limit.
 pub fn too_large_output(
     alloc: Global,
     name: &str,
-    blocks: u64,
+    unit: Unit,
+    count: u64,
     limit: u64,
 ) -> Result<Output, NoMemory>
-    ensures { IfOk result (λ o. outcome_seen o ≡ too_large name.now blocks limit) }
+    ensures { IfOk result (λ o. outcome_seen o ≡ too_large name.now unit count limit) }
 {
     let mut text = Octets::new(alloc);
     text.push_slice(b"refused too large ")?;
     text.push_slice(name.as_bytes())?;
-    text.push_slice(b" blocks ")?;
-    text.push_decimal(blocks)?;
-    text.push_slice(b" limit ")?;
-    text.push_decimal(limit)?;
-    text.push_slice(b"\n")?;
-    Ok(Output {
-        text,
-        answer: Answer::TooLarge,
-    })
-}
-
-/// The refusal of a case file of so many bytes, which may have no more than the limit.
-pub fn text_too_large_output(
-    alloc: Global,
-    name: &str,
-    bytes: u64,
-    limit: u64,
-) -> Result<Output, NoMemory>
-    ensures { IfOk result (λ o. outcome_seen o ≡ text_too_large name.now bytes limit) }
-{
-    let mut text = Octets::new(alloc);
-    text.push_slice(b"refused too large ")?;
-    text.push_slice(name.as_bytes())?;
-    text.push_slice(b" bytes ")?;
-    text.push_decimal(bytes)?;
+    text.push_slice(unit.word())?;
+    text.push_decimal(count)?;
     text.push_slice(b" limit ")?;
     text.push_decimal(limit)?;
     text.push_slice(b"\n")?;

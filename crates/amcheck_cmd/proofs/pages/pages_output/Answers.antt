@@ -2,7 +2,7 @@ use Rattle.std.proofs.Common.{◌≡◌, List, ℕ, ◌∙◌, refl, sym, ap, su
 use Rattle.std.specs.Prelude.{Option, Some, None, IsSomeAnd}
 use Rattle.std.proofs.lemmas.Result.{IfOk-weaker}
 use Rattle.outside.specs.declared.files.Part.TheVariants.{Segment}
-use Rattle.amcheck_cmd.specs.Files.{file_refusal}
+use Rattle.amcheck_cmd.specs.Files.{lone_file_refusal}
 use Rattle.amcheck_cmd.specs.Outcome.{Outcome, owed_by, reported}
 use Rattle.amcheck_cmd.specs.Pages.{file_found, judged_unless, pages_judged}
 use Rattle.amcheck_cmd.specs.Seen.{IsOpening}
@@ -10,7 +10,7 @@ use Rattle.amcheck_cmd.specs.declared.blocks.Opening.{Opening}
 use Rattle.amcheck_cmd.proofs.pages.pages_output.Goals as goal
 
 -- a file that is there and isn't refused has a report
-owed : (name : List ℕ) (file : Option (List ℕ)) (P : List ℕ → Type 0) (o : Outcome) → file_refusal name file ≡ None → IsSomeAnd file P
+owed : (name : List ℕ) (file : Option (List ℕ)) (P : List ℕ → Type 0) (o : Outcome) → lone_file_refusal name file ≡ None → IsSomeAnd file P
     → ((bytes : List ℕ) → file ≡ Some bytes → o ≡ reported (file_found (Some bytes))) → o ≡ owed_by (pages_judged name file)
 owed name None P o none some by = absurd some
 owed name (Some bytes) P o none some by =
