@@ -17,6 +17,9 @@ compared-from page = elim (cases_Bool (is_leaf (opaque_of page))) [
   | inr e ↦ (let is : first_compared page ≡ first_data page + 2 = cond-false _ _ _ e in omega (arith, is))
 ]
 
+pub compared-past_1 : (page : List ℕ) → 1 < first_compared page
+compared-past_1 page = let from = compared-from page in let one = first_cases page in omega arith
+
 -- where the first of two tests says no
 none_below : (b c : Bool) → b ≡ false → (b && c) ≡ false
 none_below false c e = e

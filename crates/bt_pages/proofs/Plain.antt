@@ -1,5 +1,5 @@
 -- What is found of an item by itself, by what reading it tells.
-use Rattle.std.proofs.Common.{◌≡◌, ℕ, ◌∙◌, Bool, true, false, List, refl, sym, ap}
+use Rattle.std.proofs.Common.{◌≡◌, ℕ, ◌∙◌, Bool, true, false, List, [], refl, sym, ap}
 use Rattle.std.specs.Prelude.{◌&&◌, find, is_none, Option, Some, None, Ok, Err}
 use Rattle.key_orders.specs.declared.columns.KeySpec.{KeySpec}
 use Rattle.key_orders.specs.declared.more.MoreSpec.{MoreSpec}
@@ -11,9 +11,9 @@ use Rattle.bt_tuples.specs.declared.items.Spot3.{Spot3}
 use Rattle.bt_tuples.specs.declared.items.ItemFault.TheVariants.{Broken, Packed}
 use Rattle.bt_tuples.specs.Items.{Item, ItemFits, ItemOutcome, Pivot, Plain, Posting, item_outcome, item_rule_of, rule_in}
 use Rattle.bt_tuples.specs.Rules.{breaks_item_rule, has_packed, tuple_of}
+use Rattle.bt_tuples.specs.Keys.{first_key, last_key}
 use Rattle.bt_tuples.proofs.Outcomes.{packed_means, read_means, rule_is}
 use Rattle.tree_image.specs.Image.{item_at, separator_in, spot_of}
-use Rattle.tree_image.specs.Pages.{first_key, last_key}
 use Rattle.reports.specs.declared.places.Reason.{Reason}
 use Rattle.reports.specs.declared.places.Reason.TheVariants.{U5}
 use Rattle.bt_pages.specs.Questions.{doubt_by, is_plain, own_doubt, own_rule, own_rules}
@@ -64,6 +64,9 @@ pub fits-separator : (specs : List KeySpec) (item : Item) → ItemFits specs ite
 fits-separator specs (Pivot sep down) h = h
 fits-separator specs (Plain key more tid killed) h = record { fits = refl; whole = λ with. absurd cc }
 fits-separator specs (Posting key tids killed) h = record { fits = refl; whole = λ with. absurd cc }
+
+pub nothing-fits : (specs : List KeySpec) → IsKeySeparator specs (record { kept = []; tid = None })
+nothing-fits specs = record { fits = refl; whole = λ with. absurd cc }
 
 -- what was read of an item, at its place
 pub at_spot : (specs : List KeySpec) (more : List MoreSpec) (page : List ℕ) (i : ℕ) (spot : Spot3) (o : ItemOutcome)

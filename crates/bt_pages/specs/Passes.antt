@@ -1,5 +1,5 @@
 -- What one pass over the items of a page tells of them together.
-use Rattle.std.specs.Prelude.{◌≡◌, ◌≤◌, ℕ, zero, suc, Bool, true, false, ◌||◌, List, Option, Some, None}
+use Rattle.std.specs.Prelude.{◌≡◌, ◌≤◌, ℕ, zero, suc, Bool, true, false, ◌||◌, if◌then◌else◌, List}
 use Rattle.page_layout.specs.Page.{count_of}
 use Rattle.key_orders.specs.declared.columns.KeySpec.{KeySpec}
 use Rattle.key_orders.specs.declared.more.MoreSpec.{MoreSpec}
@@ -9,9 +9,11 @@ use Rattle.key_orders.specs.Separators.{separator_of}
 use Rattle.bt_meta.specs.Flags.{is_half_dead}
 use Rattle.bt_meta.specs.Pages.{opaque_of}
 use Rattle.tree_image.specs.Image.{item_at}
-use Rattle.tree_image.specs.Pages.{breaks_high_key, breaks_order, last_key}
+use Rattle.bt_tuples.specs.Keys.{last_key}
+use Rattle.tree_image.specs.Pages.{breaks_high_key, breaks_order}
 use Rattle.bt_pages.specs.declared.pass.Pass.{Pass}
 use Rattle.bt_pages.specs.declared.pass.Pass.TheVariants.{HalfDead, NotPlain, Disordered, Ordered}
+use Rattle.bt_pages.specs.declared.turns.Turns.{Turns}
 use Rattle.bt_pages.specs.Questions.{are_plain}
 
 -- one of the items 1 to n isn't above the one before it (B10)
@@ -33,13 +35,11 @@ unfoldable pub pass_of : List KeySpec → List MoreSpec → List ℕ → Pass
 pass_of specs more page =
     pass_by (is_half_dead (opaque_of page)) (are_plain specs more page (count_of page)) (is_disordered specs more page)
 
--- the key of the last entry of an item, as it lies on the page
-pub record IsLastKey (specs : List KeySpec) (more : List MoreSpec) (page : List ℕ) (i : ℕ) (key : SepRef) : Type 0 where
-  pub item : 1 ≤ i
-  pub key_is : separator_of key ≡ last_key (item_at specs more page i)
+-- the key that is carried past item i: that of its last entry, from item 1 on
+pub record IsCarried (specs : List KeySpec) (more : List MoreSpec) (page : List ℕ) (i : ℕ) (key : SepRef) : Type 0 where
   pub fits : IsKeySeparator specs (separator_of key)
+  pub key_is : 1 ≤ i → separator_of key ≡ last_key (item_at specs more page i)
 
--- the key that is carried past item i: there is one from item 1 on
-abbrev pub IsCarried : List KeySpec → List MoreSpec → List ℕ → ℕ → Option SepRef → Type 0
-IsCarried specs more page i None = i ≡ 0
-IsCarried specs more page i (Some key) = IsLastKey specs more page i key
+-- the key of the item that was read last
+abbrev pub held : Turns → SepRef
+held turns = if turns.is_right then turns.right.first else turns.left.first

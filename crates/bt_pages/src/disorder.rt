@@ -11,21 +11,16 @@ ghost use Rattle.tree_image.specs.Pages.{breaks_high_key, breaks_order};
 ghost use Rattle.bt_pages.specs.Passes.{IsCarried};
 ghost use Rattle.bt_pages.specs.Questions.{are_plain, breaks_on_page};
 
-use crate::order::{is_past_high_key, read_item};
-use bt_tuples::tree_item;
+use crate::order::is_past_high_key;
+use crate::turns::read_item;
+use bt_tuples::ItemKeys;
 use key_orders::{KeySpec, MoreSpec, SepRef};
 use page_layout::{PageKind, PageView, Rule};
-use tree_image::{keys_of, spot_of};
+use tree_image::spot_of;
 
-// The key of the last entry of an item.
-fn last_key_at<'p>(
-    page: PageView<'p>,
-    i: u16,
-    specs: &[KeySpec],
-    more: &[MoreSpec],
-) -> Option<SepRef<'p>>
+// The key of the last entry of item i; before the first item none is kept.
+fn last_key_at<'p>(page: PageView<'p>, i: u16, specs: &[KeySpec], more: &[MoreSpec]) -> SepRef<'p>
     requires page { page_rule_of PageKind.Tree (page_bytes page) ≡ None }
-    requires first { 1 ≤ i }
     requires last { i ≤ count_of (page_bytes page) }
     requires few { length specs.now ≤ 8 }
     requires few_more { length more.now ≤ 24 }
@@ -35,34 +30,17 @@ fn last_key_at<'p>(
     requires plain { are_plain specs.now more.now (page_bytes page) (count_of (page_bytes page)) ≡ true }
     ensures { IsCarried specs.now more.now (page_bytes page.entry) i result }
 {
-    match tree_item(page, i, specs, more, spot_of(page, i)) {
-        Err(_) => None,
-        Ok(item) => Some(keys_of(item).into_last()),
+    let mut keys = ItemKeys::new();
+    if i == 0 {
+        return keys.first;
     }
-}
-
-// The key of the last entry of the item before, if there is one.
-fn key_before<'p>(
-    page: PageView<'p>,
-    i: u16,
-    specs: &[KeySpec],
-    more: &[MoreSpec],
-) -> Option<SepRef<'p>>
-    requires page { page_rule_of PageKind.Tree (page_bytes page) ≡ None }
-    requires first { 1 ≤ i }
-    requires last { i ≤ count_of (page_bytes page) }
-    requires few { length specs.now ≤ 8 }
-    requires few_more { length more.now ≤ 24 }
-    requires aligned { All HasAlignment (key_types specs.now) }
-    requires aligned_more { All HasAlignment (more_types more.now) }
-    requires live { is_half_dead (opaque_of (page_bytes page)) ≡ false }
-    requires plain { are_plain specs.now more.now (page_bytes page) (count_of (page_bytes page)) ≡ true }
-    ensures { IsCarried specs.now more.now (page_bytes page.entry) (i - 1) result }
-{
-    if i == 1 {
-        return None;
+    match keys.read(page, i, specs, more, spot_of(page, i)) {
+        Err(_) => keys.first,
+        Ok(()) => {
+            keys.keep_last();
+            keys.first
+        }
     }
-    last_key_at(page, i - 1, specs, more)
 }
 
 // Whether an item breaks B10.
@@ -78,10 +56,10 @@ fn is_low_item(page: PageView<'_>, i: u16, specs: &[KeySpec], more: &[MoreSpec])
     requires plain { are_plain specs.now more.now (page_bytes page) (count_of (page_bytes page)) ≡ true }
     ensures { result ≡ breaks_order specs.now more.now (page_bytes page.entry) i }
 {
-    let before = key_before(page, i, specs, more);
-    match read_item(page, i, specs, more, &before) {
+    let before = last_key_at(page, i - 1, specs, more);
+    match read_item(page, i, specs, more, &before, &mut ItemKeys::new()) {
         None => false,
-        Some(step) => step.is_low,
+        Some(is_low) => is_low,
     }
 }
 
@@ -98,10 +76,8 @@ fn is_past(page: PageView<'_>, i: u16, specs: &[KeySpec], more: &[MoreSpec]) -> 
     requires plain { are_plain specs.now more.now (page_bytes page) (count_of (page_bytes page)) ≡ true }
     ensures { result ≡ breaks_high_key specs.now more.now (page_bytes page.entry) }
 {
-    match last_key_at(page, page.item_count(), specs, more) {
-        None => false,
-        Some(last) => is_past_high_key(page, specs, more, &last),
-    }
+    let last = last_key_at(page, page.item_count(), specs, more);
+    is_past_high_key(page, specs, more, &last)
 }
 
 /// The first of B10 and B11 that an item breaks, on a page where each item is plain.

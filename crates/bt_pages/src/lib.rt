@@ -15,6 +15,7 @@ mod order;
 mod page;
 mod pass;
 mod tree;
+mod turns;
 
 pub use glance::Glance;
 pub use laws::blocks_are_judged;

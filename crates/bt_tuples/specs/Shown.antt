@@ -15,3 +15,8 @@ item_shown (shown.Posting key tids killed) = Posting key tids killed
 abbrev pub outcome_shown : Result TreeItem ItemFault → ItemOutcome
 outcome_shown (Ok item) = Ok (item_shown item)
 outcome_shown (Err e) = Err e
+
+-- a tuple with this meaning, where its head could be told
+abbrev pub outcome_with : {A : Type 0} → Result A ItemFault → Item → ItemOutcome
+outcome_with (Ok a) meaning = Ok meaning
+outcome_with (Err e) meaning = Err e

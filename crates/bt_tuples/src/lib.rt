@@ -8,11 +8,14 @@
 mod forms;
 mod heads;
 mod items;
+mod keys;
 mod laws;
 #[cfg(test)]
 mod tests;
 mod tids;
+mod tuples;
 
 pub use items::{ItemFault, Spot3, TreeItem, tree_item};
+pub use keys::ItemKeys;
 pub use laws::item_rules_are_exact;
 pub use tids::TidList;

@@ -1,5 +1,6 @@
 //! The TIDs of an index tuple.
 ghost use Rattle.std.specs.Prelude.{◌≡◌, ◌+◌, ◌*◌, ◌<◌, ◌≤◌, Some, None, length, slice_get};
+ghost use Rattle.bt_tuples.specs.Keys.{first_or, last_tid, no_tid};
 ghost use Rattle.bt_tuples.specs.Rules.{are_not_rising, is_not_above, is_wrong};
 ghost use Rattle.bt_tuples.specs.Tuples.{tid_at, tids_at};
 
@@ -7,6 +8,9 @@ use crate::heads::TID_LEN;
 use key_orders::Tid;
 use page_layout::{block_at, u16_at};
 use std::marker::Model;
+
+// The TID of no tuple.
+const NO_TID: Tid = Tid { block: 0, item: 0 };
 
 /// The TIDs of a posting tuple, where they lie. Contracts see the list of them.
 #[derive(Drop)]
@@ -43,6 +47,7 @@ impl<'p> Model for TidList<'p> {
 
 impl<'p> TidList<'p> {
     // So many TIDs from a place of a tuple on.
+    #[inline]
     pub(crate) fn at(tuple: &'p [u8], at: usize, len: u16) -> TidList<'p>
         requires { at + 6 * len ≤ length tuple.now }
         ensures { result ≡ tids_at tuple.now at len }
@@ -56,6 +61,29 @@ impl<'p> TidList<'p> {
         ensures { result ≡ length self.now }
     {
         self.len
+    }
+
+    // The first of them.
+    #[inline]
+    pub(crate) fn first(&self) -> Tid
+        ensures { result ≡ first_or no_tid self.now }
+    {
+        if self.len() == 0 {
+            return NO_TID;
+        }
+        self.get(0)
+    }
+
+    // The last of them.
+    #[inline]
+    pub(crate) fn last(&self) -> Tid
+        ensures { result ≡ last_tid no_tid self.now }
+    {
+        let count = self.len();
+        if count == 0 {
+            return NO_TID;
+        }
+        self.get(count - 1)
     }
 
     /// TID k, counted from 0.

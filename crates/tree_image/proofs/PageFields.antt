@@ -19,7 +19,8 @@ use Rattle.bt_meta.specs.Heads.{tree_head_of}
 use Rattle.bt_tuples.specs.Rules.{KeepsItemRules, breaks_form, breaks_tids_by, is_pivot, includes_some, tuple_of}
 use Rattle.bt_tuples.proofs.TidLists.{length-tids_at}
 use Rattle.tree_image.specs.Image.{first_data, has_high_key, item_at, numbers_from, separator_in, spot_of}
-use Rattle.tree_image.specs.Pages.{breaks_downlink, breaks_half_dead, breaks_high_key, breaks_items, breaks_level, breaks_order, breaks_siblings, first_compared, first_key, is_bad_sibling, is_key_below, is_key_within, is_past, last_key, least_for_high_key}
+use Rattle.bt_tuples.specs.Keys.{first_key, last_key}
+use Rattle.tree_image.specs.Pages.{breaks_downlink, breaks_half_dead, breaks_high_key, breaks_items, breaks_level, breaks_order, breaks_siblings, first_compared, is_bad_sibling, is_key_below, is_key_within, is_past, least_for_high_key}
 use Rattle.tree_image.proofs.Rises.{IsGood}
 
 -- where one of two holds and the first does, the second doesn't

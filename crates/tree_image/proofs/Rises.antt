@@ -15,7 +15,8 @@ use Rattle.key_orders.specs.Scans.{order_of}
 use Rattle.bt_tuples.specs.Items.{Item, Pivot, Plain, Posting}
 use Rattle.bt_tuples.specs.Rules.{are_not_rising}
 use Rattle.tree_image.specs.Image.{keys_in, numbers_from}
-use Rattle.tree_image.specs.Pages.{first_key, is_key_below, last_key, last_tid}
+use Rattle.bt_tuples.specs.Keys.{first_key, last_key, last_tid}
+use Rattle.tree_image.specs.Pages.{is_key_below}
 
 -- the values of a key are equal to themselves
 abbrev pub AreSame : List KeySpec → Type 0

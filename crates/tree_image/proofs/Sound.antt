@@ -19,7 +19,8 @@ use Rattle.key_orders.specs.Scans.{order_of}
 use Rattle.bt_meta.specs.Flags.{is_half_dead, is_leaf}
 use Rattle.bt_meta.specs.Pages.{has_bad_root, is_just_one_zero, meta_of, opaque_of}
 use Rattle.tree_image.specs.Image.{downlink_in, first_data, has_high_key, index_image, item_at, keys_in, numbers_from, page_keys, separator_in}
-use Rattle.tree_image.specs.Pages.{KeepsPage, first_compared, first_key, is_key_below, is_key_within, last_key}
+use Rattle.bt_tuples.specs.Keys.{first_key, last_key}
+use Rattle.tree_image.specs.Pages.{KeepsPage, first_compared, is_key_below, is_key_within}
 use Rattle.tree_image.proofs.PageFields.{down_good, each_number, first_cases, half_dead_leaf, has_item, high_key_is, leaf_below, leaf_high_key_kept, leaf_if_below, leaf_item_good, leaf_spot, left_good, no_high_key_is, not_none, numbers_none, order_kept, right_good}
 use Rattle.tree_image.proofs.Rises.{AreSame, EndsWith, IsGood, RisesFrom, adjacent_from, items_end, items_rise, last_has}
 

@@ -1,6 +1,6 @@
 -- The rules that a page of a tree may break by itself and with its neighbours, each by its sentence over the bytes.
 use Rattle.std.specs.Prelude.{◌≡◌, ◌≢◌, ℕ, ◌+◌, ◌-◌, ◌<◌, ◌≤◌, Bool, true, false, not, ◌==◌, ◌&&◌, ◌||◌, nat_le}
-use Rattle.std.specs.Prelude.{nat_lt, if◌then◌else◌, List, [], ◌∷◌, Some, None}
+use Rattle.std.specs.Prelude.{nat_lt, if◌then◌else◌, List, None}
 use Rattle.std.specs.Ordering.{is_le, is_lt}
 use Rattle.page_layout.specs.declared.page.PageKind.TheVariants.{Tree}
 use Rattle.page_layout.specs.Page.{count_of, page_rule_of}
@@ -12,7 +12,7 @@ use Rattle.key_orders.specs.declared.Tid.{Tid}
 use Rattle.key_orders.specs.Keys.{columns_of, tid_order}
 use Rattle.bt_meta.specs.Flags.{is_half_dead, is_leaf, is_meta}
 use Rattle.bt_meta.specs.Pages.{KeepsMetaRules, is_idle, meta_of, opaque_of}
-use Rattle.bt_tuples.specs.Items.{Item, Pivot, Plain, Posting}
+use Rattle.bt_tuples.specs.Keys.{first_key, last_key}
 use Rattle.bt_tuples.specs.Rules.{KeepsItemRules, has_packed, tuple_of}
 use Rattle.tree_image.specs.Image.{downlink_in, first_data, has_high_key, item_at, separator_in, spot_of}
 
@@ -40,31 +40,6 @@ breaks_items page =
     (has_high_key page && (count_of page == 0)) || (not (is_leaf (opaque_of page)) && not (has_data page))
 
 -- The order of items
-
--- the key of an item's first entry and of its last; of a pivot both are what it keeps
-abbrev pub first_or : Tid → List Tid → Tid
-first_or t [] = t
-first_or t (u ∷ us) = u
-
-abbrev pub last_tid : Tid → List Tid → Tid
-last_tid t [] = t
-last_tid t (u ∷ us) = last_tid u us
-
-abbrev pub no_tid : Tid
-no_tid = record { block = 0; item = 0 }
-
-abbrev pub key_with : List Value → Tid → Separator Value Tid
-key_with key tid = record { kept = key; tid = Some tid }
-
-abbrev pub first_key : Item → Separator Value Tid
-first_key (Pivot sep down) = sep
-first_key (Plain key more tid killed) = key_with key tid
-first_key (Posting key tids killed) = key_with key (first_or no_tid tids)
-
-abbrev pub last_key : Item → Separator Value Tid
-last_key (Pivot sep down) = sep
-last_key (Plain key more tid killed) = key_with key tid
-last_key (Posting key tids killed) = key_with key (last_tid no_tid tids)
 
 -- one key is below another, or at most equal to it
 abbrev pub is_key_below : List KeySpec → Separator Value Tid → Separator Value Tid → Bool

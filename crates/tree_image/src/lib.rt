@@ -10,6 +10,4 @@ mod order;
 mod tests;
 
 pub use laws::{entries_are_gathered, kept_rules_make_a_sound_image};
-pub use order::{
-    ItemKeys, breaks_high_key, breaks_order, first_data, has_high_key, keys_of, spot_of,
-};
+pub use order::{breaks_high_key, breaks_order, first_data, has_high_key, spot_of};

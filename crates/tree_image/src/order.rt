@@ -1,100 +1,19 @@
 //! The items of a page in their order (rules B10 and B11), where they lie. A loop over a page reads
 //! each item once, and carries the last key of the item before.
-ghost use Rattle.std.specs.Prelude.{◌≡◌, ◌-◌, List, None};
+ghost use Rattle.std.specs.Prelude.{◌≡◌, ◌-◌, ◌≤◌, List, None};
 ghost use Rattle.key_orders.specs.declared.more.MoreSpec.{MoreSpec as More};
 ghost use Rattle.page_layout.specs.Page.{count_of, page_rule_of};
 ghost use Rattle.page_layout.specs.View.{page_bytes};
 ghost use Rattle.key_orders.specs.Keys.{IsKeySeparator};
 ghost use Rattle.key_orders.specs.Separators.{separator_of};
-ghost use Rattle.bt_tuples.specs.Shown.{item_shown};
+ghost use Rattle.bt_tuples.specs.Keys.{first_key, last_key};
 ghost use Rattle.tree_image.specs.Image.{first_data, has_high_key, item_at, separator_in, spot_of};
-ghost use Rattle.tree_image.specs.Pages.{breaks_high_key, breaks_order, first_compared, first_key, first_or, is_past};
-ghost use Rattle.tree_image.specs.Pages.{last_key, last_tid, least_for_high_key, no_tid};
+ghost use Rattle.tree_image.specs.Pages.{breaks_high_key, breaks_order, first_compared, is_past, least_for_high_key};
 
 use bt_meta::opaque;
-use bt_tuples::{Spot3, TidList, TreeItem};
-use key_orders::{KeySpec, SepRef, Tid, cmp_two_seps};
+use bt_tuples::{ItemKeys, Spot3};
+use key_orders::{KeySpec, SepRef, cmp_two_seps};
 use page_layout::{PageKind, PageView};
-
-/// The keys of an item's first entry and of its last one, which differ in their TIDs alone; of a
-/// pivot both are what it keeps.
-#[derive(Drop)]
-pub struct ItemKeys<'p> {
-    /// The key of the first entry.
-    pub first: SepRef<'p>,
-    /// The TID of the last one.
-    pub last: Option<Tid>,
-}
-
-const NO_TID: Tid = Tid { block: 0, item: 0 };
-
-// The first TID of a list.
-#[inline]
-fn first_of(tids: &TidList<'_>) -> Tid
-    ensures { result ≡ first_or no_tid tids.now }
-{
-    if tids.len() == 0 {
-        return NO_TID;
-    }
-    tids.get(0)
-}
-
-// The last one.
-#[inline]
-fn last_of(tids: &TidList<'_>) -> Tid
-    ensures { result ≡ last_tid no_tid tids.now }
-{
-    let count = tids.len();
-    if count == 0 {
-        return NO_TID;
-    }
-    tids.get(count - 1)
-}
-
-/// The keys of an item's first and last entry.
-#[inline]
-pub fn keys_of<'p>(item: TreeItem<'p>) -> ItemKeys<'p>
-    ensures first { separator_of result.first ≡ first_key (item_shown item.entry) }
-    ensures last { record { kept = result.first.kept; tid = result.last } ≡ last_key (item_shown item.entry) }
-{
-    match item {
-        TreeItem::Pivot { sep, .. } => {
-            let last = sep.tid;
-            ItemKeys { first: sep, last }
-        }
-        TreeItem::Plain { key, tid, .. } => ItemKeys {
-            first: SepRef {
-                kept: key,
-                tid: Some(tid),
-            },
-            last: Some(tid),
-        },
-        TreeItem::Posting { key, tids, .. } => {
-            let tid = first_of(&tids);
-            let last = last_of(&tids);
-            ItemKeys {
-                first: SepRef {
-                    kept: key,
-                    tid: Some(tid),
-                },
-                last: Some(last),
-            }
-        }
-    }
-}
-
-impl<'p> ItemKeys<'p> {
-    /// The key of the last entry, to compare the next item with.
-    #[inline]
-    pub fn into_last(self) -> SepRef<'p>
-        ensures { separator_of result ≡ record { kept = self.entry.first.kept; tid = self.entry.last } }
-    {
-        SepRef {
-            kept: self.first.kept,
-            tid: self.last,
-        }
-    }
-}
 
 /// Whether a page has a high key, its item 1: it has a right sibling.
 #[inline]
@@ -142,7 +61,9 @@ fn first_compared(page: PageView<'_>) -> u16
 }
 
 /// Whether item i breaks B10: it is a data item that is compared with the one before it, and isn't
-/// above it. It is asked with the last key of the item before and with the keys of the item.
+/// above it. It is asked with the last key of the item before, if it is compared with that, and with the
+/// keys of the item.
+#[inline]
 #[tactic(auto, unfolding(crate::specs::Pages::breaks_order))]
 pub fn breaks_order(
     page: PageView<'_>,
@@ -154,7 +75,8 @@ pub fn breaks_order(
     requires before { IsKeySeparator specs.now (separator_of before.now) }
     requires item { IsKeySeparator specs.now (separator_of keys.now.first) }
     ensures { (more : List More)
-        → separator_of before.now ≡ last_key (item_at specs.now more (page_bytes page.entry) (i - 1))
+        → (first_compared (page_bytes page.entry) ≤ i
+        → separator_of before.now ≡ last_key (item_at specs.now more (page_bytes page.entry) (i - 1)))
         → separator_of keys.now.first ≡ first_key (item_at specs.now more (page_bytes page.entry) i)
         → result ≡ breaks_order specs.now more (page_bytes page.entry) i }
 {

@@ -3,8 +3,8 @@ ghost use Rattle.std.specs.Prelude.{◌≡◌, ◌≤◌, length, All};
 ghost use Rattle.key_orders.specs.Types.{HasAlignment};
 ghost use Rattle.varlena_attrs.specs.Keyed.{key_types};
 
-use crate::{breaks_high_key, breaks_order, first_data, has_high_key, keys_of, spot_of};
-use bt_tuples::{Spot3, TreeItem, tree_item};
+use crate::{breaks_high_key, breaks_order, first_data, has_high_key, spot_of};
+use bt_tuples::{ItemKeys, Spot3};
 use key_orders::{ColType, KeySpec};
 use page_layout::{PageKind, PageView};
 
@@ -64,16 +64,13 @@ fn broken(bytes: &[u8; 8192]) -> Option<(bool, bool)> {
         return None;
     }
     let specs = [INT4];
-    let (Ok(first), Ok(second)) = (
-        tree_item(page, 1, &specs, &[], spot_of(page, 1)),
-        tree_item(page, 2, &specs, &[], spot_of(page, 2)),
-    ) else {
-        return None;
-    };
-    let first = keys_of(first).into_last();
-    let second = keys_of(second);
-    let order = breaks_order(page, 2, &specs, &first, &second);
-    let high_key = breaks_high_key(page, &specs, &second.into_last(), &first);
+    let (mut first, mut second) = (ItemKeys::new(), ItemKeys::new());
+    first.read(page, 1, &specs, &[], spot_of(page, 1)).ok()?;
+    second.read(page, 2, &specs, &[], spot_of(page, 2)).ok()?;
+    first.keep_last();
+    let order = breaks_order(page, 2, &specs, &first.first, &second);
+    second.keep_last();
+    let high_key = breaks_high_key(page, &specs, &second.first, &first.first);
     Some((order, high_key))
 }
 

@@ -1,5 +1,5 @@
 //! The columns of an index tuple, as values that lie in it.
-ghost use Rattle.std.specs.Prelude.{◌≡◌, ◌+◌, ◌++◌, [], ◌∷◌, ◌≤◌, ◌<◌, Err, ℕ, List, Option};
+ghost use Rattle.std.specs.Prelude.{◌≡◌, ◌+◌, ◌++◌, [], ◌∷◌, ◌≤◌, ◌<◌, Ok, Err, ℕ, List, Option};
 ghost use Rattle.std.specs.Prelude.{length, take, true, IfOk, IfErr, All};
 ghost use Rattle.std.specs.Option.{option_copied};
 ghost use Rattle.key_orders.specs.Keys.{fits_columns};
@@ -170,27 +170,27 @@ impl<'p> IndexColumns<'p> {
         Ok(value_at(ctype, self.body, found.place))
     }
 
-    // The values of the next columns, which are those of a key.
+    // Reads the values of the next columns, which are those of a key.
     #[inline(always)]
-    fn read_key(&mut self, specs: &[KeySpec]) -> Result<KeyRefs<'p>, KeyFault>
+    fn read_key(&mut self, specs: &[KeySpec], key: &mut KeyRefs<'p>) -> Result<(), KeyFault>
         requires few { length specs.now ≤ 8 }
         requires aligned { All HasAlignment (key_types specs.now) }
         requires first { self.old.column ≡ 0 }
         requires within { self.old.place ≤ length self.old.body.now }
-        ensures value { IfOk result (λ key. (types : List Column)
-            → told_by self.old [] (key_types specs.now ++ types) ≡ told_by self.new key types) }
+        ensures value { IfOk result (λ u. (types : List Column)
+            → told_by self.old [] (key_types specs.now ++ types) ≡ told_by self.new key.new types) }
         ensures fault { IfErr result (λ e. (types : List Column)
             → told_by self.old [] (key_types specs.now ++ types) ≡ Err e) }
-        ensures count { IfOk result (λ key. length key ≡ length specs.now) }
-        ensures fits { IfOk result (λ key. fits_columns specs.now key ≡ true) }
+        ensures count { IfOk result (λ u. length key.new ≡ length specs.now) }
+        ensures fits { IfOk result (λ u. fits_columns specs.now key.new ≡ true) }
         ensures within { self.new.place ≤ length self.new.body.now }
-        ensures next { IfOk result (λ key. self.new.column ≡ length specs.now) }
+        ensures next { IfOk result (λ u. self.new.column ≡ length specs.now) }
     {
-        let mut key = KeyRefs::new();
+        key.clear();
         for spec in specs {
             key.push(self.read(spec.ctype)?);
         }
-        Ok(key)
+        Ok(())
     }
 
     // The values of the last columns, which an index includes beside its key.
@@ -219,8 +219,6 @@ impl<'p> IndexColumns<'p> {
 /// A fault other than `Packed` comes exactly where one of these columns can't be read in the tuple,
 /// and names the first such column and the first cause there. `Packed` comes exactly where all can be
 /// read and one is compressed, and names the first such column.
-#[inline(always)]
-#[tactic(auto, unfolding(crate::specs::Keyed::key_values))]
 pub fn key_attributes<'p>(
     specs: &[KeySpec],
     body: &'p [u8],
@@ -234,17 +232,75 @@ pub fn key_attributes<'p>(
     ensures count { IfOk result (λ key. length key ≡ kept) }
     ensures fits { IfOk result (λ key. fits_columns specs.now key ≡ true) }
 {
+    let mut key = KeyRefs::new();
+    read_key_attributes(specs, body, nulls, kept, &mut key)?;
+    Ok(key)
+}
+
+/// Reads the values of [`key_attributes`] into a place that is at hand, where they are the only ones
+/// then. After a fault it has some of them.
+#[inline(always)]
+#[tactic(auto, unfolding(crate::specs::Keyed::key_values))]
+pub fn read_key_attributes<'p>(
+    specs: &[KeySpec],
+    body: &'p [u8],
+    nulls: Option<&'p [u8]>,
+    kept: u16,
+    key: &mut KeyRefs<'p>,
+) -> Result<(), KeyFault>
+    requires few { length specs.now ≤ 8 }
+    requires kept { kept ≤ length specs.now }
+    requires aligned { All HasAlignment (key_types specs.now) }
+    ensures value { IfOk result (λ u.
+        key_values (key_types (take kept specs.now)) body.now (option_copied nulls.entry) ≡ Ok key.new) }
+    ensures fault { IfErr result (λ e.
+        key_values (key_types (take kept specs.now)) body.now (option_copied nulls.entry) ≡ Err e) }
+    ensures count { IfOk result (λ u. length key.new ≡ kept) }
+    ensures fits { IfOk result (λ u. fits_columns specs.now key.new ≡ true) }
+{
     let mut columns = IndexColumns::new(body, nulls, kept);
-    let key = columns.read_key(&specs[..kept as usize])?;
+    columns.read_key(&specs[..kept as usize], key)?;
     match columns.packed {
         Some(column) => Err(KeyFault::Packed { column }),
-        None => Ok(key),
+        None => Ok(()),
+    }
+}
+
+/// The values of all columns of a leaf's index tuple, where they lie: those of the key, which are read
+/// into a place that is at hand, and after them those that the index includes. Faults are those of
+/// [`key_attributes`] over both; after one the place has some values of the key.
+#[tactic(auto, unfolding(crate::specs::Keyed::key_values))]
+pub fn read_entry_attributes<'p>(
+    specs: &[KeySpec],
+    more: &[MoreSpec],
+    body: &'p [u8],
+    nulls: Option<&'p [u8]>,
+    key: &mut KeyRefs<'p>,
+) -> Result<MoreRefs<'p>, KeyFault>
+    requires few { length specs.now ≤ 8 }
+    requires few_more { length more.now ≤ 24 }
+    requires aligned { All HasAlignment (key_types specs.now) }
+    requires aligned_more { All HasAlignment (more_types more.now) }
+    ensures value { IfOk result (λ rest.
+        key_values (key_types specs.now ++ more_types more.now) body.now (option_copied nulls.entry)
+        ≡ Ok (key.new ++ rest)) }
+    ensures fault { IfErr result (λ e.
+        key_values (key_types specs.now ++ more_types more.now) body.now (option_copied nulls.entry) ≡ Err e) }
+    ensures count { IfOk result (λ rest. length key.new ≡ length specs.now) }
+    ensures fits { IfOk result (λ rest. fits_columns specs.now key.new ≡ true) }
+{
+    let count = specs.len() as u16 + more.len() as u16;
+    let mut columns = IndexColumns::new(body, nulls, count);
+    columns.read_key(specs, key)?;
+    let rest = columns.read_more(more)?;
+    match columns.packed {
+        Some(column) => Err(KeyFault::Packed { column }),
+        None => Ok(rest),
     }
 }
 
 /// The values of all columns of a leaf's index tuple, where they lie: those of the key, and after
 /// them those that the index includes. Faults are those of [`key_attributes`] over both.
-#[tactic(auto, unfolding(crate::specs::Keyed::key_values))]
 pub fn entry_attributes<'p>(
     specs: &[KeySpec],
     more: &[MoreSpec],
@@ -260,14 +316,9 @@ pub fn entry_attributes<'p>(
     ensures key { IfOk result (λ both. length both.0 ≡ length specs.now) }
     ensures fits { IfOk result (λ both. fits_columns specs.now both.0 ≡ true) }
 {
-    let count = specs.len() as u16 + more.len() as u16;
-    let mut columns = IndexColumns::new(body, nulls, count);
-    let key = columns.read_key(specs)?;
-    let rest = columns.read_more(more)?;
-    match columns.packed {
-        Some(column) => Err(KeyFault::Packed { column }),
-        None => Ok((key, rest)),
-    }
+    let mut key = KeyRefs::new();
+    let more = read_entry_attributes(specs, more, body, nulls, &mut key)?;
+    Ok((key, more))
 }
 
 /// What the values of an index tuple say of its attributes, each answer for itself: they are the

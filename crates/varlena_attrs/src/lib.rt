@@ -20,6 +20,9 @@ pub use buffer::AttrBuffer;
 pub use fault::AttrFault;
 pub use inline::ColumnLayout;
 pub use key_orders::value_of;
-pub use keyed::{KeyFault, entry_attributes, key_attributes, key_values_are_attributes};
+pub use keyed::{
+    KeyFault, entry_attributes, key_attributes, key_values_are_attributes, read_entry_attributes,
+    read_key_attributes,
+};
 pub use places::{Attr, AttrPlace, ToastPointer, pointer_at};
 pub use reading::{Attrs, attributes, attributes_are_unique};

@@ -24,4 +24,4 @@ pub returns-in-Ok : goal.returns-in-Ok
 returns-in-Ok c =
     let means : item_shown c.in-Ok.item ≡ item_at c.args.specs.now c.args.more.now (page_bytes c.args.page) 1 =
     item-means c.args.specs.now c.args.more.now (page_bytes c.args.page) 1 c.requires.live _ (at_spot c.args.specs.now c.args.more.now (page_bytes c.args.page) 1 _ _ c.spot_of.ensures c.in-Ok.ensures.outcome) in
-    c.breaks_high_key.ensures c.args.more.now c.requires.last.key_is (c.separator_in.ensures ∙ ap separator_in means)
+    c.breaks_high_key.ensures c.args.more.now (c.requires.last.key_is c.requires.some) (c.separator_in.ensures ∙ ap separator_in means)

@@ -1,6 +1,6 @@
 use Rattle.std.proofs.Common.{◌≡◌, true}
 use Rattle.page_layout.specs.View.{page_bytes}
-use Rattle.bt_pages.specs.Passes.{IsCarried, are_disordered}
+use Rattle.bt_pages.specs.Passes.{IsCarried, are_disordered, held}
 use Rattle.bt_pages.specs.Questions.{are_plain}
 use Rattle.bt_pages.proofs.order.pass_over.Given as goal
 
@@ -8,6 +8,6 @@ use Rattle.bt_pages.proofs.order.pass_over.Given as goal
 abbrev pub invariant-loop-k : goal.invariant-loop-k
 invariant-loop-k l = record {
   plain : are_plain l.specs l.more (page_bytes l.page) l.k ≡ true;
-  carried : IsCarried l.specs l.more (page_bytes l.page) l.k l.before;
+  carried : IsCarried l.specs l.more (page_bytes l.page) l.k (held l.turns);
   disordered : l.is_disordered ≡ are_disordered l.specs l.more (page_bytes l.page) l.k;
 }

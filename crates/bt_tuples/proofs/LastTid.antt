@@ -2,7 +2,7 @@
 use Rattle.std.proofs.Common.{◌≡◌, suc, ◌-◌, List, [], ◌∷◌, length, ap, ◌∙◌, arith}
 use Rattle.std.specs.Prelude.{Option, Some, None, slice_get}
 use Rattle.key_orders.specs.declared.Tid.{Tid}
-use Rattle.tree_image.specs.Pages.{last_tid}
+use Rattle.bt_tuples.specs.Keys.{last_tid}
 
 pub last_is : (d t : Tid) (ts : List Tid) → Some t ≡ slice_get ts (length ts - 1) → t ≡ last_tid d ts
 last_is d t [] e = absurd (clash e)

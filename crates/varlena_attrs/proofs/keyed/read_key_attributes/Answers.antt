@@ -8,36 +8,36 @@ use Rattle.varlena_attrs.specs.declared.keyed.KeyFault.{KeyFault}
 use Rattle.varlena_attrs.specs.Keyed.{KeyValues, key_types, unless_packed}
 use Rattle.varlena_attrs.specs.KeyedShown.{told_by}
 use Rattle.varlena_attrs.proofs.Keying.{count_of_first, first_aligned, fits_first, told_all}
-use Rattle.varlena_attrs.proofs.keyed.key_attributes.Goals as goal
+use Rattle.varlena_attrs.proofs.keyed.read_key_attributes.Goals as goal
 
 -- what is told by all columns, none of which comes after those of the key
 all_read : (first last : IndexColumns) (types : List ColType) (key : List Value) (packed : Option ℕ) (told : KeyValues)
-    → told_by first [] types ≡ told → told_by first [] (types ++ []) ≡ told_by last key [] → last.packed ≡ packed → unless_packed packed key ≡ told
+    → told_by first [] types ≡ told → told_by first [] (types ++ []) ≡ told_by last key [] → last.packed ≡ packed → told ≡ unless_packed packed key
 all_read first last types key packed told is past_key where_packed =
-    sym (sym is ∙ ap (told_by first []) (sym (append-nil types)) ∙ past_key ∙ told_all last key packed where_packed)
+    sym is ∙ ap (told_by first []) (sym (append-nil types)) ∙ past_key ∙ told_all last key packed where_packed
 
 failed : (first : IndexColumns) (types : List ColType) (e : KeyFault) (told : KeyValues)
-    → told_by first [] types ≡ told → told_by first [] (types ++ []) ≡ Err e → Err e ≡ told
-failed first types e told is fault = sym (sym is ∙ ap (told_by first []) (sym (append-nil types)) ∙ fault)
+    → told_by first [] types ≡ told → told_by first [] (types ++ []) ≡ Err e → told ≡ Err e
+failed first types e told is fault = sym is ∙ ap (told_by first []) (sym (append-nil types)) ∙ fault
 
 pub read_key-requires-clause-aligned : goal.read_key-requires-clause-aligned
 read_key-requires-clause-aligned c = first_aligned c.args.kept c.args.specs.now c.requires.aligned
 
-pub returns-in_err-key-clause-value : goal.returns-in_err-key-clause-value
-returns-in_err-key-clause-value c =
+pub returns-in_err-read_key-clause-fault : goal.returns-in_err-read_key-clause-fault
+returns-in_err-read_key-clause-fault c =
     let p = err_from_is_err_and c.from_residual.result c.from_residual.ensures.1 in
     let types = key_types (take c.args.kept c.args.specs.now) in
-    rw (p.1, p.2) (failed c.new-columns.result types _ _ (c.new-columns.ensures.told types (count_of_first c.args.kept c.args.specs.now c.requires.kept)) (c.in_err-key.ensures.fault []))
+    rw (p.1, p.2) (failed c.new-columns.result types _ _ (c.new-columns.ensures.told types (count_of_first c.args.kept c.args.specs.now c.requires.kept)) (c.in_err-read_key.ensures.fault []))
 
-pub returns-in-Some-clause-value : goal.returns-in-Some-clause-value
-returns-in-Some-clause-value c =
+pub returns-in-Some-clause-fault : goal.returns-in-Some-clause-fault
+returns-in-Some-clause-fault c =
     let types = key_types (take c.args.kept c.args.specs.now) in
-    all_read c.new-columns.result c.read_key.new.self types c.in_ok-key.key _ _ (c.new-columns.ensures.told types (count_of_first c.args.kept c.args.specs.now c.requires.kept)) (c.in_ok-key.ensures.value []) c.in-Some.is
+    all_read c.new-columns.result c.read_key.new.self types c.read_key.new.key _ _ (c.new-columns.ensures.told types (count_of_first c.args.kept c.args.specs.now c.requires.kept)) (c.in_ok-read_key.ensures.value []) c.in-Some.is
 
 pub returns-in-None-clause-value : goal.returns-in-None-clause-value
 returns-in-None-clause-value c =
     let types = key_types (take c.args.kept c.args.specs.now) in
-    all_read c.new-columns.result c.read_key.new.self types c.in_ok-key.key _ _ (c.new-columns.ensures.told types (count_of_first c.args.kept c.args.specs.now c.requires.kept)) (c.in_ok-key.ensures.value []) c.in-None.is
+    all_read c.new-columns.result c.read_key.new.self types c.read_key.new.key _ _ (c.new-columns.ensures.told types (count_of_first c.args.kept c.args.specs.now c.requires.kept)) (c.in_ok-read_key.ensures.value []) c.in-None.is
 
 pub returns-in-None-clause-fits : goal.returns-in-None-clause-fits
-returns-in-None-clause-fits c = fits_first c.args.kept c.args.specs.now c.in_ok-key.key c.in_ok-key.ensures.fits
+returns-in-None-clause-fits c = fits_first c.args.kept c.args.specs.now c.read_key.new.key c.in_ok-read_key.ensures.fits

@@ -1,0 +1,117 @@
+//! The keys of items that follow each other: each is read into the place of the one before the last, so
+//! that no key is copied.
+ghost use Rattle.std.specs.Prelude.{◌≡◌, ◌≤◌, ◌-◌, [], length, false, None, All, IfSome, is_some};
+ghost use Rattle.page_layout.specs.Page.{count_of, page_rule_of};
+ghost use Rattle.page_layout.specs.View.{page_bytes};
+ghost use Rattle.key_orders.specs.Separators.{separator_of};
+ghost use Rattle.key_orders.specs.Types.{HasAlignment};
+ghost use Rattle.varlena_attrs.specs.Keyed.{key_types, more_types};
+ghost use Rattle.bt_meta.specs.Flags.{is_half_dead};
+ghost use Rattle.bt_meta.specs.Pages.{opaque_of};
+ghost use Rattle.tree_image.specs.Pages.{breaks_order};
+ghost use Rattle.bt_pages.specs.Passes.{IsCarried, held};
+ghost use Rattle.bt_pages.specs.Questions.{is_plain};
+
+use bt_tuples::ItemKeys;
+use key_orders::{KeySpec, MoreSpec, SepRef};
+use page_layout::{PageKind, PageView};
+use tree_image::{breaks_order, spot_of};
+
+// Reads item i into a place, where it is plain, and tells whether it isn't above the item before, whose
+// last key is in hand (B10). The place then has the key of the last entry.
+#[inline]
+pub fn read_item<'p>(
+    page: PageView<'p>,
+    i: u16,
+    specs: &[KeySpec],
+    more: &[MoreSpec],
+    before: &SepRef<'p>,
+    keys: &mut ItemKeys<'p>,
+) -> Option<bool>
+    requires page { page_rule_of PageKind.Tree (page_bytes page) ≡ None }
+    requires first { 1 ≤ i }
+    requires last { i ≤ count_of (page_bytes page) }
+    requires few { length specs.now ≤ 8 }
+    requires few_more { length more.now ≤ 24 }
+    requires aligned { All HasAlignment (key_types specs.now) }
+    requires aligned_more { All HasAlignment (more_types more.now) }
+    requires live { is_half_dead (opaque_of (page_bytes page)) ≡ false }
+    requires before { IsCarried specs.now more.now (page_bytes page) (i - 1) before.now }
+    ensures plain { is_plain specs.now more.now (page_bytes page.entry) i ≡ is_some result }
+    ensures low { IfSome result (λ low. low ≡ breaks_order specs.now more.now (page_bytes page.entry) i) }
+    ensures last { IfSome result (λ low. IsCarried specs.now more.now (page_bytes page.entry) i keys.new.first) }
+{
+    match keys.read(page, i, specs, more, spot_of(page, i)) {
+        Err(_) => None,
+        Ok(()) => {
+            let is_low = breaks_order(page, i, specs, before, keys);
+            keys.keep_last();
+            Some(is_low)
+        }
+    }
+}
+
+// The key of the last entry of the item that was read last, and room for that of the next.
+#[derive(Drop)]
+pub struct Turns<'p> {
+    left: ItemKeys<'p>,
+    right: ItemKeys<'p>,
+    // Which of them was read last.
+    is_right: bool,
+}
+
+impl<'p> Turns<'p> {
+    // Before the first item.
+    pub fn new() -> Turns<'p>
+        ensures { separator_of (held result) ≡ record { kept = []; tid = None } }
+    {
+        Turns {
+            left: ItemKeys::new(),
+            right: ItemKeys::new(),
+            is_right: false,
+        }
+    }
+
+    // The key of the last entry of the item that was read last.
+    #[inline]
+    pub fn last(&self) -> &SepRef<'p>
+        ensures { result.now ≡ held self.now }
+    {
+        if self.is_right {
+            &self.right.first
+        } else {
+            &self.left.first
+        }
+    }
+
+    // Reads the next item, item i, where it is plain, and tells whether it isn't above the one before.
+    #[inline]
+    pub fn read(
+        &mut self,
+        page: PageView<'p>,
+        i: u16,
+        specs: &[KeySpec],
+        more: &[MoreSpec],
+    ) -> Option<bool>
+        requires page { page_rule_of PageKind.Tree (page_bytes page) ≡ None }
+        requires first { 1 ≤ i }
+        requires last { i ≤ count_of (page_bytes page) }
+        requires few { length specs.now ≤ 8 }
+        requires few_more { length more.now ≤ 24 }
+        requires aligned { All HasAlignment (key_types specs.now) }
+        requires aligned_more { All HasAlignment (more_types more.now) }
+        requires live { is_half_dead (opaque_of (page_bytes page)) ≡ false }
+        requires before { IsCarried specs.now more.now (page_bytes page) (i - 1) (held self.old) }
+        ensures plain { is_plain specs.now more.now (page_bytes page.entry) i ≡ is_some result }
+        ensures low { IfSome result (λ low. low ≡ breaks_order specs.now more.now (page_bytes page.entry) i) }
+        ensures last { IfSome result (λ low. IsCarried specs.now more.now (page_bytes page.entry) i (held self.new)) }
+    {
+        let is_low = if self.is_right {
+            read_item(page, i, specs, more, &self.right.first, &mut self.left)
+        } else {
+            read_item(page, i, specs, more, &self.left.first, &mut self.right)
+        };
+        self.is_right = !self.is_right;
+        is_low
+    }
+}

@@ -1,0 +1,299 @@
+//! The bytes of an index tuple: which of the rules B6 to B9 they break, and the values of its key.
+ghost use Rattle.std.specs.Prelude.{◌≡◌, ◌≢◌, ◌<◌, ◌≤◌, ◌+◌, ◌*◌, ◌++◌, [], Bool};
+ghost use Rattle.std.specs.Prelude.{List, length, true, false, All, IfErr, IfOk, Ok, Err};
+ghost use Rattle.key_orders.specs.declared.more.MoreSpec.{MoreSpec as More};
+ghost use Rattle.key_orders.specs.Keys.{fits_columns};
+ghost use Rattle.key_orders.specs.Types.{HasAlignment};
+ghost use Rattle.varlena_attrs.specs.Keyed.{key_types, more_types};
+ghost use Rattle.bt_meta.specs.Heads.{tree_head_of};
+ghost use Rattle.bt_tuples.specs.Items.{Item, meaning_of, outcome_by, tuple_outcome};
+ghost use Rattle.bt_tuples.specs.Keys.{BeginsWithKey, key_count};
+ghost use Rattle.bt_tuples.specs.Rules.{breaks_tids, breaks_tids_by, is_pivot};
+ghost use Rattle.bt_tuples.specs.Shown.{outcome_with};
+ghost use Rattle.bt_tuples.specs.Tuples.{body_begin, body_end, keeps_tid, kept_tid, number_of, values_in};
+
+use crate::forms::breaks_form;
+use crate::heads::{
+    TID_LEN, body_begin, body_end, body_of, keeps_tid, null_bits_of, number_of, size_of,
+};
+use crate::items::{ItemFault, Spot3};
+use crate::tids::{are_not_rising, tid_at};
+use bt_meta::{HeadKind, TreeHead, tree_head};
+use key_orders::{KeyRefs, KeySpec, MoreRefs, MoreSpec, Tid};
+use page_layout::Rule;
+use varlena_attrs::{KeyFault, read_entry_attributes, read_key_attributes};
+
+// Why a tuple whose values can't be told has no meaning.
+#[inline]
+fn without_values(fault: KeyFault, breaks_tids: bool) -> ItemFault
+    ensures { (meaning : Item) → Err result ≡ outcome_by (Err fault) breaks_tids meaning }
+{
+    match fault {
+        KeyFault::PastEnd { .. } | KeyFault::BadHeader { .. } | KeyFault::External { .. } => {
+            ItemFault::Broken(Rule::B8)
+        }
+        KeyFault::Packed { .. } => {
+            if breaks_tids {
+                ItemFault::Broken(Rule::B9)
+            } else {
+                ItemFault::Packed
+            }
+        }
+    }
+}
+
+// The TID that a pivot keeps.
+#[inline]
+pub(crate) fn kept_tid(tuple: &[u8], head: TreeHead) -> Option<Tid>
+    requires long { 8 ≤ length tuple.now }
+    requires head { head ≡ tree_head_of tuple.now }
+    ensures { result ≡ kept_tid tuple.now }
+{
+    if keeps_tid(head) {
+        Some(tid_at(tuple, tuple.len() - TID_LEN))
+    } else {
+        None
+    }
+}
+
+// Whether the list of a posting tuple isn't right.
+#[inline]
+fn breaks_list(tuple: &[u8], head: TreeHead) -> bool
+    requires long { 8 ≤ length tuple.now }
+    requires head { head ≡ tree_head_of tuple.now }
+    ensures test { result ≡ breaks_tids_by HeadKind.Posting tuple.now }
+    ensures within { result ≡ false → head.block + 6 * number_of head ≤ length tuple.now }
+    ensures some { result ≡ false → 0 < number_of head }
+{
+    let at = head.block as usize;
+    let number = number_of(head);
+    at < body_begin(head)
+        || tuple.len() < at + TID_LEN * usize::from(number)
+        || number == 0
+        || are_not_rising(tuple, at, number)
+}
+
+// Whether the TIDs of a tuple aren't right.
+#[inline]
+fn breaks_tids(tuple: &[u8], head: TreeHead) -> bool
+    requires long { 8 ≤ length tuple.now }
+    requires head { head ≡ tree_head_of tuple.now }
+    ensures test { result ≡ breaks_tids tuple.now }
+    ensures within { result ≡ false → head.kind ≡ HeadKind.Posting
+        → head.block + 6 * number_of head ≤ length tuple.now }
+    ensures some { result ≡ false → head.kind ≡ HeadKind.Posting → 0 < number_of head }
+{
+    match head.kind {
+        HeadKind::Pivot => false,
+        HeadKind::Plain => head.item == 0,
+        HeadKind::Posting => breaks_list(tuple, head),
+    }
+}
+
+// Reads the values of a pivot.
+#[inline(always)]
+#[tactic(auto, unfolding(crate::specs::Tuples::values_in))]
+fn read_pivot_key<'p>(
+    specs: &[KeySpec],
+    tuple: &'p [u8],
+    head: TreeHead,
+    key: &mut KeyRefs<'p>,
+) -> Result<(), KeyFault>
+    requires few { length specs.now ≤ 8 }
+    requires aligned { All HasAlignment (key_types specs.now) }
+    requires long { 8 ≤ length tuple.now }
+    requires head { head ≡ tree_head_of tuple.now }
+    requires kind { head.kind ≡ HeadKind.Pivot }
+    requires begins { body_begin head ≤ body_end head (length tuple.now) }
+    requires kept { number_of head ≤ length specs.now }
+    ensures value { IfOk result (λ u. (more : List More) → values_in specs.now more tuple.now ≡ Ok key.new) }
+    ensures fault { IfErr result (λ e. (more : List More) → values_in specs.now more tuple.now ≡ Err e) }
+    ensures count { IfOk result (λ u. length key.new ≡ number_of head) }
+    ensures fits { IfOk result (λ u. fits_columns specs.now key.new ≡ true) }
+{
+    read_key_attributes(
+        specs,
+        body_of(tuple, head),
+        null_bits_of(tuple, head),
+        number_of(head),
+        key,
+    )
+}
+
+// Reads the values of a leaf's tuple in an index without included columns: those of the whole key.
+#[inline(always)]
+#[tactic(auto, unfolding(crate::specs::Tuples::values_in))]
+fn read_whole_key<'p>(
+    specs: &[KeySpec],
+    tuple: &'p [u8],
+    head: TreeHead,
+    key: &mut KeyRefs<'p>,
+) -> Result<(), KeyFault>
+    requires few { length specs.now ≤ 8 }
+    requires aligned { All HasAlignment (key_types specs.now) }
+    requires long { 8 ≤ length tuple.now }
+    requires head { head ≡ tree_head_of tuple.now }
+    requires kind { is_pivot head.kind ≡ false }
+    requires begins { body_begin head ≤ body_end head (length tuple.now) }
+    ensures value { IfOk result (λ u. values_in specs.now [] tuple.now ≡ Ok key.new) }
+    ensures fault { IfErr result (λ e. values_in specs.now [] tuple.now ≡ Err e) }
+    ensures count { IfOk result (λ u. length key.new ≡ length specs.now) }
+    ensures fits { IfOk result (λ u. fits_columns specs.now key.new ≡ true) }
+{
+    let count = specs.len() as u16;
+    read_key_attributes(
+        specs,
+        body_of(tuple, head),
+        null_bits_of(tuple, head),
+        count,
+        key,
+    )
+}
+
+// Reads the values of a leaf's tuple with those of included columns.
+#[tactic(auto, unfolding(crate::specs::Tuples::values_in))]
+pub(crate) fn read_covering<'p>(
+    specs: &[KeySpec],
+    more: &[MoreSpec],
+    tuple: &'p [u8],
+    head: TreeHead,
+    key: &mut KeyRefs<'p>,
+) -> Result<MoreRefs<'p>, KeyFault>
+    requires few { length specs.now ≤ 8 }
+    requires few_more { length more.now ≤ 24 }
+    requires aligned { All HasAlignment (key_types specs.now) }
+    requires aligned_more { All HasAlignment (more_types more.now) }
+    requires long { 8 ≤ length tuple.now }
+    requires head { head ≡ tree_head_of tuple.now }
+    requires kind { is_pivot head.kind ≡ false }
+    requires begins { body_begin head ≤ body_end head (length tuple.now) }
+    ensures value { IfOk result (λ rest. values_in specs.now more.now tuple.now ≡ Ok (key.new ++ rest)) }
+    ensures fault { IfErr result (λ e. values_in specs.now more.now tuple.now ≡ Err e) }
+    ensures count { IfOk result (λ rest. length key.new ≡ length specs.now) }
+    ensures fits { IfOk result (λ rest. fits_columns specs.now key.new ≡ true) }
+{
+    read_entry_attributes(
+        specs,
+        more,
+        body_of(tuple, head),
+        null_bits_of(tuple, head),
+        key,
+    )
+}
+
+// Reads the values of such a tuple, of which those of the key are kept. It stays a call: in line the
+// places of the others, 584 bytes, would be set to zero for each item of an index without included columns.
+#[inline(never)]
+fn read_covering_key<'p>(
+    specs: &[KeySpec],
+    more: &[MoreSpec],
+    tuple: &'p [u8],
+    head: TreeHead,
+    key: &mut KeyRefs<'p>,
+) -> Result<(), KeyFault>
+    requires few { length specs.now ≤ 8 }
+    requires few_more { length more.now ≤ 24 }
+    requires aligned { All HasAlignment (key_types specs.now) }
+    requires aligned_more { All HasAlignment (more_types more.now) }
+    requires long { 8 ≤ length tuple.now }
+    requires head { head ≡ tree_head_of tuple.now }
+    requires kind { is_pivot head.kind ≡ false }
+    requires begins { body_begin head ≤ body_end head (length tuple.now) }
+    requires some { more.now ≢ [] }
+    ensures value { IfOk result (λ u.
+        BeginsWithKey more.now head.kind (values_in specs.now more.now tuple.now) key.new) }
+    ensures fault { IfErr result (λ e. values_in specs.now more.now tuple.now ≡ Err e) }
+    ensures count { IfOk result (λ u. length key.new ≡ length specs.now) }
+    ensures fits { IfOk result (λ u. fits_columns specs.now key.new ≡ true) }
+{
+    match read_covering(specs, more, tuple, head, key) {
+        Err(fault) => Err(fault),
+        Ok(_) => Ok(()),
+    }
+}
+
+// Reads the values of a tuple, of which those of the key are kept.
+#[inline(always)]
+fn read_key<'p>(
+    specs: &[KeySpec],
+    more: &[MoreSpec],
+    tuple: &'p [u8],
+    head: TreeHead,
+    key: &mut KeyRefs<'p>,
+) -> Result<(), KeyFault>
+    requires few { length specs.now ≤ 8 }
+    requires few_more { length more.now ≤ 24 }
+    requires aligned { All HasAlignment (key_types specs.now) }
+    requires aligned_more { All HasAlignment (more_types more.now) }
+    requires long { 8 ≤ length tuple.now }
+    requires head { head ≡ tree_head_of tuple.now }
+    requires begins { body_begin head ≤ body_end head (length tuple.now) }
+    requires kept { head.kind ≡ HeadKind.Pivot → number_of head ≤ length specs.now }
+    ensures value { IfOk result (λ u.
+        BeginsWithKey more.now head.kind (values_in specs.now more.now tuple.now) key.new) }
+    ensures fault { IfErr result (λ e. values_in specs.now more.now tuple.now ≡ Err e) }
+    ensures count { IfOk result (λ u. length key.new ≡ key_count head (length specs.now)) }
+    ensures fits { IfOk result (λ u. fits_columns specs.now key.new ≡ true) }
+{
+    match head.kind {
+        HeadKind::Pivot => read_pivot_key(specs, tuple, head, key),
+        HeadKind::Plain | HeadKind::Posting => {
+            if more.is_empty() {
+                return read_whole_key(specs, tuple, head, key);
+            }
+            read_covering_key(specs, more, tuple, head, key)
+        }
+    }
+}
+
+// Reads the values of the key of a tuple at a place of this kind, where the tuple breaks none of the
+// rules B6 to B9 and has no compressed value. Then it answers its head.
+#[inline(always)]
+#[tactic(auto, unfolding(crate::specs::Items::tuple_outcome))]
+pub(crate) fn read_tuple<'p>(
+    specs: &[KeySpec],
+    more: &[MoreSpec],
+    spot: Spot3,
+    tuple: &'p [u8],
+    key: &mut KeyRefs<'p>,
+) -> Result<TreeHead, ItemFault>
+    requires few { length specs.now ≤ 8 }
+    requires few_more { length more.now ≤ 24 }
+    requires aligned { All HasAlignment (key_types specs.now) }
+    requires aligned_more { All HasAlignment (more_types more.now) }
+    requires long { 8 ≤ length tuple.now }
+    ensures head { IfOk result (λ head. head ≡ tree_head_of tuple.now) }
+    ensures begins { IfOk result (λ head. body_begin head ≤ body_end head (length tuple.now)) }
+    ensures outcome { (killed : Bool) → outcome_with result (meaning_of specs.now more.now tuple.now killed)
+        ≡ tuple_outcome specs.now more.now spot tuple.now killed }
+    ensures value { IfOk result (λ head.
+        BeginsWithKey more.now head.kind (values_in specs.now more.now tuple.now) key.new) }
+    ensures count { IfOk result (λ head. length key.new ≡ key_count head (length specs.now)) }
+    ensures fits { IfOk result (λ head. fits_columns specs.now key.new ≡ true) }
+    ensures whole { IfOk result (λ head. head.kind ≡ HeadKind.Pivot → keeps_tid head ≡ true
+        → number_of head ≡ length specs.now) }
+    ensures some { IfOk result (λ head. head.kind ≡ HeadKind.Posting → 0 < number_of head) }
+    ensures within { IfOk result (λ head. head.kind ≡ HeadKind.Posting
+        → head.block + 6 * number_of head ≤ length tuple.now) }
+{
+    let head = tree_head(tuple);
+    if usize::from(size_of(head)) != tuple.len() {
+        return Err(ItemFault::Broken(Rule::B6));
+    }
+    if breaks_form(spot, specs.len(), !more.is_empty(), head) {
+        return Err(ItemFault::Broken(Rule::B7));
+    }
+    if body_end(head, tuple.len()) < body_begin(head) {
+        return Err(ItemFault::Broken(Rule::B8));
+    }
+    let broken = breaks_tids(tuple, head);
+    match read_key(specs, more, tuple, head, key) {
+        Err(fault) => Err(without_values(fault, broken)),
+        Ok(()) => {
+            if broken {
+                return Err(ItemFault::Broken(Rule::B9));
+            }
+            Ok(head)
+        }
+    }
+}
