@@ -17,8 +17,9 @@ ghost use Rattle.varlena_attrs.specs.KeyedShown.{told_by};
 ghost use Rattle.varlena_attrs.specs.Reading.{attribute_at};
 ghost use Rattle.varlena_attrs.specs.Shown.{IsFoundWithin, IsWithin, shown_at};
 
-use crate::forms::{Cause, Found, attribute_at};
+use crate::forms::{Cause, Found, attribute_at, is_null};
 use crate::places::AttrPlace;
+use crate::plain::plain_piece;
 use key_orders::{ColType, KeyRefs, KeySpec, MoreRefs, MoreSpec, ValueRef, value_of};
 
 /// Why the columns of an index tuple can't be read. Columns count from 1, the included ones after
@@ -141,8 +142,13 @@ impl<'p> IndexColumns<'p> {
         ensures within { IfOk result (IsFoundWithin (length self.now.body.now)) }
         ensures long { IfOk result (λ found. HasPlainLength ctype found.place) }
     {
-        let column = self.column + 1;
         let k = self.column as usize;
+        if self.column < self.natts && !is_null(self.nulls, k) {
+            if let Some(piece) = plain_piece(ctype, self.body, self.place) {
+                return Ok(piece.found());
+            }
+        }
+        let column = self.column + 1;
         match attribute_at(ctype, self.body, self.nulls, self.natts, k, self.place) {
             Ok(found) => unless_external(found, column),
             Err(cause) => Err(cause.in_key(column)),

@@ -12,6 +12,7 @@ mod forms;
 mod inline;
 mod keyed;
 mod places;
+mod plain;
 mod reading;
 #[cfg(test)]
 mod tests;
