@@ -3,3 +3,4 @@ pub mod Index
 pub mod Broken
 pub mod Files
 pub mod Sound
+pub mod Window

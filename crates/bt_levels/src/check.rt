@@ -36,6 +36,7 @@ fn rules_of<'p>(case: &'p Case, at: &'p TreeFile) -> TreeRules<'p>
 
 // Judges the file of the index.
 fn judge_file<F: Files>(
+    alloc: Global,
     files: &mut F,
     case: &Case,
     at: &TreeFile,
@@ -49,7 +50,7 @@ fn judge_file<F: Files>(
 {
     case.sound();
     let tree = rules_of(case, at);
-    judge_index(files, &tree, report)
+    judge_index(alloc, files, &tree, report)
 }
 
 // Whether a report has as much as it had with these counts.
@@ -95,7 +96,7 @@ pub fn check_tree<F: Files>(
     ensures asked { Asked F.seen files.old files.new result CheckFault.ReadFault }
 {
     let before = report.counts();
-    judge_file(files, case, &at, report)?;
+    judge_file(alloc, files, case, &at, report)?;
     if !is_as_before(report, before) {
         return Ok(None);
     }

@@ -6,16 +6,18 @@ ghost use Rattle.key_orders.specs.Types.{HasAlignment};
 ghost use Rattle.varlena_attrs.specs.Keyed.{key_types, more_types};
 ghost use Rattle.rel_files.specs.Relation.{IsAttached, count_of, long_of};
 ghost use Rattle.reports.specs.Added.{report_lists};
-ghost use Rattle.bt_pages.specs.Found.{block_lists};
+ghost use Rattle.bt_pages.specs.Seen.{HasSeen, StaysSeen};
 ghost use Rattle.bt_pages.specs.Trees.{tree_seen};
 ghost use Rattle.bt_levels.specs.Lists.{blocks_lists, first_lists, index_lists, is_first_quiet, other_lists};
 ghost use Rattle.bt_levels.specs.Lists.{segment_lists};
 
 use crate::meta::{first_doubt, first_rule};
-use bt_pages::{TreeRules, add_found, judge_page};
+use crate::window::Window;
+use bt_pages::{SeenTree, TreeRules, add_found};
 use outside::{Files, NoMemory};
 use page_layout::{PageView, Rule};
 use reports::{PageFault, Place, Rel, Report};
+use std::alloc::Global;
 
 // Adds the finding of a segment that is too long.
 fn add_segment(report: &mut Report, number: u16, long: Option<u32>) -> Result<(), NoMemory>
@@ -55,53 +57,35 @@ fn judge_first<F: Files>(
     Ok(rule.is_none() && doubt.is_none())
 }
 
-// Reads a block into the page, and judges it.
-fn judge_block<F: Files>(
-    files: &mut F,
-    tree: &TreeRules<'_>,
-    b: u32,
-    page: &mut [u8; 8192],
-    report: &mut Report,
-) -> Result<(), PageFault>
-    requires few { length tree.now.specs.now ≤ 8 }
-    requires few_more { length tree.now.more.now ≤ 24 }
-    requires aligned { All HasAlignment (key_types tree.now.specs.now) }
-    requires aligned_more { All HasAlignment (more_types tree.now.more.now) }
-    requires attached { IfTold F.seen files.old (λ names. IsAttached names tree.now.relation.now) }
-    requires inside { b < count_of tree.now.relation.now }
-    ensures lists { IfTold F.seen files.old (λ names. AddsIn report_lists result report.old report.new
-        (block_lists (tree_seen names tree.now) b)) }
-    ensures asked { Asked F.seen files.old files.new result PageFault.ReadFault }
-{
-    tree.relation.read_block(files, b, page)?;
-    judge_page(files, tree, PageView::new(page), b, report)
-}
-
-// Judges the blocks from 1 on, one after the other, with one page in hand.
+// Judges the blocks from 1 on, one after the other.
 fn judge_others<F: Files>(
     files: &mut F,
-    tree: &TreeRules<'_>,
-    page: &mut [u8; 8192],
+    tree: &mut SeenTree<'_>,
     report: &mut Report,
 ) -> Result<(), PageFault>
-    requires few { length tree.now.specs.now ≤ 8 }
-    requires few_more { length tree.now.more.now ≤ 24 }
-    requires aligned { All HasAlignment (key_types tree.now.specs.now) }
-    requires aligned_more { All HasAlignment (more_types tree.now.more.now) }
-    requires attached { IfTold F.seen files.old (λ names. IsAttached names tree.now.relation.now) }
-    requires some { 0 < count_of tree.now.relation.now }
+    requires few { length tree.old.rules.specs.now ≤ 8 }
+    requires few_more { length tree.old.rules.more.now ≤ 24 }
+    requires aligned { All HasAlignment (key_types tree.old.rules.specs.now) }
+    requires aligned_more { All HasAlignment (more_types tree.old.rules.more.now) }
+    requires attached { IfTold F.seen files.old (λ names. IsAttached names tree.old.rules.relation.now) }
+    requires seen { IfTold F.seen files.old (λ names. HasSeen names tree.old) }
+    requires some { 0 < count_of tree.old.rules.relation.now }
     ensures lists { IfTold F.seen files.old (λ names. AddsIn report_lists result report.old report.new
-        (other_lists (tree_seen names tree.now))) }
+        (other_lists (tree_seen names tree.old.rules))) }
+    ensures tree { StaysSeen F.seen files.old tree.old tree.new }
     ensures asked { Asked F.seen files.old files.new result PageFault.ReadFault }
 {
-    for k in 0..tree.relation.blocks() - 1 {
-        judge_block(files, tree, k + 1, page, report)?;
+    let mut window = Window::new();
+    window.begin(files, tree)?;
+    for k in 0..tree.rules.relation.blocks() - 1 {
+        window.judge_next(files, tree, k + 1, report)?;
     }
     Ok(())
 }
 
 // Judges block 0, and where nothing is found of it the others.
 fn judge_blocks<F: Files>(
+    alloc: Global,
     files: &mut F,
     tree: &TreeRules<'_>,
     report: &mut Report,
@@ -117,7 +101,8 @@ fn judge_blocks<F: Files>(
 {
     let mut page = [0u8; 8192];
     if judge_first(files, tree, &mut page, report)? {
-        judge_others(files, tree, &mut page, report)?;
+        let mut seen = SeenTree::new(alloc, *tree)?;
+        judge_others(files, &mut seen, report)?;
     }
     Ok(())
 }
@@ -126,6 +111,7 @@ fn judge_blocks<F: Files>(
 /// found of that the other blocks (P1 to P4, B1 to B13, U5). After an error the report has a first part
 /// of what it would have got.
 pub fn judge_index<F: Files>(
+    alloc: Global,
     files: &mut F,
     tree: &TreeRules<'_>,
     report: &mut Report,
@@ -140,5 +126,5 @@ pub fn judge_index<F: Files>(
     ensures asked { Asked F.seen files.old files.new result PageFault.ReadFault }
 {
     add_segment(report, tree.number, tree.relation.long_segment())?;
-    judge_blocks(files, tree, report)
+    judge_blocks(alloc, files, tree, report)
 }

@@ -11,6 +11,7 @@ mod meta;
 mod sound;
 #[cfg(test)]
 mod tests;
+mod window;
 
 pub use check::check_tree;
 pub use files::TreeFile;

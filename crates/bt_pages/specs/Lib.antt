@@ -3,3 +3,4 @@ pub mod Questions
 pub mod Passes
 pub mod Found
 pub mod Broken
+pub mod Seen

@@ -7,6 +7,7 @@
 mod alone;
 mod disorder;
 mod glance;
+mod glances;
 mod items;
 mod laws;
 mod look;
@@ -14,6 +15,7 @@ mod neighbours;
 mod order;
 mod page;
 mod pass;
+mod seen;
 mod tree;
 mod turns;
 
@@ -21,4 +23,5 @@ pub use glance::Glance;
 pub use laws::blocks_are_judged;
 pub use look::glance_at;
 pub use page::{add_found, judge_page};
+pub use seen::SeenTree;
 pub use tree::TreeRules;

@@ -8,73 +8,76 @@ ghost use Rattle.key_orders.specs.declared.columns.KeySpec.{KeySpec as Spec};
 ghost use Rattle.key_orders.specs.declared.more.MoreSpec.{MoreSpec as More};
 ghost use Rattle.bt_meta.specs.Pages.{opaque_of};
 ghost use Rattle.bt_tuples.specs.Rules.{breaks_place};
-ghost use Rattle.rel_files.specs.Blocks.{block_of};
 ghost use Rattle.rel_files.specs.Faults.{read_fault};
-ghost use Rattle.rel_files.specs.Relation.{IsAttached, base_of, count_of as blocks_of, size_of};
+ghost use Rattle.rel_files.specs.Relation.{IsAttached};
 ghost use Rattle.tree_image.specs.Image.{downlink_in, item_at};
 ghost use Rattle.tree_image.specs.Pages.{breaks_downlink, breaks_siblings, is_bad_sibling};
 ghost use Rattle.bt_pages.specs.Questions.{breaks_item, downlink_rules, has_downlink, sibling_rule};
+ghost use Rattle.bt_pages.specs.Seen.{HasSeen, StaysSeen};
 ghost use Rattle.bt_pages.specs.Trees.{tree_seen};
 
-use crate::look::glance_at;
-use crate::tree::TreeRules;
+use crate::seen::SeenTree;
 use bt_meta::{HeadKind, opaque, tree_head};
 use outside::Files;
 use page_layout::{PageKind, PageView, Rule};
-use rel_files::{ReadFault, Relation};
+use rel_files::ReadFault;
 use tree_image::first_data;
 
 // Whether a block of this level has a left sibling that is a bad one.
 fn is_bad_left<F: Files>(
     files: &mut F,
-    relation: &Relation,
+    tree: &mut SeenTree<'_>,
     b: u32,
     level: u32,
     left: u32,
 ) -> Result<bool, ReadFault>
-    requires attached { IfTold F.seen files.old (λ names. IsAttached names relation.now) }
+    requires attached { IfTold F.seen files.old (λ names. IsAttached names tree.old.rules.relation.now) }
+    requires seen { IfTold F.seen files.old (λ names. HasSeen names tree.old) }
     requires level { IfTold F.seen files.old (λ names.
-        level ≡ (opaque_of (block_of names (base_of relation.now) (size_of relation.now) b)).level) }
+        level ≡ (opaque_of ((tree_seen names tree.old.rules).block b)).level) }
     ensures told { Tells F.seen files.old result (λ bad names.
-        let block = block_of names (base_of relation.now) (size_of relation.now) in
+        let seen = tree_seen names tree.old.rules in
         bad ≡ (not (left == 0)
-        && is_bad_sibling (blocks_of relation.now) block b left (opaque_of (block left)).next)) }
+        && is_bad_sibling seen.blocks seen.block b left (opaque_of (seen.block left)).next)) }
+    ensures tree { StaysSeen F.seen files.old tree.old tree.new }
     ensures asked { Asked F.seen files.old files.new result read_fault }
 {
     if left == 0 {
         return Ok(false);
     }
-    if left >= relation.blocks() {
+    if left >= tree.rules.relation.blocks() {
         return Ok(true);
     }
-    let page = glance_at(files, relation, left)?;
+    let page = tree.look(files, left)?;
     Ok(page.idle || page.special.level != level || page.special.next != b)
 }
 
 // Whether it has such a right sibling.
 fn is_bad_right<F: Files>(
     files: &mut F,
-    relation: &Relation,
+    tree: &mut SeenTree<'_>,
     b: u32,
     level: u32,
     right: u32,
 ) -> Result<bool, ReadFault>
-    requires attached { IfTold F.seen files.old (λ names. IsAttached names relation.now) }
+    requires attached { IfTold F.seen files.old (λ names. IsAttached names tree.old.rules.relation.now) }
+    requires seen { IfTold F.seen files.old (λ names. HasSeen names tree.old) }
     requires level { IfTold F.seen files.old (λ names.
-        level ≡ (opaque_of (block_of names (base_of relation.now) (size_of relation.now) b)).level) }
+        level ≡ (opaque_of ((tree_seen names tree.old.rules).block b)).level) }
     ensures told { Tells F.seen files.old result (λ bad names.
-        let block = block_of names (base_of relation.now) (size_of relation.now) in
+        let seen = tree_seen names tree.old.rules in
         bad ≡ (not (right == 0)
-        && is_bad_sibling (blocks_of relation.now) block b right (opaque_of (block right)).prev)) }
+        && is_bad_sibling seen.blocks seen.block b right (opaque_of (seen.block right)).prev)) }
+    ensures tree { StaysSeen F.seen files.old tree.old tree.new }
     ensures asked { Asked F.seen files.old files.new result read_fault }
 {
     if right == 0 {
         return Ok(false);
     }
-    if right >= relation.blocks() {
+    if right >= tree.rules.relation.blocks() {
         return Ok(true);
     }
-    let page = glance_at(files, relation, right)?;
+    let page = tree.look(files, right)?;
     Ok(page.idle || page.special.level != level || page.special.prev != b)
 }
 
@@ -84,21 +87,23 @@ fn is_bad_right<F: Files>(
 #[tactic(auto, unfolding(crate::specs::Questions::sibling_rule, tree_image::specs::Pages::breaks_siblings))]
 pub fn sibling_rule<F: Files>(
     files: &mut F,
-    tree: &TreeRules<'_>,
+    tree: &mut SeenTree<'_>,
     page: PageView<'_>,
     b: u32,
 ) -> Result<Option<Rule>, ReadFault>
-    requires attached { IfTold F.seen files.old (λ names. IsAttached names tree.now.relation.now) }
-    requires page { IfTold F.seen files.old (λ names. page_bytes page ≡ (tree_seen names tree.now).block b) }
-    ensures told { Tells F.seen files.old result (λ rule names. rule ≡ sibling_rule (tree_seen names tree.now) b) }
+    requires attached { IfTold F.seen files.old (λ names. IsAttached names tree.old.rules.relation.now) }
+    requires seen { IfTold F.seen files.old (λ names. HasSeen names tree.old) }
+    requires page { IfTold F.seen files.old (λ names. page_bytes page ≡ (tree_seen names tree.old.rules).block b) }
+    ensures told { Tells F.seen files.old result (λ rule names.
+        rule ≡ sibling_rule (tree_seen names tree.old.rules) b) }
+    ensures tree { StaysSeen F.seen files.old tree.old tree.new }
     ensures asked { Asked F.seen files.old files.new result read_fault }
 {
     let special = opaque(page);
-    let relation = tree.relation;
-    if is_bad_left(files, relation, b, special.level, special.prev)? {
+    if is_bad_left(files, tree, b, special.level, special.prev)? {
         return Ok(Some(Rule::B12));
     }
-    if is_bad_right(files, relation, b, special.level, special.next)? {
+    if is_bad_right(files, tree, b, special.level, special.next)? {
         return Ok(Some(Rule::B12));
     }
     Ok(None)
@@ -126,20 +131,21 @@ fn downlink(page: PageView<'_>, i: u16) -> u32
 #[tactic(auto, unfolding(tree_image::specs::Pages::breaks_downlink))]
 fn is_bad_downlink<F: Files>(
     files: &mut F,
-    relation: &Relation,
+    tree: &mut SeenTree<'_>,
     level: u32,
     down: u32,
 ) -> Result<bool, ReadFault>
-    requires attached { IfTold F.seen files.old (λ names. IsAttached names relation.now) }
+    requires attached { IfTold F.seen files.old (λ names. IsAttached names tree.old.rules.relation.now) }
+    requires seen { IfTold F.seen files.old (λ names. HasSeen names tree.old) }
     ensures told { Tells F.seen files.old result (λ bad names.
-        bad ≡ breaks_downlink (blocks_of relation.now) (block_of names (base_of relation.now) (size_of relation.now))
-        level down) }
+        let seen = tree_seen names tree.old.rules in bad ≡ breaks_downlink seen.blocks seen.block level down) }
+    ensures tree { StaysSeen F.seen files.old tree.old tree.new }
     ensures asked { Asked F.seen files.old files.new result read_fault }
 {
-    if down == 0 || down >= relation.blocks() {
+    if down == 0 || down >= tree.rules.relation.blocks() {
         return Ok(true);
     }
-    let page = glance_at(files, relation, down)?;
+    let page = tree.look(files, down)?;
     Ok(page.idle || u64::from(page.special.level) + 1 != u64::from(level))
 }
 
@@ -148,7 +154,7 @@ fn is_bad_downlink<F: Files>(
 /// only where the files couldn't be read.
 pub fn downlink_rule<F: Files>(
     files: &mut F,
-    tree: &TreeRules<'_>,
+    tree: &mut SeenTree<'_>,
     page: PageView<'_>,
     i: u16,
 ) -> Result<Option<Rule>, ReadFault>
@@ -156,17 +162,19 @@ pub fn downlink_rule<F: Files>(
     requires first { 1 ≤ i }
     requires last { i ≤ count_of (page_bytes page) }
     requires placed { breaks_place (page_bytes page) i ≡ false }
-    requires attached { IfTold F.seen files.old (λ names. IsAttached names tree.now.relation.now) }
+    requires attached { IfTold F.seen files.old (λ names. IsAttached names tree.old.rules.relation.now) }
+    requires seen { IfTold F.seen files.old (λ names. HasSeen names tree.old) }
     ensures told { Tells F.seen files.old result (λ rule names.
-        rule ≡ find (breaks_item (tree_seen names tree.now) (page_bytes page.entry) i)
+        rule ≡ find (breaks_item (tree_seen names tree.old.rules) (page_bytes page.entry) i)
         (downlink_rules (has_downlink (page_bytes page.entry) i))) }
+    ensures tree { StaysSeen F.seen files.old tree.old tree.new }
     ensures asked { Asked F.seen files.old files.new result read_fault }
 {
     let special = opaque(page);
     if special.is_leaf() || i < first_data(page) {
         return Ok(None);
     }
-    if is_bad_downlink(files, tree.relation, special.level, downlink(page, i))? {
+    if is_bad_downlink(files, tree, special.level, downlink(page, i))? {
         return Ok(Some(Rule::B13));
     }
     Ok(None)

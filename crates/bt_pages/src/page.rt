@@ -13,6 +13,7 @@ ghost use Rattle.reports.specs.Added.{doubt_at, each_upto, finding_at, joined, r
 ghost use Rattle.bt_pages.specs.Found.{item_lists, items_lists, page_lists};
 ghost use Rattle.bt_pages.specs.Passes.{pass_of};
 ghost use Rattle.bt_pages.specs.Questions.{item_rule, own_doubt, rule_on_page};
+ghost use Rattle.bt_pages.specs.Seen.{HasSeen, StaysSeen};
 ghost use Rattle.bt_pages.specs.Trees.{tree_seen};
 
 use crate::alone::lone_rule;
@@ -20,7 +21,7 @@ use crate::items::{ItemFound, found_on_page};
 use crate::neighbours::{downlink_rule, sibling_rule};
 use crate::order::pass_of_items;
 use crate::pass::Pass;
-use crate::tree::TreeRules;
+use crate::seen::SeenTree;
 use bt_meta::{is_idle, opaque};
 use key_orders::Tid;
 use outside::{Files, NoMemory};
@@ -48,7 +49,7 @@ pub fn add_found(
 // The first rule that an item breaks, by what is found of it before its downlink is followed.
 fn rule_of_item<F: Files>(
     files: &mut F,
-    tree: &TreeRules<'_>,
+    tree: &mut SeenTree<'_>,
     page: PageView<'_>,
     i: u16,
     found: ItemFound,
@@ -57,10 +58,12 @@ fn rule_of_item<F: Files>(
     requires first { 1 ≤ i }
     requires last { i ≤ count_of (page_bytes page) }
     requires placed { found.rule ≡ None → breaks_place (page_bytes page) i ≡ false }
-    requires attached { IfTold F.seen files.old (λ names. IsAttached names tree.now.relation.now) }
-    requires rule { found.rule ≡ rule_on_page tree.now.specs.now tree.now.more.now (page_bytes page) i }
+    requires attached { IfTold F.seen files.old (λ names. IsAttached names tree.old.rules.relation.now) }
+    requires seen { IfTold F.seen files.old (λ names. HasSeen names tree.old) }
+    requires rule { found.rule ≡ rule_on_page tree.old.rules.specs.now tree.old.rules.more.now (page_bytes page) i }
     ensures told { Tells F.seen files.old result (λ rule names.
-        rule ≡ item_rule (tree_seen names tree.now) (page_bytes page.entry) i) }
+        rule ≡ item_rule (tree_seen names tree.old.rules) (page_bytes page.entry) i) }
+    ensures tree { StaysSeen F.seen files.old tree.old tree.new }
     ensures asked { Asked F.seen files.old files.new result read_fault }
 {
     match found.rule {
@@ -72,7 +75,7 @@ fn rule_of_item<F: Files>(
 // Judges an item, by what one pass over the items of its page told.
 fn judge_item<F: Files>(
     files: &mut F,
-    tree: &TreeRules<'_>,
+    tree: &mut SeenTree<'_>,
     page: PageView<'_>,
     at: Tid,
     pass: Pass,
@@ -81,19 +84,21 @@ fn judge_item<F: Files>(
     requires page { page_rule_of PageKind.Tree (page_bytes page) ≡ None }
     requires first { 1 ≤ at.item }
     requires last { at.item ≤ count_of (page_bytes page) }
-    requires few { length tree.now.specs.now ≤ 8 }
-    requires few_more { length tree.now.more.now ≤ 24 }
-    requires aligned { All HasAlignment (key_types tree.now.specs.now) }
-    requires aligned_more { All HasAlignment (more_types tree.now.more.now) }
-    requires attached { IfTold F.seen files.old (λ names. IsAttached names tree.now.relation.now) }
-    requires pass { pass ≡ pass_of tree.now.specs.now tree.now.more.now (page_bytes page) }
+    requires few { length tree.old.rules.specs.now ≤ 8 }
+    requires few_more { length tree.old.rules.more.now ≤ 24 }
+    requires aligned { All HasAlignment (key_types tree.old.rules.specs.now) }
+    requires aligned_more { All HasAlignment (more_types tree.old.rules.more.now) }
+    requires attached { IfTold F.seen files.old (λ names. IsAttached names tree.old.rules.relation.now) }
+    requires seen { IfTold F.seen files.old (λ names. HasSeen names tree.old) }
+    requires pass { pass ≡ pass_of tree.old.rules.specs.now tree.old.rules.more.now (page_bytes page) }
     ensures lists { IfTold F.seen files.old (λ names. AddsIn report_lists result report.old report.new
-        (item_lists (tree_seen names tree.now) at.block (page_bytes page.entry) at.item)) }
+        (item_lists (tree_seen names tree.old.rules) at.block (page_bytes page.entry) at.item)) }
+    ensures tree { StaysSeen F.seen files.old tree.old tree.new }
     ensures asked { Asked F.seen files.old files.new result PageFault.ReadFault }
 {
-    let found = found_on_page(page, at.item, tree.specs, tree.more, pass);
+    let found = found_on_page(page, at.item, tree.rules.specs, tree.rules.more, pass);
+    let place = Place::Item(Rel::Index(tree.rules.number), at.block, at.item);
     let rule = rule_of_item(files, tree, page, at.item, found)?;
-    let place = Place::Item(Rel::Index(tree.number), at.block, at.item);
     add_found(report, place, rule, found.doubt)?;
     Ok(())
 }
@@ -101,21 +106,23 @@ fn judge_item<F: Files>(
 // Judges the items of a page one by one, by what a pass over them told.
 fn judge_each<F: Files>(
     files: &mut F,
-    tree: &TreeRules<'_>,
+    tree: &mut SeenTree<'_>,
     page: PageView<'_>,
     b: u32,
     pass: Pass,
     report: &mut Report,
 ) -> Result<(), PageFault>
     requires page { page_rule_of PageKind.Tree (page_bytes page) ≡ None }
-    requires few { length tree.now.specs.now ≤ 8 }
-    requires few_more { length tree.now.more.now ≤ 24 }
-    requires aligned { All HasAlignment (key_types tree.now.specs.now) }
-    requires aligned_more { All HasAlignment (more_types tree.now.more.now) }
-    requires attached { IfTold F.seen files.old (λ names. IsAttached names tree.now.relation.now) }
-    requires pass { pass ≡ pass_of tree.now.specs.now tree.now.more.now (page_bytes page) }
+    requires few { length tree.old.rules.specs.now ≤ 8 }
+    requires few_more { length tree.old.rules.more.now ≤ 24 }
+    requires aligned { All HasAlignment (key_types tree.old.rules.specs.now) }
+    requires aligned_more { All HasAlignment (more_types tree.old.rules.more.now) }
+    requires attached { IfTold F.seen files.old (λ names. IsAttached names tree.old.rules.relation.now) }
+    requires seen { IfTold F.seen files.old (λ names. HasSeen names tree.old) }
+    requires pass { pass ≡ pass_of tree.old.rules.specs.now tree.old.rules.more.now (page_bytes page) }
     ensures lists { IfTold F.seen files.old (λ names. AddsIn report_lists result report.old report.new
-        (items_lists (tree_seen names tree.now) b (page_bytes page.entry))) }
+        (items_lists (tree_seen names tree.old.rules) b (page_bytes page.entry))) }
+    ensures tree { StaysSeen F.seen files.old tree.old tree.new }
     ensures asked { Asked F.seen files.old files.new result PageFault.ReadFault }
 {
     for k in 0..page.item_count() {
@@ -132,22 +139,24 @@ fn judge_each<F: Files>(
 // items have downlinks, one by one.
 fn judge_items<F: Files>(
     files: &mut F,
-    tree: &TreeRules<'_>,
+    tree: &mut SeenTree<'_>,
     page: PageView<'_>,
     b: u32,
     report: &mut Report,
 ) -> Result<(), PageFault>
     requires page { page_rule_of PageKind.Tree (page_bytes page) ≡ None }
-    requires few { length tree.now.specs.now ≤ 8 }
-    requires few_more { length tree.now.more.now ≤ 24 }
-    requires aligned { All HasAlignment (key_types tree.now.specs.now) }
-    requires aligned_more { All HasAlignment (more_types tree.now.more.now) }
-    requires attached { IfTold F.seen files.old (λ names. IsAttached names tree.now.relation.now) }
+    requires few { length tree.old.rules.specs.now ≤ 8 }
+    requires few_more { length tree.old.rules.more.now ≤ 24 }
+    requires aligned { All HasAlignment (key_types tree.old.rules.specs.now) }
+    requires aligned_more { All HasAlignment (more_types tree.old.rules.more.now) }
+    requires attached { IfTold F.seen files.old (λ names. IsAttached names tree.old.rules.relation.now) }
+    requires seen { IfTold F.seen files.old (λ names. HasSeen names tree.old) }
     ensures lists { IfTold F.seen files.old (λ names. AddsIn report_lists result report.old report.new
-        (items_lists (tree_seen names tree.now) b (page_bytes page.entry))) }
+        (items_lists (tree_seen names tree.old.rules) b (page_bytes page.entry))) }
+    ensures tree { StaysSeen F.seen files.old tree.old tree.new }
     ensures asked { Asked F.seen files.old files.new result PageFault.ReadFault }
 {
-    let pass = pass_of_items(page, tree.specs, tree.more);
+    let pass = pass_of_items(page, tree.rules.specs, tree.rules.more);
     match pass {
         Pass::Ordered if opaque(page).is_leaf() => Ok(()),
         _ => judge_each(files, tree, page, b, pass, report),
@@ -162,22 +171,24 @@ fn judge_items<F: Files>(
 /// first part of what it would have got.
 pub fn judge_page<F: Files>(
     files: &mut F,
-    tree: &TreeRules<'_>,
+    tree: &mut SeenTree<'_>,
     page: PageView<'_>,
     b: u32,
     report: &mut Report,
 ) -> Result<(), PageFault>
-    requires few { length tree.now.specs.now ≤ 8 }
-    requires few_more { length tree.now.more.now ≤ 24 }
-    requires aligned { All HasAlignment (key_types tree.now.specs.now) }
-    requires aligned_more { All HasAlignment (more_types tree.now.more.now) }
-    requires attached { IfTold F.seen files.old (λ names. IsAttached names tree.now.relation.now) }
-    requires page { IfTold F.seen files.old (λ names. page_bytes page ≡ (tree_seen names tree.now).block b) }
+    requires few { length tree.old.rules.specs.now ≤ 8 }
+    requires few_more { length tree.old.rules.more.now ≤ 24 }
+    requires aligned { All HasAlignment (key_types tree.old.rules.specs.now) }
+    requires aligned_more { All HasAlignment (more_types tree.old.rules.more.now) }
+    requires attached { IfTold F.seen files.old (λ names. IsAttached names tree.old.rules.relation.now) }
+    requires seen { IfTold F.seen files.old (λ names. HasSeen names tree.old) }
+    requires page { IfTold F.seen files.old (λ names. page_bytes page ≡ (tree_seen names tree.old.rules).block b) }
     ensures lists { IfTold F.seen files.old (λ names. AddsIn report_lists result report.old report.new
-        (page_lists (tree_seen names tree.now) b (page_bytes page.entry))) }
+        (page_lists (tree_seen names tree.old.rules) b (page_bytes page.entry))) }
+    ensures tree { StaysSeen F.seen files.old tree.old tree.new }
     ensures asked { Asked F.seen files.old files.new result PageFault.ReadFault }
 {
-    let place = Place::Block(Rel::Index(tree.number), b);
+    let place = Place::Block(Rel::Index(tree.rules.number), b);
     match lone_rule(page) {
         Some(rule) => {
             report.add_rule(place, Some(rule))?;

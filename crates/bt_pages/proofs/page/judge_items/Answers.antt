@@ -8,5 +8,5 @@ use Rattle.bt_pages.proofs.page.judge_items.Goals as goal
 
 pub returns-in-Ordered-clause-lists : goal.returns-in-Ordered-clause-lists
 returns-in-Ordered-clause-lists g c names told =
-    let none = items-ordered (tree_seen names c.args.tree.now) c.args.b (page_bytes c.args.page) (sym c.in-Ordered.is ∙ c.pass_of_items-pass.ensures) (sym (c.is_leaf.ensures ∙ ap is_leaf c.opaque.ensures) ∙ c.if-is_leaf.true) in
+    let none = items-ordered (tree_seen names c.args.tree.now.rules) c.args.b (page_bytes c.args.page) (sym c.in-Ordered.is ∙ c.pass_of_items-pass.ensures) (sym (c.is_leaf.ensures ∙ ap is_leaf c.opaque.ensures) ∙ c.if-is_leaf.true) in
     sym (report_lists.with_none c.args.report.now) ∙ ap (joined c.args.report.now) (sym none)
