@@ -101,5 +101,13 @@ pub fn check_tree<F: Files>(
         return Ok(None);
     }
     let specs = keys_of(alloc, case.index_keys(at.index))?;
-    Ok(Some(SoundTree { file: at, specs }))
+    case.sound();
+    Ok(Some(SoundTree {
+        file: at,
+        specs,
+        fastroot: 0,
+        fastlevel: 0,
+        right_halves: 0,
+        half_dead: 0,
+    }))
 }

@@ -1,4 +1,4 @@
-//! What the lists of a report say of an index.
+//! What the lists of a report say of an index, and what holds of one in which nothing was found.
 ghost use Rattle.std.specs.Prelude.{ℕ, All};
 ghost use Rattle.outside.specs.Outside.{Names};
 ghost use Rattle.page_layout.specs.declared.rules.Rule.{Rule};
@@ -9,6 +9,13 @@ ghost use Rattle.tree_image.specs.Pages.{KeepsTreeRules};
 ghost use Rattle.bt_pages.specs.Broken.{AreEmpty, IsDoubtedAt, IsFoundAt};
 ghost use Rattle.bt_levels.specs.Broken.{Breaks, Doubts};
 ghost use Rattle.bt_levels.specs.Index.{tree_lists, tree_of};
+ghost use Rattle.bt_levels.specs.Sound.{HoldsTree, image_of, specs_of};
+ghost use Rattle.bt_levels.specs.declared.sound.SoundTree.{SoundTree as Sound};
+ghost use Rattle.key_orders.specs.Scans.{order_of};
+ghost use Rattle.tree_search.specs.Searchable.{IsSearchable};
+
+use key_orders::key_orders_are_total;
+use tree_image::kept_rules_make_a_sound_image;
 
 /// What `check_tree` adds to a report of an index is what is broken and what is in doubt.
 ///
@@ -34,3 +41,13 @@ pub fn indexes_are_judged()
     ensures kept { (case : CaseRecord) (names : Names) (n : ℕ) → AreEmpty (tree_lists case names n)
         → let tree = tree_of case names n in KeepsTreeRules tree.specs tree.more tree.blocks tree.block }
 {}
+
+/// Where the names hold the index, its image has all that a search of it needs
+/// (`tree_search::search_finds`).
+pub fn sound_trees_are_searchable()
+    ensures { (names : Names) (sound : Sound) → HoldsTree names sound
+        → IsSearchable (order_of (specs_of sound)) (image_of names sound) }
+{
+    key_orders_are_total();
+    kept_rules_make_a_sound_image();
+}

@@ -15,5 +15,5 @@ mod window;
 
 pub use check::check_tree;
 pub use files::TreeFile;
-pub use laws::indexes_are_judged;
+pub use laws::{indexes_are_judged, sound_trees_are_searchable};
 pub use sound::SoundTree;

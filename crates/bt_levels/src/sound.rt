@@ -1,27 +1,78 @@
 //! An index in which nothing was found.
+ghost use Rattle.std.specs.Prelude.{◌≤◌, All, length};
+ghost use Rattle.key_orders.specs.Types.{HasAlignment};
+ghost use Rattle.varlena_attrs.specs.Keyed.{key_types};
+
 use crate::files::TreeFile;
 use key_orders::KeySpec;
+use outside::Files;
+use rel_files::ReadFault;
 
 /// The file of an index, in which nothing was found and nothing stayed unjudged, with the columns of its
-/// key. It stores none of its bytes: it is used with the files and the case that it was made with. Its
-/// pages were judged one by one; how the pages of a level stand together isn't judged yet.
+/// key and what its levels have. It stores none of its bytes: it is used with the files and the case that
+/// it was made with.
 #[derive(Drop)]
 pub struct SoundTree {
     pub(crate) file: TreeFile,
     pub(crate) specs: Vec<KeySpec>,
+    pub(crate) fastroot: u32,
+    pub(crate) fastlevel: u32,
+    pub(crate) right_halves: u32,
+    pub(crate) half_dead: u32,
+    ghost few: { length specs.items ≤ 8 },
+    ghost aligned: { All HasAlignment (key_types specs.items) },
 }
 
 impl SoundTree {
-    ghost use Rattle.std.specs.Prelude.{◌≡◌};
-    ghost use Rattle.rel_files.specs.Relation.{count_of};
+    ghost use Rattle.std.specs.Prelude.{◌≡◌, ◌<◌, ◌≤◌, All, OnOk, length};
+    ghost use Rattle.key_orders.specs.Types.{HasAlignment};
+    ghost use Rattle.varlena_attrs.specs.Keyed.{key_types};
+    ghost use Rattle.outside.specs.Outside.{AskedAtMost, IfTold};
+    ghost use Rattle.rel_files.specs.Blocks.{block_of};
+    ghost use Rattle.rel_files.specs.Faults.{read_fault};
+    ghost use Rattle.rel_files.specs.Relation.{IsAttached, base_of, count_of, size_of};
     ghost use Rattle.bt_levels.specs.Files.{number_of, relation_of};
-    ghost use Rattle.bt_levels.specs.Sound.{file_of, specs_of};
+    ghost use Rattle.bt_levels.specs.Sound.{fastlevel_of, fastroot_of, file_of, half_dead_of, right_halves_of, specs_of};
+
+    /// A law: its key has at most 8 columns, each of a type whose values are aligned.
+    pub fn keyed(&self)
+        ensures few { length (specs_of self.now) ≤ 8 }
+        ensures aligned { All HasAlignment (key_types (specs_of self.now)) }
+    {}
 
     /// The number of its blocks, the metapage among them.
     pub fn blocks(&self) -> u32
         ensures { result ≡ count_of (relation_of (file_of self.now)) }
     {
         self.file.relation.blocks()
+    }
+
+    /// The block where searches begin; 0 in an empty tree.
+    pub fn fastroot(&self) -> u32
+        ensures { result ≡ fastroot_of self.now }
+    {
+        self.fastroot
+    }
+
+    /// The level of that block's page, 0 for a leaf.
+    pub fn fastlevel(&self) -> u32
+        ensures { result ≡ fastlevel_of self.now }
+    {
+        self.fastlevel
+    }
+
+    /// How many of its pages are right halves, to which no downlink leads yet.
+    pub fn right_halves(&self) -> u32
+        ensures { result ≡ right_halves_of self.now }
+    {
+        self.right_halves
+    }
+
+    /// How many of its leaves are half-dead.
+    pub fn half_dead(&self) -> u32
+        ensures { result ≡ half_dead_of self.now }
+    {
+        self.half_dead
     }
 
     /// The columns of its key, at most 8.
@@ -36,5 +87,22 @@ impl SoundTree {
         ensures { result ≡ number_of (file_of self.now) }
     {
         self.file.index
+    }
+
+    /// Reads a block of it into `out`; blocks count from 0. `ReadFault` comes only where the files
+    /// couldn't be read, and `out` is then unspecified.
+    pub fn read_block<F: Files>(
+        &self,
+        files: &mut F,
+        b: u32,
+        out: &mut [u8; 8192],
+    ) -> Result<(), ReadFault>
+        requires attached { IfTold F.seen files.old (λ names. IsAttached names (relation_of (file_of self.now))) }
+        requires below { b < count_of (relation_of (file_of self.now)) }
+        ensures bytes { OnOk result (IfTold F.seen files.old (λ names. out.new
+            ≡ block_of names (base_of (relation_of (file_of self.now))) (size_of (relation_of (file_of self.now))) b)) }
+        ensures asked { AskedAtMost 1 F.seen files.old files.new result read_fault }
+    {
+        self.file.relation.read_block(files, b, out)
     }
 }
