@@ -1,0 +1,6 @@
+pub mod Pages
+pub mod Entries
+pub mod Spots
+pub mod Descents
+pub mod Leaves
+pub mod Steps

@@ -1,0 +1,208 @@
+//! The entries of a leaf, one after another.
+ghost use Rattle.std.specs.Prelude.{◌≡◌, ◌≢◌, ◌<◌, ◌≤◌, ◌+◌, ◌↔◌, ℕ, [], None, Some, All, IfSome, IsSome, length, slice_get};
+ghost use Rattle.outside.specs.Outside.{Names as Held};
+ghost use Rattle.page_layout.specs.Page.{count_of, page_rule_of};
+ghost use Rattle.page_layout.specs.View.{page_bytes};
+ghost use Rattle.tree_search.specs.Keys.{Entry as Given};
+ghost use Rattle.key_orders.specs.declared.columns.Value.{Value};
+ghost use Rattle.key_orders.specs.declared.Tid.{Tid as Place};
+ghost use Rattle.key_orders.specs.Keys.{IsKey};
+ghost use Rattle.key_orders.specs.Scans.{FitsKey, scan_of};
+ghost use Rattle.key_orders.specs.Types.{HasAlignment};
+ghost use Rattle.varlena_attrs.specs.Keyed.{key_types};
+ghost use Rattle.bt_levels.specs.Sound.{HoldsTree, specs_of};
+ghost use Rattle.bt_search.specs.Entries.{HasEntry, IsRead, keys_at};
+ghost use Rattle.bt_search.specs.Leaves.{HasFate, TellsItem, TellsLeaf};
+ghost use Rattle.bt_search.specs.Spots.{StandsAt};
+ghost use Rattle.bt_search.specs.declared.spot.Spot.{Spot as Reached};
+
+use crate::descent::Search;
+use crate::laws::searches_go_in_steps;
+use crate::spot::Spot;
+use bt_meta::opaque;
+use bt_tuples::{Spot3, TreeItem, tree_item};
+use key_orders::{KeyRefs, KeySpec, Scan, matches, past_high};
+use page_layout::{PageKind, PageView};
+
+/// What a scan does with an entry.
+#[derive(Clone, Copy, Debug, PartialEq, Eq)]
+pub enum Fate {
+    /// It ends: the entry is past the high bound.
+    Past,
+    /// It yields the entry.
+    Wanted,
+    /// It passes over it.
+    Other,
+}
+
+/// What a scan does with each entry of an item, and how many there are.
+#[derive(Clone, Copy, Debug, PartialEq, Eq)]
+pub struct ItemFate {
+    pub fate: Fate,
+    pub count: u16,
+}
+
+/// What is found of an item from a spot on.
+#[derive(Clone, Copy, Debug, PartialEq, Eq)]
+pub enum OnItem {
+    /// An entry that is wanted.
+    Entry(Spot),
+    /// An entry that is past the high bound.
+    End,
+    /// Nothing, and the spot is behind the item.
+    Passed,
+    /// The item can't be read, as none that was judged.
+    Lost,
+}
+
+/// What is found of a leaf from a spot on.
+#[derive(Clone, Copy, Debug, PartialEq, Eq)]
+pub enum OnLeaf {
+    /// An entry that is wanted.
+    Entry(Spot),
+    /// The end of the scan.
+    End,
+    /// Nothing more, and the search goes on to this block.
+    Right(u32),
+}
+
+// What a scan does with entries of this key.
+fn fate_of(specs: &[KeySpec], scan: &Scan, key: &KeyRefs<'_>, killed: bool) -> Fate
+    requires fits { FitsKey specs.now scan.now }
+    requires key { IsKey specs.now key.now }
+    ensures { (e : Given Value Place) → e.values ≡ key.now → e.killed ≡ killed
+        → HasFate (scan_of specs.now scan.now) result e }
+{
+    if past_high(specs, scan, key) {
+        Fate::Past
+    } else if matches(specs, scan, key) && !killed {
+        Fate::Wanted
+    } else {
+        Fate::Other
+    }
+}
+
+// What a scan does with the entries of item i, if it can be read.
+fn fate_at(page: PageView<'_>, i: u16, specs: &[KeySpec], scan: &Scan) -> Option<ItemFate>
+    requires page { page_rule_of PageKind.Tree (page_bytes page) ≡ None }
+    requires first { 1 ≤ i }
+    requires last { i ≤ count_of (page_bytes page) }
+    requires few { length specs.now ≤ 8 }
+    requires aligned { All HasAlignment (key_types specs.now) }
+    requires fits { FitsKey specs.now scan.now }
+    ensures read { IsSome result ↔ IsRead specs.now (page_bytes page.entry) i }
+    ensures count { IfSome result (λ it. it.count ≡ length (keys_at specs.now (page_bytes page.entry) i)) }
+    ensures fate { IfSome result (λ it. (k : ℕ) (e : Given Value Place)
+        → slice_get (keys_at specs.now (page_bytes page.entry) i) k ≡ Some e
+        → HasFate (scan_of specs.now scan.now) it.fate e) }
+{
+    match tree_item(page, i, specs, &[], Spot3::LeafItem) {
+        Ok(TreeItem::Plain { key, killed, .. }) => Some(ItemFate {
+            fate: fate_of(specs, scan, &key, killed),
+            count: 1,
+        }),
+        Ok(TreeItem::Posting { key, tids, killed }) => Some(ItemFate {
+            fate: fate_of(specs, scan, &key, killed),
+            count: tids.len(),
+        }),
+        Ok(TreeItem::Pivot { .. }) => None,
+        Err(_) => None,
+    }
+}
+
+// The spot behind an entry, in an item of so many.
+fn behind(spot: Spot, count: u16) -> Spot
+    requires room { spot.item < 65535 }
+    requires inside { spot.nth < count }
+    ensures block { result.block ≡ spot.block }
+    ensures within { spot.nth + 1 < count → (result.item ≡ spot.item) × (result.nth ≡ spot.nth + 1) }
+    ensures next { spot.nth + 1 ≡ count → (result.item ≡ spot.item + 1) × (result.nth ≡ 0) }
+{
+    if spot.nth + 1 < count {
+        Spot {
+            block: spot.block,
+            item: spot.item,
+            nth: spot.nth + 1,
+        }
+    } else {
+        behind_item(spot)
+    }
+}
+
+// The spot behind an item.
+fn behind_item(spot: Spot) -> Spot
+    requires { spot.item < 65535 }
+    ensures block { result.block ≡ spot.block }
+    ensures item { result.item ≡ spot.item + 1 }
+    ensures nth { result.nth ≡ 0 }
+{
+    Spot {
+        block: spot.block,
+        item: spot.item + 1,
+        nth: 0,
+    }
+}
+
+// Reads the item of a spot, from there on.
+fn read_item(search: &Search<'_>, page: PageView<'_>, spot: &mut Spot) -> OnItem
+    requires page { page_rule_of PageKind.Tree (page_bytes page) ≡ None }
+    requires first { 1 ≤ spot.old.item }
+    requires last { spot.old.item ≤ count_of (page_bytes page) }
+    requires room { spot.old.item < 65535 }
+    requires fits { FitsKey (specs_of search.now.tree.now) search.now.scan.now }
+    ensures told { (names : Held) → HoldsTree names search.now.tree.now → spot.old.block ≢ 0
+        → StandsAt names search.now.tree.now search.now.scan.now spot.old (page_bytes page.entry)
+        → TellsItem names search.now.tree.now search.now.scan.now spot.old spot.new (page_bytes page.entry) result }
+    ensures block { spot.new.block ≡ spot.old.block }
+    ensures entry { (at : Reached) → result ≡ OnItem.Entry at
+        → (at.block ≡ spot.old.block) × HasEntry (specs_of search.now.tree.now) (page_bytes page.entry) at }
+    ensures passed { result ≡ OnItem.Passed → spot.new.item ≡ spot.old.item + 1 }
+{
+    searches_go_in_steps();
+    search.tree.keyed();
+    let Some(found) = fate_at(page, spot.item, search.tree.specs(), search.scan) else {
+        return OnItem::Lost;
+    };
+    if found.count <= spot.nth {
+        return OnItem::Lost;
+    }
+    match found.fate {
+        Fate::Past => OnItem::End,
+        Fate::Wanted => {
+            let at = *spot;
+            *spot = behind(at, found.count);
+            OnItem::Entry(at)
+        }
+        Fate::Other => {
+            *spot = behind_item(*spot);
+            OnItem::Passed
+        }
+    }
+}
+
+// Reads the items of a leaf from a spot on.
+pub fn read_leaf(search: &Search<'_>, page: PageView<'_>, spot: &mut Spot) -> OnLeaf
+    requires fits { FitsKey (specs_of search.now.tree.now) search.now.scan.now }
+    ensures told { (names : Held) → HoldsTree names search.now.tree.now → spot.old.block ≢ 0
+        → StandsAt names search.now.tree.now search.now.scan.now spot.old (page_bytes page.entry)
+        → TellsLeaf names search.now.tree.now search.now.scan.now spot.old spot.new (page_bytes page.entry) result }
+    ensures block { spot.new.block ≡ spot.old.block }
+    ensures entry { (at : Reached) → result ≡ OnLeaf.Entry at
+        → (at.block ≡ spot.old.block) × HasEntry (specs_of search.now.tree.now) (page_bytes page.entry) at }
+{
+    searches_go_in_steps();
+    if page.page_rule(PageKind::Tree).is_some() || spot.item == 0 {
+        return OnLeaf::End;
+    }
+    while spot.item <= page.item_count() {
+        match read_item(search, page, spot) {
+            OnItem::Entry(at) => return OnLeaf::Entry(at),
+            OnItem::End | OnItem::Lost => return OnLeaf::End,
+            OnItem::Passed => {}
+        }
+    }
+    match opaque(page).next {
+        0 => OnLeaf::End,
+        next => OnLeaf::Right(next),
+    }
+}

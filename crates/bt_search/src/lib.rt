@@ -1,0 +1,23 @@
+//! Searches a B-tree index between two bounds: a descent from the fast root to a leaf, and a walk along
+//! the leaves, entry by entry. A page is in hand at a time, and no memory is taken.
+//!
+//! Source: the nbtree README of PostgreSQL, on searching and on moving right.
+#![tactic(auto)]
+
+mod descent;
+mod entry;
+mod inner;
+mod laws;
+mod leaf;
+mod next;
+mod spot;
+#[cfg(test)]
+mod tests;
+#[cfg(test)]
+mod trees;
+
+pub use descent::descend;
+pub use entry::entry_at;
+pub use laws::searches_go_in_steps;
+pub use next::next_entry;
+pub use spot::{EntryRef, Spot, Visits};
