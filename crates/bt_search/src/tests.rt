@@ -56,81 +56,102 @@ column = \"a\"
 column = \"b\"
 ";
 
-// The entry of a number, for an item of block 0.
-const fn plain(item: u16, body: &[u8]) -> IndexTuple<'_> {
-    IndexTuple {
-        block: 0,
-        item,
-        info: 0x0010,
-        body,
-        killed: false,
-    }
-}
+// An entry, for an item of block 0.
+const ENTRY: IndexTuple<'static> = IndexTuple {
+    block: 0,
+    item: 0,
+    info: 0x0010,
+    body: &[],
+    killed: false,
+};
 
 // A separator that keeps one value, with a downlink.
-const fn above(block: u16, body: &[u8]) -> IndexTuple<'_> {
-    IndexTuple {
-        block,
-        item: 1,
-        info: 0x2010,
-        body,
-        killed: false,
-    }
-}
+const ABOVE: IndexTuple<'static> = IndexTuple {
+    block: 0,
+    item: 1,
+    info: 0x2010,
+    body: &[],
+    killed: false,
+};
 
 // The first item of an internal page.
-const fn first_to(block: u16) -> IndexTuple<'static> {
-    IndexTuple {
-        block,
-        item: 0,
-        info: 0x2008,
-        body: &[],
-        killed: false,
-    }
-}
+const FIRST: IndexTuple<'static> = IndexTuple {
+    block: 0,
+    item: 0,
+    info: 0x2008,
+    body: &[],
+    killed: false,
+};
 
-// A leaf with these siblings.
-const fn leaf<'a>(prev: u8, next: u8, tuples: &'a [IndexTuple<'a>]) -> TreePage<'a> {
-    TreePage {
-        prev,
-        next,
-        level: 0,
-        flags: 1,
-        tuples,
-    }
-}
+const LEAF: TreePage<'static> = TreePage {
+    prev: 0,
+    next: 0,
+    level: 0,
+    flags: 1,
+    tuples: &[],
+};
 
 // A root above leaves.
-const fn root<'a>(tuples: &'a [IndexTuple<'a>]) -> TreePage<'a> {
-    TreePage {
-        prev: 0,
-        next: 0,
-        level: 1,
-        flags: 2,
-        tuples,
-    }
-}
+const ROOT: TreePage<'static> = TreePage {
+    prev: 0,
+    next: 0,
+    level: 1,
+    flags: 2,
+    tuples: &[],
+};
 
 // Two leaves of two columns, below block 3: (4,1) and (4,2); (5,1) and (5,3).
 const PAIRS: [TreePage<'static>; 3] = [
-    leaf(
-        0,
-        2,
-        &[
-            above(0, &[5, 0, 0, 0]),
-            plain(1, &[4, 0, 0, 0, 1, 0, 0, 0]),
-            plain(2, &[4, 0, 0, 0, 2, 0, 0, 0]),
+    TreePage {
+        prev: 0,
+        next: 2,
+        tuples: &[
+            IndexTuple {
+                block: 0,
+                body: &[5, 0, 0, 0],
+                ..ABOVE
+            },
+            IndexTuple {
+                item: 1,
+                body: &[4, 0, 0, 0, 1, 0, 0, 0],
+                ..ENTRY
+            },
+            IndexTuple {
+                item: 2,
+                body: &[4, 0, 0, 0, 2, 0, 0, 0],
+                ..ENTRY
+            },
         ],
-    ),
-    leaf(
-        1,
-        0,
-        &[
-            plain(3, &[5, 0, 0, 0, 1, 0, 0, 0]),
-            plain(4, &[5, 0, 0, 0, 3, 0, 0, 0]),
+        ..LEAF
+    },
+    TreePage {
+        prev: 1,
+        next: 0,
+        tuples: &[
+            IndexTuple {
+                item: 3,
+                body: &[5, 0, 0, 0, 1, 0, 0, 0],
+                ..ENTRY
+            },
+            IndexTuple {
+                item: 4,
+                body: &[5, 0, 0, 0, 3, 0, 0, 0],
+                ..ENTRY
+            },
         ],
-    ),
-    root(&[first_to(1), above(2, &[5, 0, 0, 0])]),
+        ..LEAF
+    },
+    TreePage {
+        tuples: &[
+            IndexTuple { block: 1, ..FIRST },
+            IndexTuple {
+                block: 2,
+                body: &[5, 0, 0, 0],
+                ..ABOVE
+            },
+        ],
+        ..ROOT
+    },
 ];
 
 // A separator of the value 7 with a TID, item 2 of block 0.
@@ -144,71 +165,258 @@ const SEVEN_TWO: IndexTuple<'static> = IndexTuple {
 
 // Equal keys on two leaves, below block 3.
 const SEVENS: [TreePage<'static>; 3] = [
-    leaf(
-        0,
-        2,
-        &[SEVEN_TWO, plain(1, &[7, 0, 0, 0]), plain(2, &[7, 0, 0, 0])],
-    ),
-    leaf(1, 0, &[plain(3, &[7, 0, 0, 0])]),
-    root(&[
-        first_to(1),
-        IndexTuple {
-            block: 2,
-            ..SEVEN_TWO
-        },
-    ]),
+    TreePage {
+        prev: 0,
+        next: 2,
+        tuples: &[
+            SEVEN_TWO,
+            IndexTuple {
+                item: 1,
+                body: &[7, 0, 0, 0],
+                ..ENTRY
+            },
+            IndexTuple {
+                item: 2,
+                body: &[7, 0, 0, 0],
+                ..ENTRY
+            },
+        ],
+        ..LEAF
+    },
+    TreePage {
+        prev: 1,
+        next: 0,
+        tuples: &[IndexTuple {
+            item: 3,
+            body: &[7, 0, 0, 0],
+            ..ENTRY
+        }],
+        ..LEAF
+    },
+    TreePage {
+        tuples: &[
+            IndexTuple { block: 1, ..FIRST },
+            IndexTuple {
+                block: 2,
+                ..SEVEN_TWO
+            },
+        ],
+        ..ROOT
+    },
 ];
 
 // A half-dead leaf between two leaves, below block 3.
 const HALF_DEAD: [TreePage<'static>; 4] = [
     TreePage {
+        prev: 2,
+        next: 4,
         flags: 17,
-        ..leaf(2, 4, &[first_to(0)])
+        tuples: &[IndexTuple { block: 0, ..FIRST }],
+        ..LEAF
     },
-    leaf(0, 1, &[above(0, &[7, 0, 0, 0]), plain(1, &[5, 0, 0, 0])]),
-    root(&[first_to(2), above(4, &[7, 0, 0, 0])]),
-    leaf(1, 0, &[plain(2, &[7, 0, 0, 0]), plain(3, &[9, 0, 0, 0])]),
+    TreePage {
+        prev: 0,
+        next: 1,
+        tuples: &[
+            IndexTuple {
+                block: 0,
+                body: &[7, 0, 0, 0],
+                ..ABOVE
+            },
+            IndexTuple {
+                item: 1,
+                body: &[5, 0, 0, 0],
+                ..ENTRY
+            },
+        ],
+        ..LEAF
+    },
+    TreePage {
+        tuples: &[
+            IndexTuple { block: 2, ..FIRST },
+            IndexTuple {
+                block: 4,
+                body: &[7, 0, 0, 0],
+                ..ABOVE
+            },
+        ],
+        ..ROOT
+    },
+    TreePage {
+        prev: 1,
+        next: 0,
+        tuples: &[
+            IndexTuple {
+                item: 2,
+                body: &[7, 0, 0, 0],
+                ..ENTRY
+            },
+            IndexTuple {
+                item: 3,
+                body: &[9, 0, 0, 0],
+                ..ENTRY
+            },
+        ],
+        ..LEAF
+    },
 ];
 
 // A leaf alone: 5, which is killed, 7 with two TIDs, and 9.
 const LISTED: [TreePage<'static>; 1] = [TreePage {
+    prev: 0,
+    next: 0,
     flags: 3,
-    ..leaf(
-        0,
-        0,
-        &[
-            IndexTuple {
-                killed: true,
-                ..plain(1, &[5, 0, 0, 0])
-            },
-            IndexTuple {
-                block: 16,
-                item: 0x2002,
-                info: 0x2020,
-                body: &[7, 0, 0, 0, 0, 0, 0, 0, 0, 0, 0, 0, 2, 0, 0, 0, 0, 0, 3, 0],
-                killed: false,
-            },
-            plain(4, &[9, 0, 0, 0]),
-        ],
-    )
+    tuples: &[
+        IndexTuple {
+            item: 1,
+            body: &[5, 0, 0, 0],
+            killed: true,
+            ..ENTRY
+        },
+        IndexTuple {
+            block: 16,
+            item: 0x2002,
+            info: 0x2020,
+            body: &[7, 0, 0, 0, 0, 0, 0, 0, 0, 0, 0, 0, 2, 0, 0, 0, 0, 0, 3, 0],
+            ..ENTRY
+        },
+        IndexTuple {
+            item: 4,
+            body: &[9, 0, 0, 0],
+            ..ENTRY
+        },
+    ],
+    ..LEAF
 }];
 
 // Six leaves of one entry below block 4.
 const SIX: [TreePage<'static>; 7] = [
-    leaf(0, 2, &[above(0, &[20, 0, 0, 0]), plain(1, &[10, 0, 0, 0])]),
-    leaf(1, 3, &[above(0, &[30, 0, 0, 0]), plain(2, &[20, 0, 0, 0])]),
-    leaf(2, 5, &[above(0, &[40, 0, 0, 0]), plain(3, &[30, 0, 0, 0])]),
-    root(&[
-        first_to(1),
-        above(2, &[20, 0, 0, 0]),
-        above(3, &[30, 0, 0, 0]),
-        above(5, &[40, 0, 0, 0]),
-        above(6, &[50, 0, 0, 0]),
-        above(7, &[60, 0, 0, 0]),
-    ]),
-    leaf(3, 6, &[above(0, &[50, 0, 0, 0]), plain(4, &[40, 0, 0, 0])]),
-    leaf(5, 7, &[above(0, &[60, 0, 0, 0]), plain(5, &[50, 0, 0, 0])]),
-    leaf(6, 0, &[plain(6, &[60, 0, 0, 0])]),
+    TreePage {
+        prev: 0,
+        next: 2,
+        tuples: &[
+            IndexTuple {
+                block: 0,
+                body: &[20, 0, 0, 0],
+                ..ABOVE
+            },
+            IndexTuple {
+                item: 1,
+                body: &[10, 0, 0, 0],
+                ..ENTRY
+            },
+        ],
+        ..LEAF
+    },
+    TreePage {
+        prev: 1,
+        next: 3,
+        tuples: &[
+            IndexTuple {
+                block: 0,
+                body: &[30, 0, 0, 0],
+                ..ABOVE
+            },
+            IndexTuple {
+                item: 2,
+                body: &[20, 0, 0, 0],
+                ..ENTRY
+            },
+        ],
+        ..LEAF
+    },
+    TreePage {
+        prev: 2,
+        next: 5,
+        tuples: &[
+            IndexTuple {
+                block: 0,
+                body: &[40, 0, 0, 0],
+                ..ABOVE
+            },
+            IndexTuple {
+                item: 3,
+                body: &[30, 0, 0, 0],
+                ..ENTRY
+            },
+        ],
+        ..LEAF
+    },
+    TreePage {
+        tuples: &[
+            IndexTuple { block: 1, ..FIRST },
+            IndexTuple {
+                block: 2,
+                body: &[20, 0, 0, 0],
+                ..ABOVE
+            },
+            IndexTuple {
+                block: 3,
+                body: &[30, 0, 0, 0],
+                ..ABOVE
+            },
+            IndexTuple {
+                block: 5,
+                body: &[40, 0, 0, 0],
+                ..ABOVE
+            },
+            IndexTuple {
+                block: 6,
+                body: &[50, 0, 0, 0],
+                ..ABOVE
+            },
+            IndexTuple {
+                block: 7,
+                body: &[60, 0, 0, 0],
+                ..ABOVE
+            },
+        ],
+        ..ROOT
+    },
+    TreePage {
+        prev: 3,
+        next: 6,
+        tuples: &[
+            IndexTuple {
+                block: 0,
+                body: &[50, 0, 0, 0],
+                ..ABOVE
+            },
+            IndexTuple {
+                item: 4,
+                body: &[40, 0, 0, 0],
+                ..ENTRY
+            },
+        ],
+        ..LEAF
+    },
+    TreePage {
+        prev: 5,
+        next: 7,
+        tuples: &[
+            IndexTuple {
+                block: 0,
+                body: &[60, 0, 0, 0],
+                ..ABOVE
+            },
+            IndexTuple {
+                item: 5,
+                body: &[50, 0, 0, 0],
+                ..ENTRY
+            },
+        ],
+        ..LEAF
+    },
+    TreePage {
+        prev: 6,
+        next: 0,
+        tuples: &[IndexTuple {
+            item: 6,
+            body: &[60, 0, 0, 0],
+            ..ENTRY
+        }],
+        ..LEAF
+    },
 ];
 
 // The tree of a file, which is answered as sound.

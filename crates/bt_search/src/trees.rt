@@ -120,6 +120,7 @@ pub fn index_file(
 }
 
 /// One file, under any name, of which contracts know nothing. Reads fail from a number of them on.
+#[derive(Drop)]
 pub struct Untold<'a> {
     pub bytes: &'a [u8],
     pub reads: u64,
