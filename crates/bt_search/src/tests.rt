@@ -1,4 +1,8 @@
 //! Scans of small indexes in memory.
+ghost use Rattle.std.specs.Prelude.{IfOk};
+ghost use Rattle.key_orders.specs.Scans.{FitsKey};
+ghost use Rattle.bt_levels.specs.Sound.{specs_of};
+
 use crate::trees::{IndexTuple, TreePage, Untold, index_file};
 use crate::{Spot, Visits, descend, entry_at, next_entry};
 use bt_levels::{SoundTree, TreeFile, check_tree};
@@ -434,7 +438,9 @@ fn tree_of(alloc: Global, case: &[u8], files: &mut Untold<'_>) -> Result<SoundTr
 type Edge = Option<(i64, bool)>;
 
 // The scan of the entries between two bounds.
-fn scan_of(alloc: Global, tree: &SoundTree, low: Edge, high: Edge) -> Result<Scan, Fail> {
+fn scan_of(alloc: Global, tree: &SoundTree, low: Edge, high: Edge) -> Result<Scan, Fail>
+    ensures { IfOk result (FitsKey (specs_of tree.now)) }
+{
     let (low_value, low_inclusive) = low.unwrap_or((0, true));
     let (high_value, high_inclusive) = high.unwrap_or((0, true));
     let low_values = [Value::Int(low_value)];
@@ -483,11 +489,17 @@ fn yields(
     let mut visits = Visits { count: 0 };
     let mut spot = descend(&tree, &mut files, &scan, &mut page, &mut visits)?;
     for (value, item) in want.0 {
+        if visits.count > 100 {
+            return Ok(false);
+        }
         let found = next_entry(&tree, &mut files, &scan, &mut spot, &mut page, &mut visits)?;
         let Some(at) = found else { return Ok(false) };
         if !is_entry(&tree, &page, at, *value, *item) {
             return Ok(false);
         }
+    }
+    if visits.count > 100 {
+        return Ok(false);
     }
     let rest = next_entry(&tree, &mut files, &scan, &mut spot, &mut page, &mut visits)?;
     Ok(rest.is_none() && visits.count == want.1)
