@@ -32,7 +32,8 @@ impl SoundTree {
     ghost use Rattle.rel_files.specs.Faults.{read_fault};
     ghost use Rattle.rel_files.specs.Relation.{IsAttached, base_of, count_of, size_of};
     ghost use Rattle.bt_levels.specs.Files.{number_of, relation_of};
-    ghost use Rattle.bt_levels.specs.Sound.{fastlevel_of, fastroot_of, file_of, half_dead_of, right_halves_of, specs_of};
+    ghost use Rattle.bt_levels.specs.Sound.{fastlevel_of, fastroot_of, file_of, half_dead_of, right_halves_of};
+    ghost use Rattle.bt_levels.specs.Sound.{specs_of};
 
     /// A law: its key has at most 8 columns, each of a type whose values are aligned.
     pub fn keyed(&self)

@@ -158,9 +158,9 @@ module _ (specs : List KeySpec) (page : List ℕ) (i : ℕ) (plain : IsPlainItem
 
   all-kept : spot_of page i ≡ Inner → keeps_tid (tree_head_of tuple) ≡ true → number_of (tree_head_of tuple) ≡ length specs
   all-kept inner keeps =
-      let not_fewer : nat_lt (number_of (tree_head_of tuple)) (length specs) ≡ false = second (keeps_tid (tree_head_of tuple)) _ (or_parts _ _ (form-inner inner)).1 keeps in
+      let not_fewer : nat_lt (number_of (tree_head_of tuple)) (length specs) ≡ false = second (keeps_tid (tree_head_of tuple)) (nat_lt (number_of (tree_head_of tuple)) (length specs)) (or_parts (number_of (tree_head_of tuple) == 0 || nat_lt (length specs) (number_of (tree_head_of tuple))) _ (form-inner inner)).1 keeps in
       let most = few inner in
-      let least : length specs ≤ number_of (tree_head_of tuple) = ltb-false _ _ not_fewer in
+      let least : length specs ≤ number_of (tree_head_of tuple) = ltb-false (number_of (tree_head_of tuple)) (length specs) not_fewer in
       omega (arith, most, least)
 
   pub is-separator : spot_of page i ≡ Inner → IsSeparatorOf (length specs) (separator_in (item_at specs [] page i))

@@ -33,7 +33,8 @@ pub record Passes (names : Names) (sound : SoundTree) (bounds : Bounds) (old new
   pub left : left_at names sound bounds old ≡ left_at names sound bounds new
 
 -- it took an entry, which was the first that was left
-pub record Yields (names : Names) (sound : SoundTree) (bounds : Bounds) (old new at : Spot) (page : List ℕ) : Type 0 where
+pub record Yields (names : Names) (sound : SoundTree) (bounds : Bounds) (old new at : Spot) (page : List ℕ)
+    : Type 0 where
   pub stands : StandsAt names sound bounds new page
   pub entry : Entry Value Tid
   pub is : entry_on (specs_of sound) page at ≡ Some entry

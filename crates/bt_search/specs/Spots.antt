@@ -52,7 +52,8 @@ abbrev pub left_at : Names → SoundTree → Bounds → Spot → ℕ
 left_at names sound bounds spot = left_from names sound bounds (state_at names sound bounds spot)
 
 -- an entry is read at this place of the page; it is the first of what was left, and the others are left now
-pub record Takes (names : Names) (sound : SoundTree) (bounds : Bounds) (old new at : Spot) (page : List ℕ) : Type 0 where
+pub record Takes (names : Names) (sound : SoundTree) (bounds : Bounds) (old new at : Spot) (page : List ℕ)
+    : Type 0 where
   pub entry : Entry Value Tid
   pub read : HasEntry (specs_of sound) page at
   pub is : entry_on (specs_of sound) page at ≡ Some entry

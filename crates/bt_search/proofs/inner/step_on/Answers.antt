@@ -1,7 +1,9 @@
 use Rattle.std.proofs.Common.{◌≡◌, ◌∙◌, [], ap, arith, false, sym, ℕ}
 use Rattle.std.proofs.lemmas.Bool.{or_parts}
 use Rattle.page_layout.specs.View.{page_bytes}
-use Rattle.tree_search.specs.Search.{At}
+use Rattle.tree_search.specs.Search.{right_of, At}
+use Rattle.key_orders.specs.Scans.{scan_of}
+use Rattle.tree_image.specs.Image.{page_image}
 use Rattle.bt_meta.specs.declared.records.Opaque.{Opaque}
 use Rattle.bt_meta.specs.Flags.{is_half_dead, is_leaf}
 use Rattle.bt_meta.specs.Pages.{opaque_of}
@@ -29,7 +31,7 @@ returns-clause-leads c = λ readable.
     let bounds = c.args.scan.now in
     let page = page_bytes c.args.page in
     let stays : is_left_behind specs bounds page ≡ false = sym (c.is_left_behind.ensures readable) ∙ c.if-is_left_behind.false in
-    let alive : is_half_dead (opaque_of page) ≡ false = (or_parts _ _ stays).1 in
+    let alive : is_half_dead (opaque_of page) ≡ false = (or_parts (right_of (scan_of specs bounds).goes_right (page_image specs [] page).high_key) (is_half_dead (opaque_of page)) stays).1 in
     let inner : is_leaf (opaque_of page) ≡ false = sym (ap is_leaf c.opaque-special.ensures) ∙ (sym c.is_leaf.ensures ∙ c.if-is_leaf.false) in
     let r = c.last_passed.result in
     let one = first_cases page in
