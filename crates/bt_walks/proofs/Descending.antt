@@ -1,0 +1,106 @@
+-- From one level to the next.
+use Rattle.std.proofs.Common.{◌≡◌, ◌≢◌, ℕ, zero, suc, ◌+◌, ◌-◌, ◌≤◌, Bool, true, false, List, [], ◌∷◌, refl, sym, ap, subst, ◌∙◌, arith}
+use Rattle.std.specs.Prelude.{Option, Some, None, is_some}
+use Rattle.page_layout.specs.declared.rules.Rule.TheVariants.{L1}
+use Rattle.tree_search.specs.Levels.{downlinks, entry_page}
+use Rattle.tree_rules.specs.Descent.{IsBefore}
+use Rattle.tree_rules.specs.Questions.{Finding}
+use Rattle.tree_rules.specs.Sound.{HasSoundPages}
+use Rattle.tree_rules.specs.Tests.{are_roots_misplaced}
+use Rattle.tree_rules.proofs.Descent.{after_last, before_first, before_next, found_here, whole_blocks, whole_empty, whole_levels, whole_roots}
+use Rattle.tree_rules.proofs.Steps.{entries_used}
+use Rattle.bt_pages.specs.Trees.{Tree}
+use Rattle.bt_walks.specs.declared.downlinks.Downlinks.{Downlinks}
+use Rattle.bt_walks.specs.declared.judge.Judged.{Judged}
+use Rattle.bt_walks.specs.declared.levels.Levels.{Levels}
+use Rattle.bt_walks.specs.Downlinks.{TreeDownlink, cursor_of}
+use Rattle.bt_walks.specs.Reading.{IsOfLevel, IsReading}
+use Rattle.bt_walks.specs.Sets.{is_in}
+use Rattle.bt_walks.specs.Trees.{image_of, order_in, same_in}
+use Rattle.bt_walks.specs.Walked.{AreLevelsJudged, ChangesDownlinks, IsLevelJudged, IsTreeJudged, StandsBefore}
+use Rattle.bt_walks.proofs.Judging.{reads_below}
+
+-- before the one downlink to the top level no page is left to be read
+pub top_reads : (tree : Tree) (dead : ℕ → Bool) (d : Downlinks) (root : ℕ) → root ≡ (image_of tree).root → cursor_of tree.specs tree.more d ≡ record { items = (None, root) ∷ []; lower = None; block = 0 }
+    → IsReading (image_of tree) dead (suc (image_of tree).level) tree.blocks (cursor_of tree.specs tree.more d) (downlinks (image_of tree) 0)
+top_reads tree dead d root is at =
+    subst (λ k. IsReading (image_of tree) dead (suc (image_of tree).level) tree.blocks k (downlinks (image_of tree) 0)) (sym at)
+    (record { pages = 0; few = omega arith; leads = refl; of_level = tt; is = ap (λ (r : ℕ). (None, r) ∷ []) is })
+
+-- the loop over the levels stands before this one, which has this number and stands n levels below the top
+pub record AtLevel (tree : Tree) (levels : Levels) (m n : ℕ) : Type 0 where
+  pub stands : StandsBefore tree m levels (downlinks (image_of tree) n)
+  pub before : IsBefore (same_in tree) (order_in tree) (image_of tree) (is_in levels.dead) (is_in levels.stands) m n
+
+module _ (tree : Tree) (local : HasSoundPages (order_in tree) (image_of tree)) (ne : (image_of tree).root ≢ 0) (roots : are_roots_misplaced (image_of tree) ≡ false) where
+  pub at_top : (levels : Levels) (m : ℕ) → m ≡ (image_of tree).level → StandsBefore tree (image_of tree).level levels (downlinks (image_of tree) 0) → ((b : ℕ) → is_in levels.dead b ≡ false) → ((b : ℕ) → is_in levels.stands b ≡ false) → AtLevel tree levels m 0
+  at_top levels m is stands dead standing =
+      subst (λ (k : ℕ). AtLevel tree levels k 0) (sym is) (record { stands = stands; before = before_first (same_in tree) (order_in tree) (image_of tree) ne (is_in levels.dead) (is_in levels.stands) dead standing })
+
+  pub entry_here : (levels : Levels) (m n : ℕ) → AtLevel tree levels m n → IsOfLevel (image_of tree) m (entry_page (downlinks (image_of tree) n))
+  entry_here levels m n at =
+      let sum = at.before.sum in
+      let used = entries_used (order_in tree) (image_of tree) local ne roots n (omega (arith, sum)) in
+      let is : (image_of tree).level - n ≡ m = omega (arith, sum) in
+      (used.0, used.1 ∙ is)
+
+  module _ (levels new : Levels) (n : ℕ) (judged : Judged) where
+    pub found_on : (m : ℕ) (f : Finding) → AtLevel tree levels m n → IsLevelJudged tree m (downlinks (image_of tree) n) levels new judged → judged.finding ≡ Some f → AreLevelsJudged tree new judged.finding
+    found_on m f at is some = record {
+      found = some ∙ sym (found_here (same_in tree) (order_in tree) (image_of tree) (is_in levels.dead) (is_in levels.stands) m n f at.before (sym is.found ∙ some));
+      pages = λ none. absurd (let clash : Some f ≡ None = sym some ∙ none in cc);
+    }
+
+    pub last_on : AtLevel tree levels 0 n → IsLevelJudged tree 0 (downlinks (image_of tree) n) levels new judged → judged.finding ≡ None → AreLevelsJudged tree new judged.finding
+    last_on at is none =
+        let done = after_last (same_in tree) (order_in tree) (image_of tree) (is_in levels.dead) (is_in levels.stands) (is_in new.dead) (is_in new.stands) n at.before (sym is.found ∙ none) (is.passed none).sets in
+        record { found = none ∙ sym done.0; pages = λ nothing. done.1 }
+
+    pub next_on : (m : ℕ) (after : Levels) → AtLevel tree levels (suc m) n → IsLevelJudged tree (suc m) (downlinks (image_of tree) n) levels new judged → judged.finding ≡ None
+        → new.fastroot ≡ levels.fastroot → ChangesDownlinks new after
+        → ((level : ℕ) (left : List TreeDownlink) → IsReading (image_of tree) (is_in new.dead) (suc level) tree.blocks (record { items = []; lower = None; block = judged.first }) left
+        → new.fastroot ≡ (image_of tree).fastroot → StandsBefore tree level after left)
+        → AtLevel tree after m (suc n)
+    next_on m after at is none fastroot changes descends =
+        let passed = is.passed none in
+        let next = before_next (same_in tree) (order_in tree) (image_of tree) local ne roots (is_in levels.dead) (is_in levels.stands) (is_in new.dead) (is_in new.stands) m n at.before (sym is.found ∙ none) passed.sets in
+        let here = entry_here levels (suc m) n at in
+        let dead : is_in new.dead ≡ is_in after.dead = sym (ap (λ (l : Levels). is_in l.dead) changes) in
+        let stands : is_in new.stands ≡ is_in after.stands = sym (ap (λ (l : Levels). is_in l.stands) changes) in
+        record {
+          stands = descends m (downlinks (image_of tree) (suc n)) (reads_below tree (suc m) (downlinks (image_of tree) n) local here (is_in new.dead) judged.first (downlinks (image_of tree) (suc n)) passed.begins passed.chain next.1) (fastroot ∙ at.stands.fastroot);
+          before = subst (λ (s : ℕ → Bool). IsBefore (same_in tree) (order_in tree) (image_of tree) (is_in after.dead) s m (suc n)) stands
+              (subst (λ (d : ℕ → Bool). IsBefore (same_in tree) (order_in tree) (image_of tree) d (is_in new.stands) m (suc n)) dead next.0);
+        }
+
+pub none_is : (o : Option Finding) → is_some o ≡ false → o ≡ None
+none_is None e = refl
+none_is (Some f) e = absurd cc
+
+pub record IsSomeFinding (o : Option Finding) : Type 0 where
+  pub finding : Finding
+  pub is : o ≡ Some finding
+
+pub some_is : (o : Option Finding) → is_some o ≡ true → IsSomeFinding o
+some_is None e = absurd cc
+some_is (Some f) e = record { finding = f; is = refl }
+
+-- THE WHOLE
+
+pub empty_tree : (tree : Tree) → HasSoundPages (order_in tree) (image_of tree) → (image_of tree).root ≡ 0 → (levels : Levels) → ((b : ℕ) → is_in levels.stands b ≡ false) → IsTreeJudged tree levels None
+empty_tree tree local z levels none = record {
+  found = λ f e. absurd cc;
+  nothing = λ e. whole_empty (same_in tree) (order_in tree) (image_of tree) local z (is_in levels.stands) none;
+}
+
+pub misplaced_tree : (tree : Tree) → HasSoundPages (order_in tree) (image_of tree) → (image_of tree).root ≢ 0 → are_roots_misplaced (image_of tree) ≡ true → (levels : Levels) → IsTreeJudged tree levels (Some (L1, 0))
+misplaced_tree tree local ne misplaced levels = record {
+  found = λ f e. whole_roots (same_in tree) (order_in tree) (image_of tree) local ne misplaced ∙ e;
+  nothing = λ e. absurd cc;
+}
+
+pub levels_tree : (tree : Tree) → HasSoundPages (order_in tree) (image_of tree) → (image_of tree).root ≢ 0 → are_roots_misplaced (image_of tree) ≡ false → (levels : Levels) (found : Option Finding) → AreLevelsJudged tree levels found → IsTreeJudged tree levels found
+levels_tree tree local ne roots levels found are = record {
+  found = λ f e. whole_levels (same_in tree) (order_in tree) (image_of tree) local ne roots f (sym are.found ∙ e);
+  nothing = λ e. whole_blocks (same_in tree) (order_in tree) (image_of tree) local ne roots (sym are.found ∙ e) (is_in levels.stands) (are.pages e);
+}

@@ -1,0 +1,12 @@
+pub mod Keys
+pub mod Items
+pub mod Pages
+pub mod Reading
+pub mod Hands
+pub mod Walking
+pub mod Seeing
+pub mod FirstPage
+pub mod Judging
+pub mod Entries
+pub mod Descending
+pub mod Roots

@@ -1,0 +1,41 @@
+use Rattle.std.proofs.Common.{◌≡◌, ℕ, ◌+◌, ◌≤◌, Bool, true, false, ap, sym, subst, ◌∙◌, arith}
+use Rattle.std.specs.Prelude.{not, Some}
+use Rattle.std.specs.Ordering.{is_eq, is_le, is_lt}
+use Rattle.page_layout.specs.Page.{count_of}
+use Rattle.page_layout.specs.View.{page_bytes}
+use Rattle.tree_search.specs.Keys.{compare_keys}
+use Rattle.tree_rules.specs.Tests.{is_low_entry, is_low_separator}
+use Rattle.key_orders.specs.Keys.{columns_of, tid_order}
+use Rattle.key_orders.specs.Scans.{order_of}
+use Rattle.key_orders.specs.Separators.{separator_of}
+use Rattle.bt_tuples.specs.Keys.{first_key}
+use Rattle.tree_image.specs.Image.{first_data, has_high_key, item_at}
+use Rattle.bt_walks.proofs.Keys.{not_below, same_either}
+use Rattle.bt_walks.proofs.Pages.{item_means, must_read}
+use Rattle.bt_walks.proofs.bounds.compare_with_item.Goals as goal
+
+pub returns-in-Ok-clause-order : goal.returns-in-Ok-clause-order
+returns-in-Ok-clause-order c =
+    let tree = c.args.tree.now in
+    let page = page_bytes c.args.page in
+    let keys = c.in-Ok.ensures.keys in
+    let means = item_means tree.specs.now tree.more.now page c.spot_of.result c.args.i keys.item keys.is in
+    c.cmp_two_seps.ensures.order ∙ ap (compare_keys (columns_of tree.specs.now) tid_order (separator_of c.args.separator.now)) (keys.first ∙ ap first_key means)
+
+pub returns-in-Ok-clause-turned : goal.returns-in-Ok-clause-turned
+returns-in-Ok-clause-turned c =
+    let tree = c.args.tree.now in
+    let key = first_key (item_at tree.specs.now tree.more.now (page_bytes c.args.page) c.args.i) in
+    ap (λ o. not (is_lt o)) (returns-in-Ok-clause-order c)
+    ∙ not_below (compare_keys (columns_of tree.specs.now) tid_order) (c.key_orders_are_total.ensures.keys tree.specs.now) (separator_of c.args.separator.now) key
+
+pub returns-in-Ok-clause-same : goal.returns-in-Ok-clause-same
+returns-in-Ok-clause-same c =
+    let tree = c.args.tree.now in
+    let key = first_key (item_at tree.specs.now tree.more.now (page_bytes c.args.page) c.args.i) in
+    ap is_eq (returns-in-Ok-clause-order c)
+    ∙ same_either (compare_keys (columns_of tree.specs.now) tid_order) (c.key_orders_are_total.ensures.keys tree.specs.now) (separator_of c.args.separator.now) key
+
+pub returns-in-Err-clause-read : goal.returns-in-Err-clause-read
+returns-in-Err-clause-read c plain =
+    absurd (must_read c.args.tree.now.specs.now c.args.tree.now.more.now (page_bytes c.args.page) c.spot_of.result c.args.i c.in-Err.field-0 c.spot_of.ensures plain c.in-Err.ensures.fault)

@@ -1,0 +1,16 @@
+use Rattle.std.proofs.Common.{suc, sym, subst}
+use Rattle.rel_files.specs.Relation.{count_of}
+use Rattle.bt_pages.specs.Trees.{tree_seen}
+use Rattle.bt_walks.specs.Reading.{IsReading}
+use Rattle.bt_walks.specs.Sets.{is_in}
+use Rattle.bt_walks.specs.Trees.{image_of}
+use Rattle.bt_walks.specs.Walked.{tree_of}
+use Rattle.bt_walks.proofs.levels.Levels.descend.Goals as goal
+
+pub returns-clause-told : goal.returns-clause-told
+returns-clause-told g c names told level left reading fastroot =
+    let tree = tree_seen names (tree_of c.args.self.now) in
+    let begun = c.begin.ensures in
+    let settled = c.in_ok-settle.ensures.reads names told level left
+    (record { hand = begun.sound tree.specs tree.more; reading = subst (λ k. IsReading (image_of tree) (is_in c.args.self.now.dead) (suc level) tree.blocks k left) (sym (begun.cursor tree.specs tree.more)) reading }) in
+    record { fastroot = fastroot; reads = settled.0; settled = settled.1 }

@@ -1,0 +1,20 @@
+use Rattle.std.proofs.Common.{suc, sym, subst, ◌∙◌}
+use Rattle.rel_files.specs.Relation.{count_of}
+use Rattle.bt_pages.specs.Trees.{tree_seen}
+use Rattle.bt_walks.specs.Downlinks.{Reads}
+use Rattle.bt_walks.specs.Sets.{is_in}
+use Rattle.bt_walks.specs.Walked.{tree_of}
+use Rattle.bt_walks.proofs.Walking.{met}
+use Rattle.bt_walks.proofs.levels.Levels.follow.Goals as goal
+
+pub returns-in_ok-pass-clause-told : goal.returns-in_ok-pass-clause-told
+returns-in_ok-pass-clause-told g c names told level left linked before =
+    let levels = c.args.self.now in
+    let tree = tree_seen names (tree_of levels) in
+    let m = met left c.args.seen.now.block (linked ∙ c.if-seen.true) in
+    let passed = c.in_ok-pass.ensures.reads names told level m.first m.rest before.settled (subst (Reads tree (is_in levels.dead) (suc level) tree.blocks levels.upper) m.is before.reads) in
+    record {
+      fastroot = before.fastroot;
+      reads = subst (Reads tree (is_in levels.dead) (suc level) tree.blocks c.pass.new.self) (sym m.left) passed.0;
+      settled = passed.1;
+    }

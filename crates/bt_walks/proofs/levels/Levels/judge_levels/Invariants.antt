@@ -1,0 +1,22 @@
+use Rattle.std.proofs.Common.{◌≡◌, ◌≢◌, ◌≤◌, ◌-◌, false}
+use Rattle.outside.specs.Outside.{IfTold, Passed}
+use Rattle.tree_search.specs.Levels.{downlinks}
+use Rattle.tree_rules.specs.Tests.{are_roots_misplaced}
+use Rattle.bt_pages.specs.Trees.{tree_seen}
+use Rattle.bt_walks.specs.Trees.{image_of}
+use Rattle.bt_walks.specs.Walked.{IsReady, IsSameIndex, StandsBefore, tree_of}
+use Rattle.bt_walks.proofs.Descending.{AtLevel}
+use Rattle.bt_walks.proofs.levels.Levels.judge_levels.Given as goal
+
+-- nothing was found on the levels so far
+abbrev pub invariant-loop-k : goal.invariant-loop-k
+invariant-loop-k g l = record {
+  ready : IsReady l.self;
+  same : IsSameIndex l.fn.self l.self;
+  within : l.k ≤ l.meta.level;
+  at : IfTold g.F.Files.seen l.fn.files (λ names. let tree = tree_seen names (tree_of l.fn.self) in
+      (image_of tree).root ≢ 0 → are_roots_misplaced (image_of tree) ≡ false
+      → StandsBefore tree (image_of tree).level l.fn.self (downlinks (image_of tree) 0)
+      → AtLevel tree l.self (l.meta.level - l.k) l.k);
+  asked : Passed g.F.Files.seen l.fn.files l.files;
+}

@@ -1,0 +1,155 @@
+-- A walk along one level in code, and the walk of tree_rules that it is.
+use Rattle.std.specs.Prelude.{◌≡◌, ◌==◌, ◌&&◌, ◌||◌, ℕ, suc, Bool, true, false, List, Option, Some, None, fold, length}
+use Rattle.std.specs.List.{AllByRecursion}
+use Rattle.rel_files.specs.Relation.{count_of}
+use Rattle.tree_search.specs.Keys.{Separator}
+use Rattle.tree_search.specs.Levels.{Role, entry_page, role_of}
+use Rattle.tree_search.specs.Tree.{Index, linked_from}
+use Rattle.tree_rules.specs.Descent.{HavePassed}
+use Rattle.tree_rules.specs.Cursor.{all_levels_finding, is_block_read, with_dead}
+use Rattle.tree_rules.specs.LevelWalk.{Walk, level_finding, walk_start, walk_step}
+use Rattle.tree_rules.specs.Links.{IsOpenChain, Leads, first_page, to_left, to_right, walked_chain, walks_to}
+use Rattle.tree_rules.specs.Meeting.{is_next, rows_met}
+use Rattle.tree_rules.specs.Questions.{Finding}
+use Rattle.tree_rules.specs.Walk.{unreached_finding, with_blocks}
+use Rattle.tree_rules.specs.Tests.{is_dead}
+use Rattle.level_walk.specs.declared.level.LevelWalk.{LevelWalk}
+use Rattle.level_walk.specs.Shows.{Carries}
+use Rattle.key_orders.specs.declared.columns.Value.{Value}
+use Rattle.key_orders.specs.declared.Tid.{Tid}
+use Rattle.bt_pages.specs.Trees.{Tree}
+use Rattle.bt_pages.specs.declared.tree.TreeRules.{TreeRules}
+use Rattle.bt_walks.specs.declared.downlinks.Downlinks.{Downlinks}
+use Rattle.bt_walks.specs.declared.judge.Judged.{Judged}
+use Rattle.bt_walks.specs.declared.levels.Levels.{Levels}
+use Rattle.bt_walks.specs.Bounds.{Bound, IsBound}
+use Rattle.bt_walks.specs.Downlinks.{IsReadable, IsSettled, Reads, TreeDownlink}
+use Rattle.bt_walks.specs.Reading.{IsOfLevel}
+use Rattle.bt_walks.specs.Sets.{is_in}
+use Rattle.bt_walks.specs.Trees.{HasColumns, first_broken_in, image_of, order_in, same_in}
+
+-- None where the links to the left come back to the page, else the first page of its level
+abbrev pub IsFirstPage : {S E : Type 0} → Index S E → (entry : ℕ) → Option ℕ → Type 0
+IsFirstPage x entry None = walks_to (to_left x) entry x.blocks (to_left x entry) ≡ true
+IsFirstPage x entry (Some b) =
+    (walks_to (to_left x) entry x.blocks (to_left x entry) ≡ false) × (b ≡ first_page x entry)
+
+abbrev pub TreeWalk : Type 0
+TreeWalk = Walk (Separator Value Tid)
+
+-- the parts of what is kept
+abbrev pub tree_of : Levels → TreeRules
+tree_of levels = levels.tree
+
+abbrev pub page_in : Levels → List ℕ
+page_in levels = levels.page
+
+abbrev pub upper_of : Levels → Downlinks
+upper_of levels = levels.upper
+
+abbrev pub lower_of : Levels → Bound
+lower_of levels = levels.lower
+
+abbrev pub fastroot_of : Levels → ℕ
+fastroot_of levels = levels.fastroot
+
+abbrev pub dead_of : Levels → ℕ → Bool
+dead_of levels = is_in levels.dead
+
+abbrev pub standing_of : Levels → ℕ → Bool
+standing_of levels = is_in levels.stands
+
+-- what holds of it whatever the files hold
+pub record IsReady (levels : Levels) : Type 0 where
+  pub columns : HasColumns levels.tree
+  pub upper : IsReadable levels.tree.specs.now levels.upper
+  pub lower : IsBound levels.tree.specs.now levels.lower
+  pub dead : length levels.dead ≡ count_of levels.tree.relation.now
+  pub stands : length levels.stands ≡ count_of levels.tree.relation.now
+
+-- the index and its fast root stay
+pub record IsSameIndex (old new : Levels) : Type 0 where
+  pub tree : new.tree ≡ old.tree
+  pub fastroot : new.fastroot ≡ old.fastroot
+
+-- nothing has changed but a part, and with the sets what was counted
+abbrev pub ChangesPage : Levels → Levels → Type 0
+ChangesPage old new = new ≡ record old { page = new.page }
+
+abbrev pub ChangesBound : Levels → Levels → Type 0
+ChangesBound old new = new ≡ record old { lower = new.lower }
+
+abbrev pub ChangesDownlinks : Levels → Levels → Type 0
+ChangesDownlinks old new = new ≡ record old { upper = new.upper }
+
+abbrev pub ChangesSets : Levels → Levels → Type 0
+ChangesSets old new =
+    new ≡ record old { dead = new.dead; stands = new.stands; right_halves = new.right_halves; half_dead = new.half_dead }
+
+-- it stands before the first of these downlinks, which is in hand if there is one
+pub record StandsBefore (tree : Tree) (level : ℕ) (levels : Levels) (left : List TreeDownlink) : Type 0 where
+  pub fastroot : levels.fastroot ≡ (image_of tree).fastroot
+  pub reads : Reads tree (is_in levels.dead) (suc level) tree.blocks levels.upper left
+  pub settled : IsSettled levels.upper
+
+-- the walk of tree_rules along this level carries the same
+pub record IsWalking (tree : Tree) (level : ℕ) (levels : Levels) (carried : LevelWalk) (walk : TreeWalk) : Type 0 where
+  pub carries : Carries carried walk
+  pub lower : walk.lower ≡ levels.lower
+  pub before : StandsBefore tree level levels walk.ahead
+
+-- the role of the page that comes next to this walk
+abbrev pub role_at : Tree → TreeWalk → ℕ → Role
+role_at tree walk b = role_of ((image_of tree).page b) (is_next walk.ahead b) walk.split
+
+-- a block was added to those that stand in a chain, and to the dead pages if it is one
+pub record HasMarked (old new : Levels) (b : ℕ) (dead : Bool) : Type 0 where
+  pub dead_pages : (q : ℕ) → is_in new.dead q ≡ (is_in old.dead q || ((b == q) && dead))
+  pub pages : (q : ℕ) → is_in new.stands q ≡ (is_in old.stands q || (b == q))
+
+-- past one page
+pub record HasPassed (tree : Tree) (level : ℕ) (walk : TreeWalk) (b : ℕ) (old new : Levels) (carried : LevelWalk)
+    : Type 0 where
+  pub walking : IsWalking tree level new carried (walk_step (same_in tree) (order_in tree) (image_of tree) walk b)
+  pub marked : HasMarked old new b (is_dead (role_at tree walk b))
+
+-- the pages from this one on
+abbrev pub chain_from : Tree → ℕ → List ℕ
+chain_from tree first = linked_from (to_right (image_of tree)) tree.blocks first
+
+-- this page begins a chain that ends, all of whose pages are of this level
+pub record BeginsChain (tree : Tree) (level first : ℕ) : Type 0 where
+  pub leads : Leads (to_right (image_of tree)) first (chain_from tree first)
+  pub of_level : AllByRecursion (IsOfLevel (image_of tree) level) (chain_from tree first)
+
+-- past all pages of a level, whose downlinks these are: the walk of tree_rules, and what the two sets have gained
+pub record HasWalked (tree : Tree) (level : ℕ) (ds : List TreeDownlink) (first : ℕ) (old new : Levels)
+    (carried : LevelWalk) : Type 0 where
+  pub walk : TreeWalk
+  pub is : walk ≡ fold (walk_step (same_in tree) (order_in tree) (image_of tree)) (walk_start ds) (chain_from tree first)
+  pub walking : IsWalking tree level new carried walk
+  pub dead_pages : (q : ℕ)
+      → is_in new.dead q ≡ with_dead (is_in old.dead) (rows_met (image_of tree) (chain_from tree first) ds false None) q
+  pub pages : (q : ℕ) → is_in new.stands q ≡ with_blocks (is_in old.stands) (chain_from tree first) q
+
+-- what is found on a level, and if that is nothing, what is known then
+pub record IsLevelPassed (tree : Tree) (ds : List TreeDownlink) (old new : Levels) (first : ℕ) : Type 0 where
+  pub begins : first ≡ first_page (image_of tree) (entry_page ds)
+  pub chain : IsOpenChain (image_of tree) (entry_page ds) (walked_chain (image_of tree) ds)
+  pub sets : HavePassed (image_of tree) ds (is_in old.dead) (is_in old.stands) (is_in new.dead) (is_in new.stands)
+
+pub record IsLevelJudged (tree : Tree) (level : ℕ) (ds : List TreeDownlink) (old new : Levels) (judged : Judged)
+    : Type 0 where
+  pub found : judged.finding ≡ level_finding (same_in tree) (order_in tree) (image_of tree) level ds
+  pub passed : judged.finding ≡ None → IsLevelPassed tree ds old new judged.first
+
+-- what is found on all levels, and if that is nothing, which blocks stand in their chains
+pub record AreLevelsJudged (tree : Tree) (new : Levels) (finding : Option Finding) : Type 0 where
+  pub found : finding ≡ all_levels_finding (same_in tree) (order_in tree) (image_of tree)
+  pub pages : finding ≡ None → (b : ℕ) → is_in new.stands b ≡ is_block_read (image_of tree) b
+
+-- what is found of the roots and on all levels is the first broken rule; where it is nothing, the first block that stands
+-- in no chain is
+pub record IsTreeJudged (tree : Tree) (new : Levels) (finding : Option Finding) : Type 0 where
+  pub found : (f : Finding) → finding ≡ Some f → first_broken_in tree ≡ Some f
+  pub nothing : finding ≡ None → first_broken_in tree ≡ unreached_finding (image_of tree) (is_in new.stands)

@@ -1,0 +1,290 @@
+//! The rules L1 to L9 of an index.
+ghost use Rattle.std.specs.Prelude.{◌≡◌, ◌≢◌, ◌<◌, ℕ, List, [], None, length, suc, IfOk, OnOk, false};
+ghost use Rattle.outside.specs.Outside.{Asked, IfTold, Names, Tells};
+ghost use Rattle.rel_files.specs.Faults.{read_fault};
+ghost use Rattle.rel_files.specs.Relation.{count_of};
+ghost use Rattle.tree_search.specs.Levels.{downlinks};
+ghost use Rattle.tree_rules.specs.Tests.{are_roots_misplaced, is_misplaced};
+ghost use Rattle.tree_rules.specs.Walk.{first_outside, is_outside, unreached_finding};
+ghost use Rattle.bt_meta.specs.Pages.{meta_of};
+ghost use Rattle.bt_pages.specs.Trees.{tree_seen};
+ghost use Rattle.bt_walks.specs.Sets.{is_in};
+ghost use Rattle.bt_walks.specs.Shape.{IsShapeOf};
+ghost use Rattle.bt_walks.specs.Trees.{HasColumns, HoldsPages, first_broken_in, image_of};
+ghost use Rattle.bt_walks.specs.Downlinks.{TreeDownlink};
+ghost use Rattle.bt_walks.specs.Reading.{IsReading};
+ghost use Rattle.bt_walks.specs.Walked.{AreLevelsJudged, ChangesDownlinks, IsReady, IsSameIndex, IsTreeJudged};
+ghost use Rattle.bt_walks.specs.Walked.{StandsBefore, dead_of, fastroot_of, standing_of, tree_of};
+
+use crate::block_set::BlockSet;
+use crate::downlinks::Downlinks;
+use crate::levels::Levels;
+use crate::shape::{LevelsFound, TreeShape};
+use bt_meta::{Meta, meta};
+use bt_pages::{TreeRules, glance_at};
+use outside::{Files, NoMemory};
+use page_layout::{PageView, Rule};
+use rel_files::ReadFault;
+use reports::PageFault;
+use std::alloc::Global;
+use tree_image::kept_rules_make_a_sound_image;
+
+// What the metapage says.
+fn read_meta<F: Files>(files: &mut F, tree: &TreeRules<'_>) -> Result<Meta, ReadFault>
+    requires some { 0 < count_of tree.now.relation.now }
+    requires pages { IfTold F.seen files.old (λ names. HoldsPages names tree.now) }
+    ensures told { Tells F.seen files.old result (λ meta names. meta ≡ meta_of ((tree_seen names tree.now).block 0)) }
+    ensures asked { Asked F.seen files.old files.new result read_fault }
+{
+    let mut page = [0u8; 8192];
+    tree.relation.read_block(files, 0, &mut page)?;
+    Ok(meta(PageView::new(&page)))
+}
+
+// Whether a block isn't in use or of another level.
+fn is_misplaced<F: Files>(
+    files: &mut F,
+    tree: &TreeRules<'_>,
+    b: u32,
+    level: u32,
+) -> Result<bool, ReadFault>
+    requires pages { IfTold F.seen files.old (λ names. HoldsPages names tree.now) }
+    ensures told { Tells F.seen files.old result (λ misplaced names. b < count_of tree.now.relation.now
+        → misplaced ≡ is_misplaced (image_of (tree_seen names tree.now)) b level) }
+    ensures asked { Asked F.seen files.old files.new result read_fault }
+{
+    if b >= tree.relation.blocks() {
+        return Ok(true);
+    }
+    let page = glance_at(files, tree.relation, b)?;
+    Ok(page.idle || page.special.level != level)
+}
+
+// L1.
+fn are_roots_misplaced<F: Files>(
+    files: &mut F,
+    tree: &TreeRules<'_>,
+    meta: &Meta,
+) -> Result<bool, ReadFault>
+    requires pages { IfTold F.seen files.old (λ names. HoldsPages names tree.now) }
+    requires meta { IfTold F.seen files.old (λ names. meta.now ≡ meta_of ((tree_seen names tree.now).block 0)) }
+    ensures told { Tells F.seen files.old result (λ misplaced names.
+        misplaced ≡ are_roots_misplaced (image_of (tree_seen names tree.now))) }
+    ensures asked { Asked F.seen files.old files.new result read_fault }
+{
+    let is_root_misplaced = is_misplaced(files, tree, meta.root, meta.level)?;
+    let is_fast_misplaced = is_misplaced(files, tree, meta.fastroot, meta.fastlevel)?;
+    Ok(is_root_misplaced || (is_fast_misplaced || meta.fastlevel > meta.level))
+}
+
+// Whether a block is in use and not in this set.
+fn is_outside<F: Files>(
+    files: &mut F,
+    tree: &TreeRules<'_>,
+    stands: &BlockSet,
+    b: u32,
+) -> Result<bool, ReadFault>
+    requires blocks { length stands.now ≡ count_of tree.now.relation.now }
+    requires inside { b < count_of tree.now.relation.now }
+    requires pages { IfTold F.seen files.old (λ names. HoldsPages names tree.now) }
+    ensures told { Tells F.seen files.old result (λ outside names.
+        outside ≡ is_outside (image_of (tree_seen names tree.now)) (is_in stands.now) b) }
+    ensures asked { Asked F.seen files.old files.new result read_fault }
+{
+    if stands.has(b) {
+        return Ok(false);
+    }
+    let page = glance_at(files, tree.relation, b)?;
+    Ok(!page.idle)
+}
+
+// The first block from 1 on that is in use and isn't in this set.
+fn first_outside<F: Files>(
+    files: &mut F,
+    tree: &TreeRules<'_>,
+    stands: &BlockSet,
+) -> Result<Option<u32>, ReadFault>
+    requires blocks { length stands.now ≡ count_of tree.now.relation.now }
+    requires some { 0 < count_of tree.now.relation.now }
+    requires pages { IfTold F.seen files.old (λ names. HoldsPages names tree.now) }
+    ensures told { Tells F.seen files.old result (λ found names.
+        found ≡ first_outside (image_of (tree_seen names tree.now)) (is_in stands.now) (count_of tree.now.relation.now)) }
+    ensures asked { Asked F.seen files.old files.new result read_fault }
+{
+    for k in 0..tree.relation.blocks() - 1 {
+        let b = k + 1;
+        if is_outside(files, tree, stands, b)? {
+            return Ok(Some(b));
+        }
+    }
+    Ok(None)
+}
+
+impl<'t> Levels<'t> {
+    // Before the top level.
+    fn new(alloc: Global, tree: TreeRules<'t>, meta: &Meta) -> Result<Levels<'t>, NoMemory>
+        requires columns { HasColumns tree }
+        ensures ready { IfOk result IsReady }
+        ensures tree { IfOk result (λ levels. tree_of levels ≡ tree.entry) }
+        ensures fastroot { IfOk result (λ levels. fastroot_of levels ≡ meta.now.fastroot) }
+        ensures top { IfOk result (λ levels. (names : Names)
+            → meta.now ≡ meta_of ((tree_seen names tree.entry).block 0)
+            → StandsBefore (tree_seen names tree.entry) (image_of (tree_seen names tree.entry)).level levels
+            (downlinks (image_of (tree_seen names tree.entry)) 0)) }
+        ensures dead { IfOk result (λ levels. (b : ℕ) → dead_of levels b ≡ false) }
+        ensures standing { IfOk result (λ levels. (b : ℕ) → standing_of levels b ≡ false) }
+    {
+        let blocks = tree.relation.blocks();
+        let dead = BlockSet::new(alloc, blocks)?;
+        let stands = BlockSet::new(alloc, blocks)?;
+        Ok(Levels {
+            tree,
+            fastroot: meta.fastroot,
+            upper: Downlinks::to_root(meta.root),
+            page: [0; 8192],
+            lower: None,
+            dead,
+            stands,
+            right_halves: 0,
+            half_dead: 0,
+        })
+    }
+
+    // On to the level below the one whose first page this is.
+    fn descend<F: Files>(&mut self, files: &mut F, first: u32) -> Result<(), ReadFault>
+        requires ready { IsReady self.old }
+        requires pages { IfTold F.seen files.old (λ names. HoldsPages names (tree_of self.old)) }
+        ensures ready { IsReady self.new }
+        ensures downlinks { ChangesDownlinks self.old self.new }
+        ensures told { OnOk result (IfTold F.seen files.old (λ names. (level : ℕ) (left : List TreeDownlink)
+            → IsReading (image_of (tree_seen names (tree_of self.old))) (dead_of self.old) (suc level)
+            (count_of (tree_of self.old).relation.now) (record { items = []; lower = None; block = first }) left
+            → fastroot_of self.old ≡ (image_of (tree_seen names (tree_of self.old))).fastroot
+            → StandsBefore (tree_seen names (tree_of self.old)) level self.new left)) }
+        ensures asked { Asked F.seen files.old files.new result read_fault }
+    {
+        self.upper.begin(first);
+        self.upper.settle(files, &self.tree, &self.dead)?;
+        Ok(())
+    }
+
+    // L2 to L8, level by level from the top down.
+    fn judge_levels<F: Files>(
+        &mut self,
+        alloc: Global,
+        files: &mut F,
+        meta: &Meta,
+    ) -> Result<Option<(Rule, u32)>, PageFault>
+        requires ready { IsReady self.old }
+        requires pages { IfTold F.seen files.old (λ names. HoldsPages names (tree_of self.old)) }
+        requires meta { IfTold F.seen files.old (λ names.
+            meta.now ≡ meta_of ((tree_seen names (tree_of self.old)).block 0)) }
+        requires dead { (b : ℕ) → dead_of self.old b ≡ false }
+        requires standing { (b : ℕ) → standing_of self.old b ≡ false }
+        ensures ready { IsReady self.new }
+        ensures same { IsSameIndex self.old self.new }
+        ensures told { Tells F.seen files.old result (λ found names. let tree = tree_seen names (tree_of self.old) in
+            (image_of tree).root ≢ 0 → are_roots_misplaced (image_of tree) ≡ false
+            → StandsBefore tree (image_of tree).level self.old (downlinks (image_of tree) 0)
+            → AreLevelsJudged tree self.new found) }
+        ensures asked { Asked F.seen files.old files.new result PageFault.ReadFault }
+    {
+        kept_rules_make_a_sound_image();
+        for k in 0..self.tree.relation.blocks() {
+            let level = meta.level - k;
+            let judged = self.judge(alloc, files, level == meta.fastlevel)?;
+            if judged.finding.is_some() || level == 0 {
+                return Ok(judged.finding);
+            }
+            self.descend(files, judged.first)?;
+        }
+        Ok(None)
+    }
+
+    // L1 to L8.
+    fn judge_all<F: Files>(
+        &mut self,
+        alloc: Global,
+        files: &mut F,
+        meta: &Meta,
+    ) -> Result<Option<(Rule, u32)>, PageFault>
+        requires ready { IsReady self.old }
+        requires pages { IfTold F.seen files.old (λ names. HoldsPages names (tree_of self.old)) }
+        requires meta { IfTold F.seen files.old (λ names.
+            meta.now ≡ meta_of ((tree_seen names (tree_of self.old)).block 0)) }
+        requires dead { (b : ℕ) → dead_of self.old b ≡ false }
+        requires standing { (b : ℕ) → standing_of self.old b ≡ false }
+        requires top { IfTold F.seen files.old (λ names. let tree = tree_seen names (tree_of self.old) in
+            StandsBefore tree (image_of tree).level self.old (downlinks (image_of tree) 0)) }
+        ensures ready { IsReady self.new }
+        ensures same { IsSameIndex self.old self.new }
+        ensures told { Tells F.seen files.old result (λ found names.
+            IsTreeJudged (tree_seen names (tree_of self.old)) self.new found) }
+        ensures asked { Asked F.seen files.old files.new result PageFault.ReadFault }
+    {
+        kept_rules_make_a_sound_image();
+        if meta.root == 0 {
+            return Ok(None);
+        }
+        if are_roots_misplaced(files, &self.tree, meta)? {
+            return Ok(Some((Rule::L1, 0)));
+        }
+        let found = self.judge_levels(alloc, files, meta)?;
+        Ok(found)
+    }
+}
+
+// L9.
+fn first_unreached<F: Files>(
+    files: &mut F,
+    tree: &TreeRules<'_>,
+    stands: &BlockSet,
+) -> Result<Option<(Rule, u32)>, ReadFault>
+    requires blocks { length stands.now ≡ count_of tree.now.relation.now }
+    requires some { 0 < count_of tree.now.relation.now }
+    requires pages { IfTold F.seen files.old (λ names. HoldsPages names tree.now) }
+    ensures told { Tells F.seen files.old result (λ found names.
+        found ≡ unreached_finding (image_of (tree_seen names tree.now)) (is_in stands.now)) }
+    ensures asked { Asked F.seen files.old files.new result read_fault }
+{
+    match first_outside(files, tree, stands)? {
+        Some(b) => Ok(Some((Rule::L9, b))),
+        None => Ok(None),
+    }
+}
+
+/// Judges the levels of an index: the first of L1 to L9 that it breaks, and the block that is named for it,
+/// or None where it breaks none of them. Its single pages break no rule, where the files tell what they hold.
+///
+/// Each page of a level is read once, and once more while the level below it is walked; of others a few
+/// bytes are read. `ReadFault` comes only where the count of the files' faults rose.
+pub fn first_broken_rule<F: Files>(
+    alloc: Global,
+    files: &mut F,
+    tree: &TreeRules<'_>,
+) -> Result<LevelsFound, PageFault>
+    requires columns { HasColumns tree.now }
+    requires some { 0 < count_of tree.now.relation.now }
+    requires pages { IfTold F.seen files.old (λ names. HoldsPages names tree.now) }
+    ensures told { Tells F.seen files.old result (λ found names.
+        found.finding ≡ first_broken_in (tree_seen names tree.now)) }
+    ensures shape { Tells F.seen files.old result (λ found names.
+        IsShapeOf (tree_seen names tree.now) found.shape) }
+    ensures asked { Asked F.seen files.old files.new result PageFault.ReadFault }
+{
+    let meta = read_meta(files, tree)?;
+    let mut levels = Levels::new(alloc, *tree, &meta)?;
+    let finding = match levels.judge_all(alloc, files, &meta)? {
+        Some(finding) => Some(finding),
+        None => first_unreached(files, tree, &levels.stands)?,
+    };
+    Ok(LevelsFound {
+        finding,
+        shape: TreeShape {
+            fastroot: meta.fastroot,
+            fastlevel: meta.fastlevel,
+            right_halves: levels.right_halves,
+            half_dead: levels.half_dead,
+        },
+    })
+}

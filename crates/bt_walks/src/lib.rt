@@ -1,0 +1,19 @@
+//! The levels of a B-tree index, walked from the root down: which of the rules L1 to L9 the index breaks
+//! first.
+//!
+//! Sources: PostgreSQL's `access/nbtree.h` and the nbtree README.
+#![tactic(auto)]
+
+mod block_set;
+mod bounds;
+mod check;
+mod downlinks;
+mod first_page;
+mod judge;
+mod levels;
+mod marks;
+mod shape;
+
+pub use block_set::BlockSet;
+pub use check::first_broken_rule;
+pub use shape::{LevelsFound, TreeShape};
