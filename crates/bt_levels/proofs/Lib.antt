@@ -3,3 +3,5 @@ pub mod Keys
 pub mod Seen
 pub mod TreeLaws
 pub mod ListedLaws
+pub mod LevelLaws
+pub mod Sounds

@@ -21,40 +21,40 @@ use Rattle.bt_pages.specs.Found.{block_lists, block_place}
 use Rattle.bt_pages.specs.Broken.{AreEmpty, IsDoubtedAt, doubted, IsFoundAt, found}
 use Rattle.bt_pages.proofs.BlockLaws.{among_doubt, among_finding, block-doubted, block-listed, none_doubted, none_found, some_or_none}
 use Rattle.bt_pages.proofs.KeptLaws.{block-kept}
-use Rattle.bt_levels.specs.Broken.{BreaksTree, long_segment, no_blocks, other_layout, unknown_flag, bad_places, stray_byte, no_metapage, bad_root, in_block, DoubtsTree, old_version, of_block, IsOther}
-use Rattle.bt_levels.specs.Lists.{blocks_lists, first_doubt, first_lists, first_rule, index_lists, is_first_quiet, lists_where, old_version as old_by, other_lists, segment_lists}
+use Rattle.bt_levels.specs.Broken.{BreaksPages, long_segment, no_blocks, other_layout, unknown_flag, bad_places, stray_byte, no_metapage, bad_root, in_block, DoubtsTree, old_version, of_block, IsOther}
+use Rattle.bt_levels.specs.Lists.{blocks_lists, first_doubt, first_lists, first_rule, pages_lists, is_first_quiet, lists_where, old_version as old_by, other_lists, segment_lists}
 use Rattle.bt_levels.proofs.TreeLaws.{KeepsFirst, both_yes, first_broken, first_keeps, is_none-of}
 
 module _ (tree : Tree) (long : Option ℕ) where
   -- the parts of the lists
-  in_segment : (f : Finding) → Contains (segment_lists tree.number long).findings f → Contains (index_lists tree long).findings f
-  unfolding index_lists
+  in_segment : (f : Finding) → Contains (segment_lists tree.number long).findings f → Contains (pages_lists tree long).findings f
+  unfolding pages_lists
   in_segment f has = Contains-append_left (segment_lists tree.number long).findings (blocks_lists tree).findings f has
 
-  in_first : (f : Finding) → Contains (finding_at (block_place tree 0) (first_rule tree.blocks (tree.block 0))).findings f → Contains (index_lists tree long).findings f
-  unfolding index_lists blocks_lists
+  in_first : (f : Finding) → Contains (finding_at (block_place tree 0) (first_rule tree.blocks (tree.block 0))).findings f → Contains (pages_lists tree long).findings f
+  unfolding pages_lists blocks_lists
   in_first f has =
       Contains-append_right (segment_lists tree.number long).findings (blocks_lists tree).findings f
       (Contains-append_left (first_lists tree).findings (lists_where (is_first_quiet tree) (other_lists tree)).findings f
       (Contains-append_left (finding_at (block_place tree 0) (first_rule tree.blocks (tree.block 0))).findings (doubt_at (block_place tree 0) (first_doubt tree.blocks (tree.block 0))).findings f has))
 
-  in_other : (b : ℕ) (f : Finding) → IsOther tree b → Contains (block_lists tree b).findings f → Contains (index_lists tree long).findings f
-  unfolding index_lists blocks_lists other_lists
+  in_other : (b : ℕ) (f : Finding) → IsOther tree b → Contains (block_lists tree b).findings f → Contains (pages_lists tree long).findings f
+  unfolding pages_lists blocks_lists other_lists
   in_other b f o has =
       Contains-append_right (segment_lists tree.number long).findings (blocks_lists tree).findings f
       (Contains-append_right (first_lists tree).findings (lists_where (is_first_quiet tree) (other_lists tree)).findings f
       (subst (λ (q : Bool). Contains (lists_where q (other_lists tree)).findings f) (sym o.quiet)
       (among_upto report_lists (λ l. l.findings) refl (λ x y. refl) (block_lists tree) (tree.blocks - 1) b f o.first (let inside = o.inside in omega arith) has)))
 
-  first_doubted : (u : UnjudgedPlace) → Contains (doubt_at (block_place tree 0) (first_doubt tree.blocks (tree.block 0))).unjudged u → Contains (index_lists tree long).unjudged u
-  unfolding index_lists blocks_lists
+  first_doubted : (u : UnjudgedPlace) → Contains (doubt_at (block_place tree 0) (first_doubt tree.blocks (tree.block 0))).unjudged u → Contains (pages_lists tree long).unjudged u
+  unfolding pages_lists blocks_lists
   first_doubted u has =
       Contains-append_right (segment_lists tree.number long).unjudged (blocks_lists tree).unjudged u
       (Contains-append_left (first_lists tree).unjudged (lists_where (is_first_quiet tree) (other_lists tree)).unjudged u
       (Contains-append_right (finding_at (block_place tree 0) (first_rule tree.blocks (tree.block 0))).unjudged (doubt_at (block_place tree 0) (first_doubt tree.blocks (tree.block 0))).unjudged u has))
 
-  other_doubted : (b : ℕ) (u : UnjudgedPlace) → IsOther tree b → Contains (block_lists tree b).unjudged u → Contains (index_lists tree long).unjudged u
-  unfolding index_lists blocks_lists other_lists
+  other_doubted : (b : ℕ) (u : UnjudgedPlace) → IsOther tree b → Contains (block_lists tree b).unjudged u → Contains (pages_lists tree long).unjudged u
+  unfolding pages_lists blocks_lists other_lists
   other_doubted b u o has =
       Contains-append_right (segment_lists tree.number long).unjudged (blocks_lists tree).unjudged u
       (Contains-append_right (first_lists tree).unjudged (lists_where (is_first_quiet tree) (other_lists tree)).unjudged u
@@ -62,17 +62,17 @@ module _ (tree : Tree) (long : Option ℕ) where
       (among_upto report_lists (λ l. l.unjudged) refl (λ x y. refl) (block_lists tree) (tree.blocks - 1) b u o.first (let inside = o.inside in omega arith) has)))
 
   -- block 0 has a first rule, unless it keeps them all
-  first_listed : (KeepsFirst tree → ⊥) → IsFoundAt (index_lists tree long) (block_place tree 0)
+  first_listed : (KeepsFirst tree → ⊥) → IsFoundAt (pages_lists tree long) (block_place tree 0)
   first_listed broken = elim (some_or_none (first_rule tree.blocks (tree.block 0))) [
     | inl none ↦ absurd (broken (first_keeps tree none))
     | inr some ↦
         found some.it (in_first (record { rule = some.it; place = block_place tree 0 }) (among_finding (block_place tree 0) (first_rule tree.blocks (tree.block 0)) some.it some.is))
   ]
 
-  found_other : (b : ℕ) (place : Place) → IsOther tree b → IsFoundAt (block_lists tree b) place → IsFoundAt (index_lists tree long) place
+  found_other : (b : ℕ) (place : Place) → IsOther tree b → IsFoundAt (block_lists tree b) place → IsFoundAt (pages_lists tree long) place
   found_other b place o (found rule has) = found rule (in_other b (record { rule = rule; place = place }) o has)
 
-  doubted_other : (b : ℕ) (place : Place) → IsOther tree b → IsDoubtedAt (block_lists tree b) place → IsDoubtedAt (index_lists tree long) place
+  doubted_other : (b : ℕ) (place : Place) → IsOther tree b → IsDoubtedAt (block_lists tree b) place → IsDoubtedAt (pages_lists tree long) place
   doubted_other b place o (doubted reason has) = doubted reason (other_doubted b (record { reason = reason; place = place }) o has)
 
   segment_is : (k : ℕ) → long ≡ Some k → Contains (segment_lists tree.number long).findings (record { rule = S1; place = Segment (Index tree.number) k })
@@ -80,16 +80,16 @@ module _ (tree : Tree) (long : Option ℕ) where
       subst (λ (o : Option ℕ). Contains (segment_lists tree.number o).findings (record { rule = S1; place = Segment (Index tree.number) k })) (sym e)
       (among_finding (Segment (Index tree.number) k) (Some S1) S1 refl)
 
-  pub tree-listed : (rule : Rule) (place : Place) → BreaksTree tree long rule place → IsFoundAt (index_lists tree long) place
-  tree-listed _ _ (long_segment k e) = found S1 (in_segment (record { rule = S1; place = Segment (Index tree.number) k }) (segment_is k e))
-  tree-listed _ _ (no_blocks none) = first_listed (λ keeps. let some = keeps.some in omega arith)
-  tree-listed _ _ (other_layout some broken) = first_listed (λ keeps. both_ways _ keeps.version broken)
-  tree-listed _ _ (unknown_flag some broken) = first_listed (λ keeps. both_ways _ keeps.flags broken)
-  tree-listed _ _ (bad_places some broken) = first_listed (λ keeps. both_ways _ keeps.places broken)
-  tree-listed _ _ (stray_byte some broken) = first_listed (λ keeps. both_ways _ keeps.written broken)
-  tree-listed _ _ (no_metapage some broken) = first_listed (λ keeps. both_ways _ keeps.metapage broken)
-  tree-listed _ _ (bad_root some four broken) = first_listed (λ keeps. both_ways _ (keeps.roots four) broken)
-  tree-listed _ _ (in_block b rule place o broken) = found_other b place o (block-listed tree b rule place broken)
+  pub pages-listed : (rule : Rule) (place : Place) → BreaksPages tree long rule place → IsFoundAt (pages_lists tree long) place
+  pages-listed _ _ (long_segment k e) = found S1 (in_segment (record { rule = S1; place = Segment (Index tree.number) k }) (segment_is k e))
+  pages-listed _ _ (no_blocks none) = first_listed (λ keeps. let some = keeps.some in omega arith)
+  pages-listed _ _ (other_layout some broken) = first_listed (λ keeps. both_ways _ keeps.version broken)
+  pages-listed _ _ (unknown_flag some broken) = first_listed (λ keeps. both_ways _ keeps.flags broken)
+  pages-listed _ _ (bad_places some broken) = first_listed (λ keeps. both_ways _ keeps.places broken)
+  pages-listed _ _ (stray_byte some broken) = first_listed (λ keeps. both_ways _ keeps.written broken)
+  pages-listed _ _ (no_metapage some broken) = first_listed (λ keeps. both_ways _ keeps.metapage broken)
+  pages-listed _ _ (bad_root some four broken) = first_listed (λ keeps. both_ways _ (keeps.roots four) broken)
+  pages-listed _ _ (in_block b rule place o broken) = found_other b place o (block-listed tree b rule place broken)
 
   ne_is : (version : ℕ) → version ≢ 4 → (version == 4) ≡ false
   ne_is version other = elim (cases_Bool (version == 4)) [ inl e ↦ absurd (other (eqb-true _ _ e)) | inr e ↦ e ]
@@ -98,30 +98,30 @@ module _ (tree : Tree) (long : Option ℕ) where
   unfolding first_doubt
   doubt_is keeps other = λ k. old_by (is_none-of (first_rule tree.blocks (tree.block 0)) keeps k) (ne_is (meta_of (tree.block 0)).version other k)
 
-  pub tree-doubted : (reason : Reason) (place : Place) → DoubtsTree tree reason place → IsDoubtedAt (index_lists tree long) place
-  tree-doubted _ _ (old_version keeps other) =
+  pub pages-doubted : (reason : Reason) (place : Place) → DoubtsTree tree reason place → IsDoubtedAt (pages_lists tree long) place
+  pages-doubted _ _ (old_version keeps other) =
       doubted U4 (first_doubted (record { reason = U4; place = block_place tree 0 }) (among_doubt (block_place tree 0) (first_doubt tree.blocks (tree.block 0)) U4 (doubt_is keeps other)))
-  tree-doubted _ _ (of_block b reason place o doubt) = doubted_other b place o (block-doubted tree b reason place doubt)
+  pages-doubted _ _ (of_block b reason place o doubt) = doubted_other b place o (block-doubted tree b reason place doubt)
 
-  pub tree-complete : AreEmpty (index_lists tree long) → (rule : Rule) (place : Place) → BreaksTree tree long rule place → ⊥
-  tree-complete empty rule place broken = none_found (index_lists tree long) place empty (tree-listed rule place broken)
+  pub pages-complete : AreEmpty (pages_lists tree long) → (rule : Rule) (place : Place) → BreaksPages tree long rule place → ⊥
+  pages-complete empty rule place broken = none_found (pages_lists tree long) place empty (pages-listed rule place broken)
 
-  pub tree-certain : AreEmpty (index_lists tree long) → (reason : Reason) (place : Place) → DoubtsTree tree reason place → ⊥
-  tree-certain empty reason place doubt = none_doubted (index_lists tree long) place empty (tree-doubted reason place doubt)
+  pub pages-certain : AreEmpty (pages_lists tree long) → (reason : Reason) (place : Place) → DoubtsTree tree reason place → ⊥
+  pages-certain empty reason place doubt = none_doubted (pages_lists tree long) place empty (pages-doubted reason place doubt)
 
   -- What is kept where nothing is listed
 
-  module _ (empty : AreEmpty (index_lists tree long)) where
+  module _ (empty : AreEmpty (pages_lists tree long)) where
     rule_none : first_rule tree.blocks (tree.block 0) ≡ None
     rule_none = elim (some_or_none (first_rule tree.blocks (tree.block 0))) [
       | inl e ↦ e
-      | inr some ↦ absurd (tree-complete empty some.it (block_place tree 0) (first_broken tree long some.it some.is))
+      | inr some ↦ absurd (pages-complete empty some.it (block_place tree 0) (first_broken tree long some.it some.is))
     ]
 
     version_4 : (meta_of (tree.block 0)).version ≡ 4
     version_4 = elim (cases_Bool ((meta_of (tree.block 0)).version == 4)) [
       | inl e ↦ eqb-true _ _ e
-      | inr e ↦ absurd (tree-certain empty U4 (block_place tree 0) (old_version rule_none (λ four. both_ways _ e (eq-eqb _ _ four))))
+      | inr e ↦ absurd (pages-certain empty U4 (block_place tree 0) (old_version rule_none (λ four. both_ways _ e (eq-eqb _ _ four))))
     ]
 
     doubt_none : first_doubt tree.blocks (tree.block 0) ≡ None
@@ -132,7 +132,7 @@ module _ (tree : Tree) (long : Option ℕ) where
     quiet = both_yes (is_none (first_rule tree.blocks (tree.block 0))) (is_none (first_doubt tree.blocks (tree.block 0))) (is_none-of _ rule_none) (is_none-of _ doubt_none)
 
     findings_none : (b : ℕ) → 1 ≤ b → b < tree.blocks → (block_lists tree b).findings ≡ []
-    unfolding index_lists blocks_lists other_lists
+    unfolding pages_lists blocks_lists other_lists
     findings_none b first inside =
         upto_is_empty report_lists (λ l. l.findings) refl (λ x y. refl) (block_lists tree) (tree.blocks - 1) b
         (subst (λ (q : Bool). (lists_where q (other_lists tree)).findings ≡ []) quiet
@@ -140,7 +140,7 @@ module _ (tree : Tree) (long : Option ℕ) where
         first (omega arith)
 
     unjudged_none : (b : ℕ) → 1 ≤ b → b < tree.blocks → (block_lists tree b).unjudged ≡ []
-    unfolding index_lists blocks_lists other_lists
+    unfolding pages_lists blocks_lists other_lists
     unjudged_none b first inside =
         upto_is_empty report_lists (λ l. l.unjudged) refl (λ x y. refl) (block_lists tree) (tree.blocks - 1) b
         (subst (λ (q : Bool). (lists_where q (other_lists tree)).unjudged ≡ []) quiet
@@ -152,8 +152,8 @@ module _ (tree : Tree) (long : Option ℕ) where
         let first : 1 ≤ b = omega (arith, other) in
         block-kept tree b (record { findings = findings_none b first inside; unjudged = unjudged_none b first inside }) used
 
-    pub tree-kept : KeepsTreeRules tree.specs tree.more tree.blocks tree.block
-    tree-kept =
+    pub pages-kept : KeepsTreeRules tree.specs tree.more tree.blocks tree.block
+    pages-kept =
         let keeps = first_keeps tree rule_none in
         record {
           some = keeps.some;

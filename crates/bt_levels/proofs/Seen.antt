@@ -10,16 +10,17 @@ use Rattle.bt_pages.specs.declared.tree.TreeRules.{TreeRules}
 use Rattle.bt_levels.specs.Index.{index_of, tree_lists, tree_of}
 use Rattle.bt_levels.specs.Lists.{index_lists}
 
-pub lists-seen : (case : CaseRecord) (names : Names) (n : ℕ) (rules : TreeRules) → rules.number ≡ n → rules.specs.now ≡ (index_of case n).keys → rules.more.now ≡ []
-    → IsNamed (index_of case n).file case.segment_blocks rules.relation.now → IsRelationOf names (index_of case n).file case.segment_blocks block_limit rules.relation.now
-    → index_lists (tree_seen names rules) (long_of rules.relation.now) ≡ tree_lists case names n
-unfolding tree_lists
-lists-seen case names n rules number specs more named is =
-    let tree : tree_seen names rules ≡ tree_of case names n = λ i. record {
-      number = number i;
-      specs = specs i;
-      more = more i;
-      blocks = is.count i;
-      block = block_of names (named.named i) (named.sized i);
-    } in
-    λ i. index_lists (tree i) (is.long i)
+module _ (case : CaseRecord) (names : Names) (n : ℕ) (rules : TreeRules) (number : rules.number ≡ n) (specs : rules.specs.now ≡ (index_of case n).keys) (more : rules.more.now ≡ [])
+    (named : IsNamed (index_of case n).file case.segment_blocks rules.relation.now) (is : IsRelationOf names (index_of case n).file case.segment_blocks block_limit rules.relation.now) where
+  pub tree-seen : tree_seen names rules ≡ tree_of case names n
+  tree-seen = λ i. record {
+    number = number i;
+    specs = specs i;
+    more = more i;
+    blocks = is.count i;
+    block = block_of names (named.named i) (named.sized i);
+  }
+
+  pub lists-seen : index_lists (tree_seen names rules) (long_of rules.relation.now) ≡ tree_lists case names n
+  unfolding tree_lists
+  lists-seen = λ i. index_lists (tree-seen i) (is.long i)

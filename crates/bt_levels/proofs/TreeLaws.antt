@@ -20,31 +20,31 @@ use Rattle.reports.proofs.Parts.{All-upto}
 use Rattle.bt_pages.specs.Trees.{Tree}
 use Rattle.bt_pages.specs.Found.{block_lists, block_place}
 use Rattle.bt_pages.proofs.BlockLaws.{All-doubt_at, All-finding_at, block-doubts, block-sound, no_doubts, no_findings, or_none}
-use Rattle.bt_levels.specs.Broken.{BreaksTree, long_segment, no_blocks, other_layout, unknown_flag, bad_places, stray_byte, no_metapage, bad_root, in_block, DoubtsTree, old_version, of_block}
-use Rattle.bt_levels.specs.Lists.{blocks_lists, first_doubt, first_lists, first_rule, index_lists, is_first_quiet, lists_where, old_version as old_by, other_lists, segment_lists}
+use Rattle.bt_levels.specs.Broken.{BreaksPages, long_segment, no_blocks, other_layout, unknown_flag, bad_places, stray_byte, no_metapage, bad_root, in_block, DoubtsTree, old_version, of_block}
+use Rattle.bt_levels.specs.Lists.{blocks_lists, first_doubt, first_lists, first_rule, pages_lists, is_first_quiet, lists_where, old_version as old_by, other_lists, segment_lists}
 
 -- Block 0: which rules its first one can be
 
 header_by : (tree : Tree) (long : Option ℕ) (a b c d : Bool) → a ≡ has_other_version (tree.block 0) → b ≡ has_unknown_page_flag (tree.block 0) → c ≡ has_bad_places Meta (tree.block 0) → d ≡ is_new_but_written (tree.block 0)
-    → 0 < tree.blocks → (rule : Rule) → cond a (Some P1) (cond b (Some P2) (cond c (Some P3) (cond d (Some P4) None))) ≡ Some rule → BreaksTree tree long rule (block_place tree 0)
-header_by tree long true b c d p q r s some rule e = subst (λ (x : Rule). BreaksTree tree long x (block_place tree 0)) (let same : P1 ≡ rule = cc in same) (other_layout some (sym p))
-header_by tree long false true c d p q r s some rule e = subst (λ (x : Rule). BreaksTree tree long x (block_place tree 0)) (let same : P2 ≡ rule = cc in same) (unknown_flag some (sym q))
-header_by tree long false false true d p q r s some rule e = subst (λ (x : Rule). BreaksTree tree long x (block_place tree 0)) (let same : P3 ≡ rule = cc in same) (bad_places some (sym r))
-header_by tree long false false false true p q r s some rule e = subst (λ (x : Rule). BreaksTree tree long x (block_place tree 0)) (let same : P4 ≡ rule = cc in same) (stray_byte some (sym s))
+    → 0 < tree.blocks → (rule : Rule) → cond a (Some P1) (cond b (Some P2) (cond c (Some P3) (cond d (Some P4) None))) ≡ Some rule → BreaksPages tree long rule (block_place tree 0)
+header_by tree long true b c d p q r s some rule e = subst (λ (x : Rule). BreaksPages tree long x (block_place tree 0)) (let same : P1 ≡ rule = cc in same) (other_layout some (sym p))
+header_by tree long false true c d p q r s some rule e = subst (λ (x : Rule). BreaksPages tree long x (block_place tree 0)) (let same : P2 ≡ rule = cc in same) (unknown_flag some (sym q))
+header_by tree long false false true d p q r s some rule e = subst (λ (x : Rule). BreaksPages tree long x (block_place tree 0)) (let same : P3 ≡ rule = cc in same) (bad_places some (sym r))
+header_by tree long false false false true p q r s some rule e = subst (λ (x : Rule). BreaksPages tree long x (block_place tree 0)) (let same : P4 ≡ rule = cc in same) (stray_byte some (sym s))
 header_by tree long false false false false p q r s some rule e = absurd cc
 
-header_broken : (tree : Tree) (long : Option ℕ) → 0 < tree.blocks → (rule : Rule) → page_rule_of Meta (tree.block 0) ≡ Some rule → BreaksTree tree long rule (block_place tree 0)
+header_broken : (tree : Tree) (long : Option ℕ) → 0 < tree.blocks → (rule : Rule) → page_rule_of Meta (tree.block 0) ≡ Some rule → BreaksPages tree long rule (block_place tree 0)
 unfolding page_rule_of
 header_broken tree long some rule e = header_by tree long _ _ _ _ refl refl refl refl some rule e
 
 meta_by : (tree : Tree) (long : Option ℕ) (a b c : Bool) → a ≡ is_no_metapage (tree.block 0) → b ≡ ((meta_of (tree.block 0)).version == 4) → c ≡ has_bad_root tree.blocks (meta_of (tree.block 0))
-    → 0 < tree.blocks → (rule : Rule) → cond a (Some M1) (cond (b && c) (Some M2) None) ≡ Some rule → BreaksTree tree long rule (block_place tree 0)
-meta_by tree long true b c p q r some rule e = subst (λ (x : Rule). BreaksTree tree long x (block_place tree 0)) (let same : M1 ≡ rule = cc in same) (no_metapage some (sym p))
-meta_by tree long false true true p q r some rule e = subst (λ (x : Rule). BreaksTree tree long x (block_place tree 0)) (let same : M2 ≡ rule = cc in same) (bad_root some (eqb-true _ _ (sym q)) (sym r))
+    → 0 < tree.blocks → (rule : Rule) → cond a (Some M1) (cond (b && c) (Some M2) None) ≡ Some rule → BreaksPages tree long rule (block_place tree 0)
+meta_by tree long true b c p q r some rule e = subst (λ (x : Rule). BreaksPages tree long x (block_place tree 0)) (let same : M1 ≡ rule = cc in same) (no_metapage some (sym p))
+meta_by tree long false true true p q r some rule e = subst (λ (x : Rule). BreaksPages tree long x (block_place tree 0)) (let same : M2 ≡ rule = cc in same) (bad_root some (eqb-true _ _ (sym q)) (sym r))
 meta_by tree long false true false p q r some rule e = absurd cc
 meta_by tree long false false c p q r some rule e = absurd cc
 
-meta_broken : (tree : Tree) (long : Option ℕ) → 0 < tree.blocks → (rule : Rule) → meta_rule_of (tree.block 0) tree.blocks ≡ Some rule → BreaksTree tree long rule (block_place tree 0)
+meta_broken : (tree : Tree) (long : Option ℕ) → 0 < tree.blocks → (rule : Rule) → meta_rule_of (tree.block 0) tree.blocks ≡ Some rule → BreaksPages tree long rule (block_place tree 0)
 unfolding meta_rule_of
 meta_broken tree long some rule e = meta_by tree long _ _ _ refl refl refl some rule e
 
@@ -67,10 +67,10 @@ zero_or_more : (n : ℕ) → (n ≡ 0) ⊎ (0 < n)
 zero_or_more zero = inl refl
 zero_or_more (suc n) = inr (omega arith)
 
-pub first_broken : (tree : Tree) (long : Option ℕ) (rule : Rule) → first_rule tree.blocks (tree.block 0) ≡ Some rule → BreaksTree tree long rule (block_place tree 0)
+pub first_broken : (tree : Tree) (long : Option ℕ) (rule : Rule) → first_rule tree.blocks (tree.block 0) ≡ Some rule → BreaksPages tree long rule (block_place tree 0)
 first_broken tree long rule e = elim (zero_or_more tree.blocks) [
   | inl none ↦
-      subst (λ (x : Rule). BreaksTree tree long x (block_place tree 0)) (let both : Some M1 ≡ Some rule = sym (first_zero tree.blocks (tree.block 0) none) ∙ e in let same : M1 ≡ rule = cc in same) (no_blocks none)
+      subst (λ (x : Rule). BreaksPages tree long x (block_place tree 0)) (let both : Some M1 ≡ Some rule = sym (first_zero tree.blocks (tree.block 0) none) ∙ e in let same : M1 ≡ rule = cc in same) (no_blocks none)
   | inr some ↦ elim (or_by (page_rule_of Meta (tree.block 0)) (meta_rule_of (tree.block 0) tree.blocks) rule (sym (first_is tree.blocks (tree.block 0) some) ∙ e)) [
     | inl own ↦ header_broken tree long some rule own
     | inr later ↦ meta_broken tree long some rule later
@@ -153,33 +153,33 @@ module _ (tree : Tree) (long : Option ℕ) where
 
   -- The findings
 
-  segment_sound : (o : Option ℕ) → long ≡ o → All (λ f. BreaksTree tree long f.rule f.place) (segment_lists tree.number o).findings
-  segment_sound None e = All-nil (λ f. BreaksTree tree long f.rule f.place)
+  segment_sound : (o : Option ℕ) → long ≡ o → All (λ f. BreaksPages tree long f.rule f.place) (segment_lists tree.number o).findings
+  segment_sound None e = All-nil (λ f. BreaksPages tree long f.rule f.place)
   segment_sound (Some k) e =
-      All-finding_at (λ f. BreaksTree tree long f.rule f.place) (Segment (Index tree.number) k) (Some S1) (λ rule same.
-      subst (λ (r : Rule). BreaksTree tree long r (Segment (Index tree.number) k)) (let is : S1 ≡ rule = cc in is) (long_segment k e))
+      All-finding_at (λ f. BreaksPages tree long f.rule f.place) (Segment (Index tree.number) k) (Some S1) (λ rule same.
+      subst (λ (r : Rule). BreaksPages tree long r (Segment (Index tree.number) k)) (let is : S1 ≡ rule = cc in is) (long_segment k e))
 
-  first_sound : All (λ f. BreaksTree tree long f.rule f.place) (first_lists tree).findings
+  first_sound : All (λ f. BreaksPages tree long f.rule f.place) (first_lists tree).findings
   first_sound =
-      All-append (λ f. BreaksTree tree long f.rule f.place) (finding_at (block_place tree 0) (first_rule tree.blocks (tree.block 0))).findings (doubt_at (block_place tree 0) (first_doubt tree.blocks (tree.block 0))).findings
-      (All-finding_at (λ f. BreaksTree tree long f.rule f.place) (block_place tree 0) (first_rule tree.blocks (tree.block 0)) (first_broken tree long))
-      (subst (All (λ f. BreaksTree tree long f.rule f.place)) (sym (no_findings (block_place tree 0) (first_doubt tree.blocks (tree.block 0)))) (All-nil (λ f. BreaksTree tree long f.rule f.place)))
+      All-append (λ f. BreaksPages tree long f.rule f.place) (finding_at (block_place tree 0) (first_rule tree.blocks (tree.block 0))).findings (doubt_at (block_place tree 0) (first_doubt tree.blocks (tree.block 0))).findings
+      (All-finding_at (λ f. BreaksPages tree long f.rule f.place) (block_place tree 0) (first_rule tree.blocks (tree.block 0)) (first_broken tree long))
+      (subst (All (λ f. BreaksPages tree long f.rule f.place)) (sym (no_findings (block_place tree 0) (first_doubt tree.blocks (tree.block 0)))) (All-nil (λ f. BreaksPages tree long f.rule f.place)))
 
-  others_sound : is_first_quiet tree ≡ true → All (λ f. BreaksTree tree long f.rule f.place) (other_lists tree).findings
+  others_sound : is_first_quiet tree ≡ true → All (λ f. BreaksPages tree long f.rule f.place) (other_lists tree).findings
   unfolding other_lists
   others_sound quiet =
-      All-upto report_lists (λ l. l.findings) refl (λ x y. refl) (λ f. BreaksTree tree long f.rule f.place) (block_lists tree) (tree.blocks - 1)
+      All-upto report_lists (λ l. l.findings) refl (λ x y. refl) (λ f. BreaksPages tree long f.rule f.place) (block_lists tree) (tree.blocks - 1)
       (λ b first last k d lt. in_block b _ _ (record { first = first; inside = omega arith; quiet = quiet }) (block-sound tree b k d lt))
 
-  where_sound : (q : Bool) → is_first_quiet tree ≡ q → All (λ f. BreaksTree tree long f.rule f.place) (lists_where q (other_lists tree)).findings
+  where_sound : (q : Bool) → is_first_quiet tree ≡ q → All (λ f. BreaksPages tree long f.rule f.place) (lists_where q (other_lists tree)).findings
   where_sound true e = others_sound e
-  where_sound false e = All-nil (λ f. BreaksTree tree long f.rule f.place)
+  where_sound false e = All-nil (λ f. BreaksPages tree long f.rule f.place)
 
-  pub tree-sound : All (λ f. BreaksTree tree long f.rule f.place) (index_lists tree long).findings
-  unfolding index_lists blocks_lists
-  tree-sound =
-      All-append (λ f. BreaksTree tree long f.rule f.place) (segment_lists tree.number long).findings (blocks_lists tree).findings (segment_sound long refl)
-      (All-append (λ f. BreaksTree tree long f.rule f.place) (first_lists tree).findings (lists_where (is_first_quiet tree) (other_lists tree)).findings first_sound (where_sound (is_first_quiet tree) refl))
+  pub pages-sound : All (λ f. BreaksPages tree long f.rule f.place) (pages_lists tree long).findings
+  unfolding pages_lists blocks_lists
+  pages-sound =
+      All-append (λ f. BreaksPages tree long f.rule f.place) (segment_lists tree.number long).findings (blocks_lists tree).findings (segment_sound long refl)
+      (All-append (λ f. BreaksPages tree long f.rule f.place) (first_lists tree).findings (lists_where (is_first_quiet tree) (other_lists tree)).findings first_sound (where_sound (is_first_quiet tree) refl))
 
   -- The doubts
 
@@ -202,8 +202,8 @@ module _ (tree : Tree) (long : Option ℕ) where
   where_doubts true e = others_doubts e
   where_doubts false e = All-nil (λ u. DoubtsTree tree u.reason u.place)
 
-  pub tree-doubts : All (λ u. DoubtsTree tree u.reason u.place) (index_lists tree long).unjudged
-  unfolding index_lists blocks_lists
-  tree-doubts =
+  pub pages-doubts : All (λ u. DoubtsTree tree u.reason u.place) (pages_lists tree long).unjudged
+  unfolding pages_lists blocks_lists
+  pages-doubts =
       subst (λ (us : List UnjudgedPlace). All (λ u. DoubtsTree tree u.reason u.place) (us ++ (blocks_lists tree).unjudged)) (sym (no_segment long))
       (All-append (λ u. DoubtsTree tree u.reason u.place) (first_lists tree).unjudged (lists_where (is_first_quiet tree) (other_lists tree)).unjudged first_doubts (where_doubts (is_first_quiet tree) refl))

@@ -23,16 +23,16 @@ specs_of sound = sound.specs.items
 
 -- what it keeps of its levels
 abbrev pub fastroot_of : SoundTree → ℕ
-fastroot_of sound = sound.fastroot
+fastroot_of sound = sound.shape.fastroot
 
 abbrev pub fastlevel_of : SoundTree → ℕ
-fastlevel_of sound = sound.fastlevel
+fastlevel_of sound = sound.shape.fastlevel
 
 abbrev pub right_halves_of : SoundTree → ℕ
-right_halves_of sound = sound.right_halves
+right_halves_of sound = sound.shape.right_halves
 
 abbrev pub half_dead_of : SoundTree → ℕ
-half_dead_of sound = sound.half_dead
+half_dead_of sound = sound.shape.half_dead
 
 -- it is index n of a case
 pub record IsSoundIndexOf (case : CaseRecord) (n : ℕ) (sound : SoundTree) : Type 0 where

@@ -1,17 +1,20 @@
 //! Judges an index of a case.
-ghost use Rattle.std.specs.Prelude.{◌≡◌, ◌↔◌, ◌⊎◌, [], length, true, IfErr, IfOk, IfSome, IsSome};
+ghost use Rattle.std.specs.Prelude.{◌≡◌, ◌↔◌, ◌⊎◌, [], IfErr, IfOk, IfSome, IsSome};
 ghost use Rattle.outside.specs.Adds.{AddsIn};
 ghost use Rattle.outside.specs.Outside.{Asked, IfTold, Tells};
 ghost use Rattle.reports.specs.Added.{report_lists};
 ghost use Rattle.bt_pages.specs.Broken.{AreEmpty};
 ghost use Rattle.bt_levels.specs.Files.{BelongsTo, IsFileOf, number_of, relation_of};
-ghost use Rattle.bt_levels.specs.Index.{index_of, tree_lists};
-ghost use Rattle.bt_levels.specs.Sound.{IsSoundIndexOf, file_of};
+ghost use Rattle.bt_walks.specs.Shape.{IsShapeOf};
+ghost use Rattle.bt_levels.specs.Index.{index_of, tree_lists, tree_of};
+ghost use Rattle.bt_levels.specs.Sound.{HoldsTree, IsSoundIndexOf, file_of};
 
 use crate::files::TreeFile;
 use crate::judge::judge_index;
+use crate::laws::indexes_are_judged;
 use crate::sound::SoundTree;
 use bt_pages::TreeRules;
+use bt_walks::TreeShape;
 use case_file::Case;
 use key_orders::KeySpec;
 use outside::{Files, NoMemory};
@@ -41,24 +44,21 @@ fn judge_file<F: Files>(
     case: &Case,
     at: &TreeFile,
     report: &mut Report,
-) -> Result<(), PageFault>
+) -> Result<Option<TreeShape>, PageFault>
     requires told { IfTold F.seen files.old (λ names. IsFileOf case.now names at.now) }
     requires belong { BelongsTo case.now at.now }
     ensures lists { IfTold F.seen files.old (λ names. AddsIn report_lists result report.old report.new
         (tree_lists case.now names (number_of at.now))) }
+    ensures quiet { Tells F.seen files.old result (λ shape names.
+        IsSome shape ↔ AreEmpty (tree_lists case.now names (number_of at.now))) }
+    ensures shape { Tells F.seen files.old result (λ shape names.
+        IfSome shape (IsShapeOf (tree_of case.now names (number_of at.now)))) }
     ensures asked { Asked F.seen files.old files.new result PageFault.ReadFault }
 {
     case.sound();
     let tree = rules_of(case, at);
-    judge_index(alloc, files, &tree, report)
-}
-
-// Whether a report has as much as it had with these counts.
-fn is_as_before(report: &Report, before: (u64, u64)) -> bool
-    ensures { (result ≡ true) ↔ (length report.now.findings ≡ before.0) × (length report.now.unjudged ≡ before.1) }
-{
-    let counts = report.counts();
-    counts.0 == before.0 && counts.1 == before.1
+    let shape = judge_index(alloc, files, &tree, report)?;
+    Ok(shape)
 }
 
 // The columns of a key, in memory of their own.
@@ -70,8 +70,9 @@ fn keys_of(alloc: Global, specs: &[KeySpec]) -> Result<Vec<KeySpec>, NoMemory>
 }
 
 /// Judges an index of a case, and adds to the report all that is found of it and all that can't be
-/// judged: its segments (S1); block 0 (P1 to P4, M1, M2, U4); and where nothing came up there, each other
-/// block by its number (P1 to P4, B1 to B13, U5). How the pages of a level stand together isn't judged.
+/// judged: its segments (S1); block 0 (P1 to P4, M1, M2, U4); where nothing came up there, each other
+/// block by its number (P1 to P4, B1 to B13, U5); and where nothing came up at all, the first of the
+/// rules on levels that is broken (L1 to L9).
 ///
 /// The answer is `None` exactly where something was added. `ReadFault` comes only where the count of the
 /// files' faults rose, and `NoFile` and `TooLarge` never. After an error the report has a first part of
@@ -92,22 +93,20 @@ pub fn check_tree<F: Files>(
     ensures sound { IfOk result (λ answer. IfSome answer (IsSoundIndexOf case.now (number_of at))) }
     ensures told { IfOk result (λ answer. IfSome answer (λ sound. IfTold F.seen files.old (λ names.
         IsFileOf case.now names (file_of sound)))) }
+    ensures holds { IfOk result (λ answer. IfSome answer (λ sound. IfTold F.seen files.old (λ names.
+        HoldsTree names sound))) }
     ensures only { IfErr result (λ e. e ≡ CheckFault.ReadFault ⊎ e ≡ CheckFault.NoMemory) }
     ensures asked { Asked F.seen files.old files.new result CheckFault.ReadFault }
 {
-    let before = report.counts();
-    judge_file(alloc, files, case, &at, report)?;
-    if !is_as_before(report, before) {
+    indexes_are_judged();
+    let Some(shape) = judge_file(alloc, files, case, &at, report)? else {
         return Ok(None);
-    }
+    };
     let specs = keys_of(alloc, case.index_keys(at.index))?;
     case.sound();
     Ok(Some(SoundTree {
         file: at,
         specs,
-        fastroot: 0,
-        fastlevel: 0,
-        right_halves: 0,
-        half_dead: 0,
+        shape,
     }))
 }

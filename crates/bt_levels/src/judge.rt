@@ -1,5 +1,5 @@
-//! Judges the segments and the blocks of an index.
-ghost use Rattle.std.specs.Prelude.{◌≡◌, ◌<◌, ◌≤◌, All, IfOk, length, true};
+//! Judges the segments, the blocks and the levels of an index.
+ghost use Rattle.std.specs.Prelude.{◌≡◌, ◌<◌, ◌↔◌, ◌≤◌, All, IfOk, IfSome, IsSome, None, length, true};
 ghost use Rattle.outside.specs.Adds.{AddsIn};
 ghost use Rattle.outside.specs.Outside.{Asked, IfTold, Tells};
 ghost use Rattle.key_orders.specs.Types.{HasAlignment};
@@ -8,12 +8,16 @@ ghost use Rattle.rel_files.specs.Relation.{IsAttached, count_of, long_of};
 ghost use Rattle.reports.specs.Added.{report_lists};
 ghost use Rattle.bt_pages.specs.Seen.{HasSeen, StaysSeen};
 ghost use Rattle.bt_pages.specs.Trees.{tree_seen};
-ghost use Rattle.bt_levels.specs.Lists.{blocks_lists, first_lists, index_lists, is_first_quiet, other_lists};
-ghost use Rattle.bt_levels.specs.Lists.{segment_lists};
+ghost use Rattle.bt_pages.specs.Broken.{AreEmpty};
+ghost use Rattle.bt_walks.specs.Shape.{IsShapeOf};
+ghost use Rattle.bt_walks.specs.Trees.{HasColumns, HoldsPages, first_broken_in};
+ghost use Rattle.bt_levels.specs.Lists.{blocks_lists, first_lists, index_lists, is_first_quiet, level_finding_lists};
+ghost use Rattle.bt_levels.specs.Lists.{level_lists, other_lists, pages_lists, segment_lists};
 
 use crate::meta::{first_doubt, first_rule};
 use crate::window::Window;
 use bt_pages::{SeenTree, TreeRules, add_found};
+use bt_walks::{TreeShape, first_broken_rule};
 use outside::{Files, NoMemory};
 use page_layout::{PageView, Rule};
 use reports::{PageFault, Place, Rel, Report};
@@ -107,24 +111,98 @@ fn judge_blocks<F: Files>(
     Ok(())
 }
 
-/// Judges the file of an index: its segments (S1), block 0 (P1 to P4, M1, M2, U4), and where nothing is
-/// found of that the other blocks (P1 to P4, B1 to B13, U5). After an error the report has a first part
-/// of what it would have got.
-pub fn judge_index<F: Files>(
+// Judges the segments and the blocks.
+fn judge_pages<F: Files>(
     alloc: Global,
     files: &mut F,
     tree: &TreeRules<'_>,
     report: &mut Report,
 ) -> Result<(), PageFault>
-    requires few { length tree.now.specs.now ≤ 8 }
-    requires few_more { length tree.now.more.now ≤ 24 }
-    requires aligned { All HasAlignment (key_types tree.now.specs.now) }
-    requires aligned_more { All HasAlignment (more_types tree.now.more.now) }
+    requires columns { HasColumns tree.now }
     requires attached { IfTold F.seen files.old (λ names. IsAttached names tree.now.relation.now) }
     ensures lists { IfTold F.seen files.old (λ names. AddsIn report_lists result report.old report.new
-        (index_lists (tree_seen names tree.now) (long_of tree.now.relation.now))) }
+        (pages_lists (tree_seen names tree.now) (long_of tree.now.relation.now))) }
     ensures asked { Asked F.seen files.old files.new result PageFault.ReadFault }
 {
     add_segment(report, tree.number, tree.relation.long_segment())?;
     judge_blocks(alloc, files, tree, report)
+}
+
+// Adds the rule on levels that is broken first.
+fn add_level_finding(
+    report: &mut Report,
+    number: u16,
+    finding: Option<(Rule, u32)>,
+) -> Result<(), NoMemory>
+    ensures { AddsIn report_lists result report.old report.new (level_finding_lists number finding) }
+{
+    match finding {
+        None => Ok(()),
+        Some((rule, b)) => report.add_rule(Place::Block(Rel::Index(number), b), Some(rule)),
+    }
+}
+
+// Judges the levels of an index whose pages keep their rules, and says what a search of it needs to know,
+// if nothing is found there.
+fn judge_levels<F: Files>(
+    alloc: Global,
+    files: &mut F,
+    tree: &TreeRules<'_>,
+    report: &mut Report,
+) -> Result<Option<TreeShape>, PageFault>
+    requires columns { HasColumns tree.now }
+    requires some { 0 < count_of tree.now.relation.now }
+    requires pages { IfTold F.seen files.old (λ names. HoldsPages names tree.now) }
+    ensures lists { IfTold F.seen files.old (λ names. AddsIn report_lists result report.old report.new
+        (level_lists (tree_seen names tree.now))) }
+    ensures quiet { Tells F.seen files.old result (λ shape names.
+        IsSome shape ↔ (first_broken_in (tree_seen names tree.now) ≡ None)) }
+    ensures shape { Tells F.seen files.old result (λ shape names.
+        IfSome shape (IsShapeOf (tree_seen names tree.now))) }
+    ensures asked { Asked F.seen files.old files.new result PageFault.ReadFault }
+{
+    let found = first_broken_rule(alloc, files, tree)?;
+    add_level_finding(report, tree.number, found.finding)?;
+    match found.finding {
+        None => Ok(Some(found.shape)),
+        Some(_) => Ok(None),
+    }
+}
+
+// Whether a report has as much as it had with these counts.
+fn is_as_before(report: &Report, before: (u64, u64)) -> bool
+    ensures { (result ≡ true) ↔ (length report.now.findings ≡ before.0) × (length report.now.unjudged ≡ before.1) }
+{
+    let counts = report.counts();
+    counts.0 == before.0 && counts.1 == before.1
+}
+
+/// Judges the file of an index: its segments (S1), block 0 (P1 to P4, M1, M2, U4), where nothing is found of
+/// that the other blocks (P1 to P4, B1 to B13, U5), and where nothing is found of those the levels (L1 to L9).
+///
+/// The answer is `None` exactly where something was added, and else what a search of the index needs to know.
+/// After an error the report has a first part of what it would have got.
+pub fn judge_index<F: Files>(
+    alloc: Global,
+    files: &mut F,
+    tree: &TreeRules<'_>,
+    report: &mut Report,
+) -> Result<Option<TreeShape>, PageFault>
+    requires columns { HasColumns tree.now }
+    requires attached { IfTold F.seen files.old (λ names. IsAttached names tree.now.relation.now) }
+    ensures lists { IfTold F.seen files.old (λ names. AddsIn report_lists result report.old report.new
+        (index_lists (tree_seen names tree.now) (long_of tree.now.relation.now))) }
+    ensures quiet { Tells F.seen files.old result (λ shape names.
+        IsSome shape ↔ AreEmpty (index_lists (tree_seen names tree.now) (long_of tree.now.relation.now))) }
+    ensures shape { Tells F.seen files.old result (λ shape names.
+        IfSome shape (IsShapeOf (tree_seen names tree.now))) }
+    ensures asked { Asked F.seen files.old files.new result PageFault.ReadFault }
+{
+    let before = report.counts();
+    judge_pages(alloc, files, tree, report)?;
+    if !is_as_before(report, before) || tree.relation.blocks() == 0 {
+        return Ok(None);
+    }
+    let shape = judge_levels(alloc, files, tree, report)?;
+    Ok(shape)
 }

@@ -4,6 +4,7 @@ ghost use Rattle.key_orders.specs.Types.{HasAlignment};
 ghost use Rattle.varlena_attrs.specs.Keyed.{key_types};
 
 use crate::files::TreeFile;
+use bt_walks::TreeShape;
 use key_orders::KeySpec;
 use outside::Files;
 use rel_files::ReadFault;
@@ -15,10 +16,7 @@ use rel_files::ReadFault;
 pub struct SoundTree {
     pub(crate) file: TreeFile,
     pub(crate) specs: Vec<KeySpec>,
-    pub(crate) fastroot: u32,
-    pub(crate) fastlevel: u32,
-    pub(crate) right_halves: u32,
-    pub(crate) half_dead: u32,
+    pub(crate) shape: TreeShape,
     ghost few: { length specs.items ≤ 8 },
     ghost aligned: { All HasAlignment (key_types specs.items) },
 }
@@ -52,28 +50,28 @@ impl SoundTree {
     pub fn fastroot(&self) -> u32
         ensures { result ≡ fastroot_of self.now }
     {
-        self.fastroot
+        self.shape.fastroot
     }
 
     /// The level of that block's page, 0 for a leaf.
     pub fn fastlevel(&self) -> u32
         ensures { result ≡ fastlevel_of self.now }
     {
-        self.fastlevel
+        self.shape.fastlevel
     }
 
     /// How many of its pages are right halves, to which no downlink leads yet.
     pub fn right_halves(&self) -> u32
         ensures { result ≡ right_halves_of self.now }
     {
-        self.right_halves
+        self.shape.right_halves
     }
 
     /// How many of its leaves are half-dead.
     pub fn half_dead(&self) -> u32
         ensures { result ≡ half_dead_of self.now }
     {
-        self.half_dead
+        self.shape.half_dead
     }
 
     /// The columns of its key, at most 8.

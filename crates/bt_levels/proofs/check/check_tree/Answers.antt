@@ -1,12 +1,25 @@
-use Rattle.std.proofs.Common.{◌≡◌, ◌≤◌, ◌∙◌, List, length, subst, sym}
-use Rattle.std.specs.Prelude.{All}
+use Rattle.std.proofs.Common.{◌≡◌, ◌≤◌, ◌∙◌, List, length, refl, sym, subst}
+use Rattle.std.specs.Prelude.{All, IsSome, IfSome}
 use Rattle.key_orders.specs.declared.columns.KeySpec.{KeySpec}
 use Rattle.key_orders.specs.Types.{HasAlignment}
 use Rattle.varlena_attrs.specs.Keyed.{key_types}
+use Rattle.bt_walks.specs.Shape.{IsShapeOf}
 use Rattle.bt_levels.specs.Files.{number_of}
-use Rattle.bt_levels.specs.Index.{index_of}
+use Rattle.bt_levels.specs.Index.{index_of, tree_of}
 use Rattle.bt_levels.proofs.Keys.{aligned-keys, few-keys, index-has}
+use Rattle.bt_levels.proofs.Sounds.{holds-from}
 use Rattle.bt_levels.proofs.check.check_tree.Goals as goal
+
+pub returns-clause-holds : goal.returns-clause-holds
+returns-clause-holds g c names told =
+    let case = c.args.case.now in
+    let n = number_of c.args.at in
+    let some = subst IsSome (sym c.in-Some.is) refl in
+    let judged = c.indexes_are_judged.ensures case names n in
+    let shape = subst (λ o. IfSome o (IsShapeOf (tree_of case names n))) c.in-Some.is (c.in_ok-shape.ensures.shape names told) in
+    let keys = c.in_ok-specs.ensures ∙ index-has (λ i. i.keys) case n _ c.index_keys.ensures in
+    holds-from case names _ keys (c.requires.told names told) c.requires.belong
+    (judged.kept ((c.in_ok-shape.ensures.quiet names told).0 some)) shape
 
 pub invariant_of-result : goal.invariant_of-result
 invariant_of-result g c =

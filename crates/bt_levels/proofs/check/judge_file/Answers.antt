@@ -1,32 +1,67 @@
-use Rattle.std.proofs.Common.{List, subst, sym}
+use Rattle.std.proofs.Common.{List, length, ◌≤◌, ◌∙◌, ap, subst, sym, arith}
 use Rattle.std.specs.Prelude.{All}
-use Rattle.outside.specs.Adds.{AddsIn}
+use Rattle.std.proofs.lemmas.List.Elements.{All-nil}
+use Rattle.outside.specs.Adds.{Begins}
+use Rattle.outside.proofs.Adding.{Adds-exit}
 use Rattle.key_orders.specs.declared.columns.KeySpec.{KeySpec}
+use Rattle.key_orders.specs.declared.more.MoreSpec.{MoreSpec}
 use Rattle.key_orders.specs.Types.{HasAlignment}
-use Rattle.varlena_attrs.specs.Keyed.{key_types}
+use Rattle.varlena_attrs.specs.Keyed.{key_types, more_types}
 use Rattle.rel_files.specs.Relation.{IsRelationOf}
 use Rattle.rel_files.specs.declared.relation.Relation.{Relation}
 use Rattle.attach_files.specs.Refusals.{IsNamed, block_limit}
-use Rattle.reports.specs.Added.{report_lists}
+use Rattle.reports.specs.Added.{joined, report_lists}
 use Rattle.reports.specs.Lists.{Lists}
+use Rattle.bt_pages.specs.Broken.{AreEmpty}
 use Rattle.bt_levels.specs.Files.{number_of}
-use Rattle.bt_levels.specs.Index.{index_of}
-use Rattle.bt_levels.proofs.Keys.{aligned-keys}
+use Rattle.bt_levels.specs.Index.{index_of, tree_lists}
+use Rattle.bt_levels.proofs.Keys.{aligned-keys, few-keys}
 use Rattle.bt_levels.proofs.Seen.{lists-seen}
 use Rattle.bt_levels.proofs.check.judge_file.Goals as goal
 
-pub judge_index-requires-clause-aligned : goal.judge_index-requires-clause-aligned
-judge_index-requires-clause-aligned g c =
-    subst (λ (keys : List KeySpec). All HasAlignment (key_types keys)) (sym c.rules_of-tree.ensures.specs)
-    (aligned-keys c.args.case.now (number_of c.args.at.now) c.sound.ensures c.requires.belong.first c.requires.belong.last)
+pub judge_index-requires-clause-columns : goal.judge_index-requires-clause-columns
+judge_index-requires-clause-columns g c =
+    let n = number_of c.args.at.now in
+    let r = c.rules_of-tree.ensures in
+    let more = sym r.more in
+    record {
+      few = subst (λ (keys : List KeySpec). length keys ≤ 8) (sym r.specs) (few-keys c.args.case.now n c.sound.ensures c.requires.belong.first c.requires.belong.last);
+      few_more = subst (λ (ms : List MoreSpec). length ms ≤ 24) more (omega arith);
+      aligned = subst (λ (keys : List KeySpec). All HasAlignment (key_types keys)) (sym r.specs) (aligned-keys c.args.case.now n c.sound.ensures c.requires.belong.first c.requires.belong.last);
+      aligned_more = subst (λ (ms : List MoreSpec). All HasAlignment (more_types ms)) more (All-nil HasAlignment);
+    }
+
+pub returns-clause-quiet : goal.returns-clause-quiet
+returns-clause-quiet g c names told =
+    let case = c.args.case.now in
+    let n = number_of c.args.at.now in
+    let r = c.rules_of-tree.ensures in
+    let relation = sym r.relation in
+    let named = subst (λ (r : Relation). IsNamed (index_of case n).file case.segment_blocks r) relation c.requires.belong.named in
+    let held = subst (λ (r : Relation). IsRelationOf names (index_of case n).file case.segment_blocks block_limit r) relation (c.requires.told names told) in
+    let is = lists-seen case names n c.rules_of-tree.result r.number r.specs r.more named held in
+    let quiet = c.in_ok-shape.ensures.quiet names told in
+    (λ some. subst AreEmpty is (quiet.0 some), λ none. quiet.1 (subst AreEmpty (sym is) none))
 
 pub returns-clause-lists : goal.returns-clause-lists
 returns-clause-lists g c names told =
     let case = c.args.case.now in
     let n = number_of c.args.at.now in
-    let relation = sym c.rules_of-tree.ensures.relation in
-    subst (λ (l : Lists). AddsIn report_lists c.judge_index.result c.args.report.now c.judge_index.new.report l)
-    (lists-seen case names n c.rules_of-tree.result c.rules_of-tree.ensures.number c.rules_of-tree.ensures.specs c.rules_of-tree.ensures.more
-    (subst (λ (r : Relation). IsNamed (index_of case n).file case.segment_blocks r) relation c.requires.belong.named)
-    (subst (λ (r : Relation). IsRelationOf names (index_of case n).file case.segment_blocks block_limit r) relation (c.requires.told names told)))
-    (c.judge_index.ensures.lists names told)
+    let r = c.rules_of-tree.ensures in
+    let relation = sym r.relation in
+    let named = subst (λ (r : Relation). IsNamed (index_of case n).file case.segment_blocks r) relation c.requires.belong.named in
+    let held = subst (λ (r : Relation). IsRelationOf names (index_of case n).file case.segment_blocks block_limit r) relation (c.requires.told names told) in
+    let is = lists-seen case names n c.rules_of-tree.result r.number r.specs r.more named held in
+    c.in_ok-shape.ensures.lists names told ∙ ap (joined c.args.report.now) is
+
+pub returns-in_err-shape-clause-lists : goal.returns-in_err-shape-clause-lists
+returns-in_err-shape-clause-lists g c names told =
+    let case = c.args.case.now in
+    let n = number_of c.args.at.now in
+    let r = c.rules_of-tree.ensures in
+    let relation = sym r.relation in
+    let named = subst (λ (r : Relation). IsNamed (index_of case n).file case.segment_blocks r) relation c.requires.belong.named in
+    let held = subst (λ (r : Relation). IsRelationOf names (index_of case n).file case.segment_blocks block_limit r) relation (c.requires.told names told) in
+    let is = lists-seen case names n c.rules_of-tree.result r.number r.specs r.more named held in
+    Adds-exit report_lists c.from_residual.result _ c.args.report.now c.judge_index.new.report (tree_lists case names n) c.from_residual.ensures.1
+    (subst (λ (l : Lists). Begins report_lists c.args.report.now c.judge_index.new.report l) is (c.in_err-shape.ensures.lists names told))

@@ -1,34 +1,29 @@
 use Rattle.rel_files.specs.Blocks.{long_segment_of}
 use Rattle.attach_files.specs.Refusals.{block_limit}
+use Rattle.tree_search.proofs.Whole.{finds}
+use Rattle.tree_rules.proofs.Broken.{silent}
+use Rattle.tree_rules.proofs.Searchable.{searchable}
+use Rattle.bt_walks.specs.Trees.{KeepsPages, image_of, order_in, same_in}
 use Rattle.bt_levels.specs.Index.{index_of, tree_lists, tree_of}
-use Rattle.bt_levels.proofs.ListedLaws.{tree-certain, tree-complete, tree-doubted, tree-kept, tree-listed}
-use Rattle.bt_levels.proofs.TreeLaws.{tree-doubts, tree-sound}
+use Rattle.bt_levels.proofs.LevelLaws.{tree-doubted, tree-doubts, tree-kept, tree-listed, tree-sound}
+use Rattle.bt_levels.proofs.Sounds.{same_law}
 use Rattle.bt_levels.proofs.laws.indexes_are_judged.Goals as goal
 
-pub returns-clause-sound : goal.returns-clause-sound
+pub returns : goal.returns
 unfolding tree_lists
-returns-clause-sound c case names n = tree-sound (tree_of case names n) (long_segment_of names (index_of case n).file case.segment_blocks block_limit)
-
-pub returns-clause-doubts : goal.returns-clause-doubts
-unfolding tree_lists
-returns-clause-doubts c case names n = tree-doubts (tree_of case names n) (long_segment_of names (index_of case n).file case.segment_blocks block_limit)
-
-pub returns-clause-listed : goal.returns-clause-listed
-unfolding tree_lists
-returns-clause-listed c case names n = tree-listed (tree_of case names n) (long_segment_of names (index_of case n).file case.segment_blocks block_limit)
-
-pub returns-clause-doubted : goal.returns-clause-doubted
-unfolding tree_lists
-returns-clause-doubted c case names n = tree-doubted (tree_of case names n) (long_segment_of names (index_of case n).file case.segment_blocks block_limit)
-
-pub returns-clause-complete : goal.returns-clause-complete
-unfolding tree_lists
-returns-clause-complete c case names n = tree-complete (tree_of case names n) (long_segment_of names (index_of case n).file case.segment_blocks block_limit)
-
-pub returns-clause-certain : goal.returns-clause-certain
-unfolding tree_lists
-returns-clause-certain c case names n = tree-certain (tree_of case names n) (long_segment_of names (index_of case n).file case.segment_blocks block_limit)
-
-pub returns-clause-kept : goal.returns-clause-kept
-unfolding tree_lists
-returns-clause-kept c case names n = tree-kept (tree_of case names n) (long_segment_of names (index_of case n).file case.segment_blocks block_limit)
+returns c case names n =
+    let tree = tree_of case names n in
+    let long = long_segment_of names (index_of case n).file case.segment_blocks block_limit in
+    let same = same_law tree.specs (c.key_orders_are_total.ensures.same_key tree.specs) in
+    let local = λ (keeps : KeepsPages tree). c.kept_rules_make_a_sound_image.ensures tree.specs tree.more tree.blocks tree.block keeps in
+    record {
+      sound = tree-sound tree long same local;
+      doubts = tree-doubts tree long;
+      listed = tree-listed tree long same local;
+      doubted = tree-doubted tree long;
+      kept = λ empty.
+          let kept = tree-kept tree long same local empty in
+          let sound = local kept.0 in
+          let fit = searchable (same_in tree) (order_in tree) (image_of tree) same sound (silent (same_in tree) (order_in tree) (image_of tree) same sound kept.1) in
+          record { pages = kept.0; levels = kept.1; searches = finds (order_in tree) (image_of tree) (c.keys_are_searchable.ensures.order tree.specs) fit };
+    }
