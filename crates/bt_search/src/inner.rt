@@ -30,7 +30,7 @@ pub enum Step {
     To(u32),
     /// The page is a leaf, and is read.
     Read,
-    /// The page can't be read, as none that was judged.
+    /// The page can't be read. No page that was judged is such.
     Lost,
 }
 

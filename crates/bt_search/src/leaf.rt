@@ -52,7 +52,7 @@ pub enum OnItem {
     End,
     /// Nothing, and the spot is behind the item.
     Passed,
-    /// The item can't be read, as none that was judged.
+    /// The item can't be read, or has no such TID. No item that was judged is such.
     Lost,
 }
 

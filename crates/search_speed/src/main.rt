@@ -6,6 +6,7 @@ use bt_search::{Visits, descend};
 use case_file::read_case;
 use key_orders::{Scan, Value};
 use outside::{DiskFiles, OutSink, Sink};
+use rel_files::ReadFault;
 use reports::Report;
 use std::alloc::Global;
 use std::env;
@@ -44,12 +45,30 @@ fn tree_of(alloc: Global, files: &mut DiskFiles) -> Option<SoundTree> {
     check_tree(alloc, files, &case, at, &mut report).ok()?
 }
 
-// What is to be done: scans from keys below a number of entries on, and a descent for each of the first.
+// What is to be done: scans from keys below a number of entries on, a descent for each of the first, and
+// for each of the first three reads of pages, as a descent into a tree of three levels makes them.
 #[derive(Clone, Copy)]
 struct Task {
     entries: u32,
     scans: u32,
     descents: u32,
+    reads: u32,
+}
+
+// Reads the last page of the tree twice, and one where a leaf with this key may be.
+fn read_three(
+    files: &mut DiskFiles,
+    tree: &SoundTree,
+    page: &mut [u8; 8192],
+    leaf: u64,
+) -> Result<(), ReadFault> {
+    let blocks = tree.blocks();
+    if blocks == 0 {
+        return Ok(());
+    }
+    tree.read_block(files, blocks - 1, page)?;
+    tree.read_block(files, blocks - 1, page)?;
+    tree.read_block(files, (leaf % u64::from(blocks)) as u32, page)
 }
 
 // Makes the scans and the descents, and tells how many pages were visited.
@@ -63,6 +82,9 @@ fn visits_of(alloc: Global, files: &mut DiskFiles, tree: &SoundTree, task: Task)
         let Ok(scan) = Scan::new(alloc, tree.specs(), &low, true, &[], true) else {
             return None;
         };
+        if k < task.reads {
+            read_three(files, tree, &mut page, key / 406).ok()?;
+        }
         if k < task.descents {
             let mut visits = Visits { count: 0 };
             descend(tree, files, &scan, &mut page, &mut visits).ok()?;
@@ -72,23 +94,24 @@ fn visits_of(alloc: Global, files: &mut DiskFiles, tree: &SoundTree, task: Task)
     Some(total)
 }
 
-// The three numbers of the command line.
+// The four numbers of the command line.
 fn task_of(rt: &HostRuntime) -> Option<Task> {
-    let mut numbers = [0u32; 3];
+    let mut numbers = [0u32; 4];
     let mut k = 0usize;
     for word in env::args(rt).ok()?.skip(1) {
-        if k >= 3 {
+        if k >= 4 {
             return None;
         }
         numbers[k] = word.parse().ok()?;
         k += 1;
     }
-    let [entries, scans, descents] = numbers;
-    if k == 3 {
+    let [entries, scans, descents, reads] = numbers;
+    if k == 4 {
         Some(Task {
             entries,
             scans,
             descents,
+            reads,
         })
     } else {
         None
