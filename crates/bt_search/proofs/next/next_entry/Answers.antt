@@ -2,14 +2,16 @@ use Rattle.std.proofs.Common.{◌≡◌, ◌∙◌, List, ℕ, ap, arith, refl, 
 use Rattle.std.specs.Prelude.{Some}
 use Rattle.bt_levels.specs.Sound.{held_block, specs_of}
 use Rattle.bt_search.specs.Entries.{HasEntry, entry_on}
-use Rattle.bt_search.specs.Spots.{StandsAt}
+use Rattle.bt_search.specs.Spots.{StandsAt, rest_at}
 use Rattle.bt_search.proofs.Arriving.{left_at-most, nowhere-rest}
 use Rattle.bt_search.proofs.next.next_entry.Goals as goal
 
 pub returns-clause-next : goal.returns-clause-next
 returns-clause-next g c = λ names told.
-    let none = nowhere-rest names c.args.tree.now c.args.scan.now c.loop-spot.spot c.loop-spot-test.false in
-    (c.loop-spot.invariant.rest names told ∙ none, none)
+    let tree = c.args.tree.now in
+    let bounds = c.args.scan.now in
+    let none = nowhere-rest names tree bounds c.loop-spot.spot c.loop-spot-test.false in
+    (◌∙◌ {a = rest_at names tree bounds c.args.spot.now} (c.loop-spot.invariant.rest names told) none, none)
 
 pub arrive-requires-clause-holds : goal.arrive-requires-clause-holds
 arrive-requires-clause-holds g c = λ names told. c.requires.holds names (sym c.loop-spot.invariant.asked.same ∙ told)
