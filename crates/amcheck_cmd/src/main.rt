@@ -14,6 +14,10 @@ mod heap_tests;
 mod index;
 #[cfg(test)]
 mod index_tests;
+#[cfg(test)]
+mod level_tests;
+#[cfg(test)]
+mod level_trees;
 mod numbers;
 mod output;
 mod pages;

@@ -37,11 +37,16 @@ pub(crate) const NINE: IndexTuple<'static> = IndexTuple {
     ..FIVE
 };
 
-/// The separator 9, as a high key.
-pub(crate) const BELOW_NINE: IndexTuple<'static> = IndexTuple {
+/// The separator 7, as a high key, and the separator 9.
+pub(crate) const BELOW_SEVEN: IndexTuple<'static> = IndexTuple {
     item: 1,
     info: 0x2010,
-    ..NINE
+    ..SEVEN
+};
+
+pub(crate) const BELOW_NINE: IndexTuple<'static> = IndexTuple {
+    body: &[9, 0, 0, 0],
+    ..BELOW_SEVEN
 };
 
 /// The first downlink of an internal page, which keeps no value.
@@ -149,8 +154,27 @@ fn tree_page(page: &TreePage<'_>) -> [u8; 8192] {
     bytes
 }
 
-/// A metapage that names this root, which has this level.
-pub(crate) fn metapage(root: u8, level: u8) -> [u8; 8192] {
+/// What a metapage names: the root and the fast root, each with its level.
+#[derive(Clone, Copy)]
+pub(crate) struct Roots {
+    pub(crate) root: u8,
+    pub(crate) level: u8,
+    pub(crate) fastroot: u8,
+    pub(crate) fastlevel: u8,
+}
+
+/// This root, which has this level and is the fast root too.
+pub(crate) const fn rooted(root: u8, level: u8) -> Roots {
+    Roots {
+        root,
+        level,
+        fastroot: root,
+        fastlevel: level,
+    }
+}
+
+// A metapage that names these roots.
+fn metapage_of(roots: Roots) -> [u8; 8192] {
     let mut bytes = [0u8; 8192];
     put_fields(
         &mut bytes,
@@ -162,14 +186,32 @@ pub(crate) fn metapage(root: u8, level: u8) -> [u8; 8192] {
             (24, 0x3162),
             (26, 5),
             (28, 4),
-            (32, u16::from(root)),
-            (36, u16::from(level)),
-            (40, u16::from(root)),
-            (44, u16::from(level)),
+            (32, u16::from(roots.root)),
+            (36, u16::from(roots.level)),
+            (40, u16::from(roots.fastroot)),
+            (44, u16::from(roots.fastlevel)),
             (8188, 8),
         ],
     );
     bytes
+}
+
+/// A metapage that names this root, which has this level.
+pub(crate) fn metapage(root: u8, level: u8) -> [u8; 8192] {
+    metapage_of(rooted(root, level))
+}
+
+/// The file of an index: a metapage that names these roots, and the pages.
+pub(crate) fn rooted_file(
+    alloc: Global,
+    roots: Roots,
+    pages: &[TreePage<'_>],
+) -> Result<Vec<u8>, Fail> {
+    let mut bytes = Vec::from_slice(alloc, &metapage_of(roots))?;
+    for page in pages {
+        bytes.extend_from_slice(&tree_page(page))?;
+    }
+    Ok(bytes)
 }
 
 /// The file of an index: a metapage that names the last of these pages as the root, and the pages.
@@ -178,11 +220,7 @@ pub(crate) fn index_file(alloc: Global, pages: &[TreePage<'_>]) -> Result<Vec<u8
         Some(root) => root.level,
         None => 0,
     };
-    let mut bytes = Vec::from_slice(alloc, &metapage(pages.len().min(255) as u8, level))?;
-    for page in pages {
-        bytes.extend_from_slice(&tree_page(page))?;
-    }
-    Ok(bytes)
+    rooted_file(alloc, rooted(pages.len().min(255) as u8, level), pages)
 }
 
 /// Writes bytes at a place of a block, as far as they fit into the file.
