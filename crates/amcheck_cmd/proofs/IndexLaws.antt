@@ -1,14 +1,11 @@
 -- The findings of a case and of one of its indexes are the rules that are broken in their files.
-use Rattle.std.proofs.Common.{◌≡◌, ℕ, List, [], ◌++◌, refl, ap, sym, subst, ◌∙◌}
+use Rattle.std.proofs.Common.{◌≡◌, ℕ, List, [], ◌++◌, ◌⊎◌, inl, inr, refl, ap, sym, subst, ◌∙◌}
 use Rattle.std.specs.Prelude.{Option, Some, None, Ok}
 use Rattle.std.specs.List.{All}
 use Rattle.std.proofs.lemmas.List.Elements.{All-append, All-weaker, Contains-append_left, Contains-append_right}
 use Rattle.outside.specs.Outside.{Names}
 use Rattle.page_layout.specs.declared.rules.Rule.{Rule}
-use Rattle.rel_files.specs.Blocks.{long_segment_of}
 use Rattle.case_file.specs.Record.{CaseRecord, index_named}
-use Rattle.attach_files.specs.Refusals.{block_limit}
-use Rattle.tree_image.specs.Pages.{KeepsTreeRules}
 use Rattle.reports.specs.Added.{IsListed, found, in_doubt, joined}
 use Rattle.reports.specs.Lists.{Lists}
 use Rattle.reports.specs.declared.places.Place.{Place}
@@ -17,36 +14,15 @@ use Rattle.reports.proofs.Parts.{first_is_empty, second_is_empty}
 use Rattle.heap_files.specs.Broken.{Breaks as BreaksTable, Doubts as DoubtsTable}
 use Rattle.heap_files.specs.Found.{case_found}
 use Rattle.heap_files.proofs.TrueLaws.{case_is_judged, case_is_true}
-use Rattle.bt_pages.specs.Broken.{AreEmpty, IsDoubtedAt, doubted, IsFoundAt, found as found_there}
-use Rattle.bt_levels.specs.Broken.{Breaks as BreaksTree, Doubts as DoubtsTree}
-use Rattle.bt_levels.specs.Index.{index_of, tree_lists, tree_of}
-use Rattle.bt_levels.proofs.ListedLaws.{tree-doubted, tree-kept, tree-listed}
-use Rattle.bt_levels.proofs.TreeLaws.{tree-doubts, tree-sound}
+use Rattle.bt_pages.specs.Broken.{IsDoubtedAt, doubted, IsFoundAt, found as found_there}
+use Rattle.bt_levels.specs.Broken.{Breaks as BreaksTree, Doubts as DoubtsTree, IsBehind, IsJudged}
+use Rattle.bt_levels.specs.Index.{tree_lists}
 use Rattle.amcheck_cmd.specs.Index.{BreaksIndex, DoubtsIndex, HasIndex, HasTrueIndex, in_table, in_tree, index_found, index_judged, index_refusal, named_judged, numbered_judged}
 use Rattle.amcheck_cmd.proofs.CaseLaws.{HasCase, one_case, the_case, unless_is}
 
--- What the lists of an index have to do with its rules
-
-module _ (case : CaseRecord) (names : Names) (n : ℕ) where
-  sound_tree : All (λ f. BreaksTree case names n f.rule f.place) (tree_lists case names n).findings
-  unfolding tree_lists
-  sound_tree = tree-sound (tree_of case names n) (long_segment_of names (index_of case n).file case.segment_blocks block_limit)
-
-  doubts_tree : All (λ u. DoubtsTree case names n u.reason u.place) (tree_lists case names n).unjudged
-  unfolding tree_lists
-  doubts_tree = tree-doubts (tree_of case names n) (long_segment_of names (index_of case n).file case.segment_blocks block_limit)
-
-  found_tree : (rule : Rule) (place : Place) → BreaksTree case names n rule place → IsFoundAt (tree_lists case names n) place
-  unfolding tree_lists
-  found_tree = tree-listed (tree_of case names n) (long_segment_of names (index_of case n).file case.segment_blocks block_limit)
-
-  doubted_tree : (reason : Reason) (place : Place) → DoubtsTree case names n reason place → IsDoubtedAt (tree_lists case names n) place
-  unfolding tree_lists
-  doubted_tree = tree-doubted (tree_of case names n) (long_segment_of names (index_of case n).file case.segment_blocks block_limit)
-
-  kept_tree : AreEmpty (tree_lists case names n) → let tree = tree_of case names n in KeepsTreeRules tree.specs tree.more tree.blocks tree.block
-  unfolding tree_lists
-  kept_tree = tree-kept (tree_of case names n) (long_segment_of names (index_of case n).file case.segment_blocks block_limit)
+-- the lists of each index of a case tell what is broken in it
+abbrev pub AreJudged : Type 0
+AreJudged = (case : CaseRecord) (names : Names) (n : ℕ) → IsJudged case names n
 
 -- What is listed in a part is listed in the whole
 
@@ -59,6 +35,18 @@ found_second a b place (found_there rule has) = found rule (Contains-append_righ
 
 doubted_second : (a b : Lists) (place : Place) → IsDoubtedAt b place → IsListed (joined a b) place
 doubted_second a b place (doubted reason has) = in_doubt reason (Contains-append_right a.unjudged b.unjudged _ has)
+
+behind_second : (a b : Lists) (rule : Rule) → IsBehind b rule → IsBehind (joined a b) rule
+behind_second a b rule behind = record {
+  own = behind.own;
+  first = behind.first;
+  level = behind.level;
+  found = Contains-append_right a.findings b.findings behind.first behind.found;
+}
+
+tree_second : (a b : Lists) (rule : Rule) (place : Place) → IsFoundAt b place ⊎ IsBehind b rule → IsListed (joined a b) place ⊎ IsBehind (joined a b) rule
+tree_second a b rule place (inl there) = inl (found_second a b place there)
+tree_second a b rule place (inr behind) = inr (behind_second a b rule behind)
 
 -- The index of a report
 
@@ -83,7 +71,7 @@ one_index P file name names a b holds =
     let number = one_number (index_named b.case.indexes name) a.number b.number (ap (λ (c : CaseRecord). index_named c.indexes name) (sym same) ∙ a.named) b.named in
     subst (λ (n : ℕ). P b.case n) number (subst (λ (c : CaseRecord). P c a.number) same holds)
 
-module _ (file name : List ℕ) (names : Names) (lists : Lists) (e : index_judged file name names ≡ Ok lists) where
+module _ (judged : AreJudged) (file name : List ℕ) (names : Names) (lists : Lists) (e : index_judged file name names ≡ Ok lists) where
   of_case : HasCase file names (named_judged name names) lists
   of_case = the_case file names (named_judged name names) lists e
 
@@ -101,7 +89,7 @@ module _ (file name : List ℕ) (names : Names) (lists : Lists) (e : index_judge
       (All-weaker (λ f. BreaksTable has.case names f.rule f.place) (λ f. BreaksIndex file name names f.rule f.place)
       (λ f broken. in_table has broken) (case_found has.case names).findings (case_is_judged has.case names).sound)
       (All-weaker (λ f. BreaksTree has.case names has.number f.rule f.place) (λ f. BreaksIndex file name names f.rule f.place)
-      (λ f broken. in_tree has broken) (tree_lists has.case names has.number).findings (sound_tree has.case names has.number)))
+      (λ f broken. in_tree has broken) (tree_lists has.case names has.number).findings (judged has.case names has.number).sound))
 
   pub index_doubts : All (λ u. DoubtsIndex file name names u.reason u.place) lists.unjudged
   index_doubts =
@@ -110,19 +98,20 @@ module _ (file name : List ℕ) (names : Names) (lists : Lists) (e : index_judge
       (All-weaker (λ u. DoubtsTable has.case names u.reason u.place) (λ u. DoubtsIndex file name names u.reason u.place)
       (λ u doubt. in_table has doubt) (case_found has.case names).unjudged (case_is_judged has.case names).doubts)
       (All-weaker (λ u. DoubtsTree has.case names has.number u.reason u.place) (λ u. DoubtsIndex file name names u.reason u.place)
-      (λ u doubt. in_tree has doubt) (tree_lists has.case names has.number).unjudged (doubts_tree has.case names has.number)))
+      (λ u doubt. in_tree has doubt) (tree_lists has.case names has.number).unjudged (judged has.case names has.number).doubts))
 
   -- and each place where something is stands in it
   in_report : (place : Place) → IsListed (index_found has.case names has.number) place → IsListed lists place
   in_report place listed = subst (λ (l : Lists). IsListed l place) of_index.shown listed
 
-  pub index_listed : (rule : Rule) (place : Place) → BreaksIndex file name names rule place → IsListed lists place
+  pub index_listed : (rule : Rule) (place : Place) → BreaksIndex file name names rule place → IsListed lists place ⊎ IsBehind lists rule
   index_listed rule place (in_table other broken) =
-      in_report place (listed_first (case_found has.case names) (tree_lists has.case names has.number) place
-      ((case_is_judged has.case names).listed rule place (one_index (λ c n. BreaksTable c names rule place) file name names other has broken)))
+      inl (in_report place (listed_first (case_found has.case names) (tree_lists has.case names has.number) place
+      ((case_is_judged has.case names).listed rule place (one_index (λ c n. BreaksTable c names rule place) file name names other has broken))))
   index_listed rule place (in_tree other broken) =
-      in_report place (found_second (case_found has.case names) (tree_lists has.case names has.number) place
-      (found_tree has.case names has.number rule place (one_index (λ c n. BreaksTree c names n rule place) file name names other has broken)))
+      subst (λ (l : Lists). IsListed l place ⊎ IsBehind l rule) of_index.shown
+      (tree_second (case_found has.case names) (tree_lists has.case names has.number) rule place
+      ((judged has.case names has.number).listed rule place (one_index (λ c n. BreaksTree c names n rule place) file name names other has broken)))
 
   pub index_doubt_listed : (reason : Reason) (place : Place) → DoubtsIndex file name names reason place → IsListed lists place
   index_doubt_listed reason place (in_table other doubt) =
@@ -130,7 +119,7 @@ module _ (file name : List ℕ) (names : Names) (lists : Lists) (e : index_judge
       ((case_is_judged has.case names).doubts_listed reason place (one_index (λ c n. DoubtsTable c names reason place) file name names other has doubt)))
   index_doubt_listed reason place (in_tree other doubt) =
       in_report place (doubted_second (case_found has.case names) (tree_lists has.case names has.number) place
-      (doubted_tree has.case names has.number reason place (one_index (λ c n. DoubtsTree c names n reason place) file name names other has doubt)))
+      ((judged has.case names has.number).doubted reason place (one_index (λ c n. DoubtsTree c names n reason place) file name names other has doubt)))
 
   -- a report without findings, and with nothing in doubt, tells what is true of the heap and of the index
   pub index_true : lists.findings ≡ [] → lists.unjudged ≡ [] → HasTrueIndex file name names
@@ -142,5 +131,5 @@ module _ (file name : List ℕ) (names : Names) (lists : Lists) (e : index_judge
       record {
         has = has;
         heap = case_is_true has.case names (record { findings = first_is_empty _ _ findings; doubts = first_is_empty _ _ doubts });
-        tree = kept_tree has.case names has.number (record { findings = second_is_empty _ _ findings; unjudged = second_is_empty _ _ doubts });
+        tree = (judged has.case names has.number).kept (record { findings = second_is_empty _ _ findings; unjudged = second_is_empty _ _ doubts });
       }

@@ -4,6 +4,7 @@ use Rattle.std.specs.Prelude.{◌≡◌, ℕ, ◌⊎◌, List, All, Option, Some
 use Rattle.outside.specs.Outside.{Names}
 use Rattle.outside.specs.declared.files.Part.TheVariants.{Segment}
 use Rattle.page_layout.specs.declared.rules.Rule.{Rule}
+use Rattle.bt_levels.specs.Broken.{IsBehind}
 use Rattle.reports.specs.Added.{IsListed}
 use Rattle.reports.specs.Lists.{Lists}
 use Rattle.reports.specs.declared.places.Place.{Place}
@@ -64,9 +65,10 @@ pub record IsSound (check : Check) (names : Names) (lists : Lists) : Type 0 wher
   pub findings : All (λ f. IsBroken check names f.rule f.place) lists.findings
   pub unjudged : All (λ u. IsInDoubt check names u.reason u.place) lists.unjudged
 
--- each place where a rule is broken, or of which something is in doubt, stands in the report
+-- each place where a rule is broken, or of which something is in doubt, stands in the report; of the rules on levels,
+-- the first that is broken
 pub record IsComplete (check : Check) (names : Names) (lists : Lists) : Type 0 where
-  pub broken : (rule : Rule) (place : Place) → IsBroken check names rule place → IsListed lists place
+  pub broken : (rule : Rule) (place : Place) → IsBroken check names rule place → IsListed lists place ⊎ IsBehind lists rule
   pub in_doubt : (reason : Reason) (place : Place) → IsInDoubt check names reason place → IsListed lists place
 
 -- what a report is worth, and the answer of the run that made it
@@ -75,7 +77,7 @@ pub record IsWorth (check : Check) (names : Names) (lists : Lists) (old new : Op
   pub written : Meets (reported lists) old new code
   -- it finds only what is broken or in doubt
   pub sound : IsSound check names lists
-  -- and names each place where something is
+  -- and names each place where something is, or the first of the rules on levels
   pub complete : IsComplete check names lists
   -- files that break no rule, and of which all can be judged, are clean, unless the run gave up
   pub clean : BreaksNothing check names → DoubtsNothing check names → (code ≡ 0) ⊎ GaveUp code

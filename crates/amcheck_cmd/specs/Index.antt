@@ -5,7 +5,6 @@ use Rattle.outside.specs.Outside.{Names}
 use Rattle.page_layout.specs.declared.rules.Rule.{Rule}
 use Rattle.case_file.specs.Record.{CaseRecord, index_named}
 use Rattle.case_file.specs.declared.fault.CaseRule.TheVariants.{C5}
-use Rattle.tree_image.specs.Pages.{KeepsTreeRules}
 use Rattle.reports.specs.Added.{joined}
 use Rattle.reports.specs.Lists.{Lists}
 use Rattle.reports.specs.declared.fault.CheckFault.{CheckFault}
@@ -15,7 +14,7 @@ use Rattle.heap_files.specs.Broken.{Breaks as BreaksTable, Doubts as DoubtsTable
 use Rattle.heap_files.specs.Files.{refusal_of as table_refusal}
 use Rattle.heap_files.specs.Found.{case_found}
 use Rattle.heap_files.specs.Truth.{IsTrueHeap}
-use Rattle.bt_levels.specs.Broken.{Breaks as BreaksTree, Doubts as DoubtsTree}
+use Rattle.bt_levels.specs.Broken.{Breaks as BreaksTree, Doubts as DoubtsTree, IsTrueTree}
 use Rattle.bt_levels.specs.Files.{refusal_of as tree_refusal}
 use Rattle.bt_levels.specs.Index.{tree_lists, tree_of}
 use Rattle.amcheck_cmd.specs.Cases.{case_in, of_read, unless_refused}
@@ -66,9 +65,9 @@ pub data DoubtsIndex (file name : List ℕ) (names : Names) (reason : Reason) (p
   in_tree : (has : HasIndex file name names) → DoubtsTree has.case names has.number reason place
       → DoubtsIndex file name names reason place
 
--- what is said of a clean heap is true of the case's heap, and the index's blocks keep all that its image is built on
+-- what is said of a clean heap is true of the case's heap, and the index breaks no rule on its pages or on its levels: each
+-- search of it finds what it should
 pub record HasTrueIndex (file name : List ℕ) (names : Names) : Type 0 where
   pub has : HasIndex file name names
   pub heap : IsTrueHeap has.case names
-  pub tree :
-      let tree = tree_of has.case names has.number in KeepsTreeRules tree.specs tree.more tree.blocks tree.block
+  pub tree : IsTrueTree (tree_of has.case names has.number)

@@ -15,6 +15,7 @@ use crate::show::show_output;
 use crate::status::{Ending, Status};
 use crate::words::{Command, command_of};
 use crate::write::write_text;
+use bt_levels::indexes_are_judged;
 use outside::{Files, Sink};
 use std::alloc::Global;
 
@@ -65,6 +66,7 @@ pub fn run<F: Files, S: Sink>(
     ensures write_fault { result.code ≡ 8 → Rose (S.faults sink.old) (S.faults sink.new) }
     ensures codes { result.code ≤ 10 }
 {
+    indexes_are_judged();
     let Some(command) = command_of(words) else {
         return write_text(sink, b"refused usage\n", Ending::Usage);
     };

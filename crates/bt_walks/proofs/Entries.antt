@@ -1,5 +1,5 @@
 -- There are no more levels than blocks.
-use Rattle.std.proofs.Common.{◌≡◌, ◌≢◌, ℕ, zero, suc, ◌+◌, ◌-◌, ◌<◌, ◌≤◌, inl, inr, false, List, [], ◌∷◌, length, refl, sym, ap, subst, ◌∙◌, arith}
+use Rattle.std.proofs.Common.{◌≡◌, ◌≢◌, ℕ, zero, suc, ◌+◌, ◌-◌, ◌<◌, ◌≤◌, inl, inr, false, List, [], ◌∷◌, length, refl, ap, arith}
 use Rattle.tree_search.specs.Order.{Order}
 use Rattle.tree_search.specs.Searchable.{IsInUse}
 use Rattle.tree_search.specs.Tree.{Index}

@@ -1,26 +1,25 @@
 -- What is in hand of the downlinks to a level.
 use Rattle.std.proofs.Common.{◌≡◌, ◌≢◌, ℕ, suc, ◌+◌, ◌-◌, ◌<◌, ◌≤◌, ◌⊎◌, inl, inr, Bool, true, false, List, [], ◌∷◌, drop, refl, sym, ap, subst, ◌∙◌, arith}
-use Rattle.std.specs.Prelude.{Option, Some, None, not, ◌==◌, slice_get, option_map, cond}
+use Rattle.std.specs.Prelude.{Some, None, not, ◌==◌, slice_get, option_map, cond}
 use Rattle.std.proofs.lemmas.Bool.{both_ways, cases_Bool, eq-eqb, eqb-true}
 use Rattle.page_layout.specs.Page.{count_of}
 use Rattle.tree_search.specs.Levels.{page_downlinks}
-use Rattle.tree_rules.specs.Cursor.{Cursor, turned_cursor}
+use Rattle.tree_rules.specs.Cursor.{turned_cursor}
 use Rattle.tree_rules.specs.LevelWalk.{is_all_met}
 use Rattle.tree_rules.specs.Meeting.{next_separator}
 use Rattle.key_orders.specs.declared.columns.KeySpec.{KeySpec}
 use Rattle.key_orders.specs.declared.more.MoreSpec.{MoreSpec}
 use Rattle.bt_meta.specs.Flags.{is_half_dead, is_leaf}
 use Rattle.bt_meta.specs.Pages.{opaque_of}
-use Rattle.tree_image.specs.Image.{downlink_in, first_data, item_at, page_image, separator_in}
+use Rattle.tree_image.specs.Image.{downlink_in, first_data, item_at, page_image}
 use Rattle.tree_image.specs.Pages.{KeepsPage}
-use Rattle.tree_image.proofs.PageFields.{first_cases, half_dead_leaf, has_item, leaf_below}
+use Rattle.tree_image.proofs.PageFields.{half_dead_leaf, has_item, leaf_below}
 use Rattle.bt_pages.specs.Trees.{Tree}
 use Rattle.bt_walks.specs.declared.downlinks.Downlinks.{Downlinks}
 use Rattle.bt_walks.specs.declared.downlinks.Hand.{Hand}
 use Rattle.bt_walks.specs.declared.downlinks.Hand.TheVariants.{Nothing, Root, Item}
 use Rattle.bt_walks.specs.Bounds.{Bound}
 use Rattle.bt_walks.specs.Downlinks.{HasAdvanced, IsInner, IsSoundHand, Reads, TreeDownlink, cursor_of, downlinks_from, hand_after, hand_bound, hand_downlinks, in_hand, is_held, is_settled, settled_by}
-use Rattle.bt_walks.specs.Pages.{HasPlainItems}
 use Rattle.bt_walks.specs.Reading.{IsOfLevel, IsReading}
 use Rattle.bt_walks.specs.Trees.{KeepsPages, image_of}
 use Rattle.bt_walks.proofs.Pages.{Next, hand_end, hand_next}

@@ -1,16 +1,15 @@
 -- What is found on one level.
-use Rattle.std.proofs.Common.{◌≡◌, ◌≢◌, ℕ, suc, ◌-◌, Bool, true, false, List, [], ◌∷◌, refl, sym, ap, subst, ◌∙◌, arith}
-use Rattle.std.specs.Prelude.{Option, Some, None, not, ◌==◌, fold, option_map, slice_get, cond}
+use Rattle.std.proofs.Common.{◌≡◌, ℕ, suc, Bool, true, false, List, [], ◌∷◌, refl, sym, ap, subst, ◌∙◌, arith}
+use Rattle.std.specs.Prelude.{Option, Some, None, not, ◌==◌, fold, option_map, slice_get}
 use Rattle.std.proofs.lemmas.Bool.{cond-false, cond-true}
 use Rattle.std.proofs.lemmas.List.Elements.{recursion_from_All}
 use Rattle.page_layout.specs.declared.rules.Rule.TheVariants.{L2}
 use Rattle.tree_search.specs.Levels.{entry_page}
 use Rattle.tree_search.specs.Searchable.{IsInUse}
-use Rattle.tree_search.specs.Tree.{linked_from}
 use Rattle.tree_search.proofs.Lists.{Each, Each-map}
 use Rattle.tree_rules.specs.Cursor.{downlinks_left, with_dead}
 use Rattle.tree_rules.specs.LevelWalk.{is_all_met, level_verdict, level_walk, walk_start, walk_step}
-use Rattle.tree_rules.specs.Links.{IsOpenChain, first_page, to_left, to_right, walked_chain, walks_to}
+use Rattle.tree_rules.specs.Links.{IsOpenChain, first_page, to_left, walked_chain, walks_to}
 use Rattle.tree_rules.specs.Meeting.{rows_met}
 use Rattle.tree_rules.specs.Questions.{Finding}
 use Rattle.tree_rules.specs.Sound.{HasSoundPages}
@@ -25,7 +24,7 @@ use Rattle.bt_walks.specs.Downlinks.{TreeDownlink, in_hand, is_held}
 use Rattle.bt_walks.specs.Reading.{IsOfLevel, IsReading}
 use Rattle.bt_walks.specs.Sets.{is_in}
 use Rattle.bt_walks.specs.Trees.{image_of, order_in, same_in}
-use Rattle.bt_walks.specs.Walked.{BeginsChain, HasWalked, IsFirstPage, IsLevelJudged, IsLevelPassed, StandsBefore, chain_from}
+use Rattle.bt_walks.specs.Walked.{BeginsChain, HasWalked, IsFirstPage, IsLevelJudged, StandsBefore, chain_from}
 use Rattle.bt_walks.proofs.Hands.{all_met, in_front}
 
 -- the first of the downlinks leads to the entry page

@@ -1,8 +1,8 @@
 -- What a page's items say of its image.
-use Rattle.std.proofs.Common.{◌≡◌, ◌≢◌, ℕ, zero, suc, ◌+◌, ◌-◌, ◌<◌, ◌≤◌, inl, inr, Bool, true, false, List, [], ◌∷◌, ◌++◌, length, drop, map, refl, sym, ap, subst, ◌∙◌, arith}
-use Rattle.std.specs.Prelude.{Option, Some, None, Ok, Err, IsSome, not, nat_lt, ◌==◌, ◌&&◌, ◌||◌, slice_get, cond}
+use Rattle.std.proofs.Common.{◌≡◌, ◌≢◌, ℕ, suc, ◌+◌, ◌-◌, ◌<◌, ◌≤◌, inl, inr, Bool, true, false, List, [], ◌∷◌, ◌++◌, length, drop, map, refl, sym, ap, subst, ◌∙◌, arith}
+use Rattle.std.specs.Prelude.{Option, Some, None, Ok, Err, nat_lt, ◌==◌, slice_get, cond}
 use Rattle.std.specs.List.{flat_map}
-use Rattle.std.proofs.lemmas.Bool.{and_cases, and_from, and_left, and_right, both_ways, cases_Bool, cases_eq, cases_lt, cond-false, cond-true, eq-eqb, eqb-true, le-ltb, lt-ltb, ne_eqb, not-false, not_from_false, or_parts}
+use Rattle.std.proofs.lemmas.Bool.{and_from, and_left, both_ways, cases_Bool, cases_eq, cond-false, cond-true, eq-eqb, eqb-true, lt-ltb, ne_eqb, not-false, not_from_false, or_parts}
 use Rattle.page_layout.specs.declared.page.LinePtr.{LinePtr}
 use Rattle.page_layout.specs.Page.{count_of, header_of, item_of, piece_of, upper_of}
 use Rattle.tree_search.specs.Keys.{Entry, Separator, as_separator}
@@ -23,7 +23,7 @@ use Rattle.bt_tuples.specs.declared.items.Spot3.{Spot3}
 use Rattle.bt_tuples.specs.declared.items.Spot3.TheVariants as spot
 use Rattle.bt_tuples.specs.Items.{Item, ItemOutcome, Pivot, Plain, Posting, is_dead, item_outcome, meaning_by, meaning_of, values_or_none}
 use Rattle.bt_tuples.specs.Keys.{first_key}
-use Rattle.bt_tuples.specs.Rules.{KeepsItemRules, breaks_form, has_packed, includes_some, is_pivot, tuple_of}
+use Rattle.bt_tuples.specs.Rules.{breaks_form, includes_some, is_pivot, tuple_of}
 use Rattle.bt_tuples.specs.Tuples.{values_in}
 use Rattle.bt_tuples.proofs.Outcomes.{kept_means, read_means}
 use Rattle.tree_image.specs.Image.{child_in, data_items, downlink_in, first_data, has_high_key, item_at, keys_in, numbers_from, page_image, page_keys, separator_in, spot_of}
@@ -31,7 +31,7 @@ use Rattle.tree_image.specs.Pages.{IsDataItem, IsPlainItem, breaks_items}
 use Rattle.tree_image.proofs.PageFields.{first_cases, leaf_item_good, leaf_spot, numbers_none}
 use Rattle.tree_image.proofs.Rises.{IsGood}
 use Rattle.bt_walks.specs.Bounds.{Bound}
-use Rattle.bt_walks.specs.Downlinks.{IsInner, TreeDownlink, downlinks_from}
+use Rattle.bt_walks.specs.Downlinks.{downlinks_from}
 use Rattle.bt_walks.specs.Pages.{HasPlainItems}
 use Rattle.bt_walks.proofs.Items.{downlinks_end, downlinks_first, downlinks_later, no_second, second_is, single_is}
 

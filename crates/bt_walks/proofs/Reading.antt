@@ -2,7 +2,6 @@
 use Rattle.std.proofs.Common.{◌≡◌, ◌≢◌, ℕ, zero, suc, ◌≤◌, Bool, true, false, cond, List, [], ◌∷◌, ◌++◌, refl, sym, ap, ◌∙◌, subst, arith}
 use Rattle.std.specs.Prelude.{Option}
 use Rattle.tree_search.specs.Levels.{Downlink, page_downlinks}
-use Rattle.tree_search.specs.Searchable.{IsInUse}
 use Rattle.tree_search.specs.Tree.{Index, linked_from}
 use Rattle.tree_search.proofs.Lists.{Each}
 use Rattle.tree_rules.specs.Cursor.{Cursor, downlinks_along, downlinks_left, turned_cursor}

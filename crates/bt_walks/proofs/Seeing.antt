@@ -1,13 +1,11 @@
 -- What is seen of a page is what tree_rules asks of it.
 use Rattle.std.proofs.Common.{◌≡◌, ℕ, suc, inl, inr, Bool, true, false, List, [], ◌∷◌, refl, sym, ap, subst, ◌∙◌}
 use Rattle.std.specs.Prelude.{Option, Some, None, not, ◌==◌, ◌&&◌, cond, slice_get, option_map}
-use Rattle.std.proofs.lemmas.Bool.{and_cases, both_ways, cases_Bool}
-use Rattle.tree_search.specs.Levels.{Role, Dead, Linked, Right_half, Neither, is_live, is_single, role_of, row}
-use Rattle.tree_search.specs.Tree.{Page}
+use Rattle.std.proofs.lemmas.Bool.{both_ways, cases_Bool}
+use Rattle.tree_search.specs.Levels.{Dead, Linked, Right_half, Neither, is_live, is_single}
 use Rattle.tree_rules.specs.Meeting.{is_next, next_separator}
 use Rattle.tree_rules.specs.Tests.{is_linked, same_bound}
 use Rattle.level_walk.specs.declared.level.LevelWalk.{LevelWalk}
-use Rattle.level_walk.specs.declared.level.PageSeen.{PageSeen}
 use Rattle.level_walk.specs.declared.roles.PageMarks.{PageMarks}
 use Rattle.level_walk.specs.declared.roles.PageRole.{PageRole}
 use Rattle.level_walk.specs.Roles.{marked_role, role_named}

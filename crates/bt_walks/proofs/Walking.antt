@@ -3,9 +3,8 @@ use Rattle.std.proofs.Common.{◌≡◌, ◌≢◌, ℕ, suc, ◌+◌, ◌-◌, 
 use Rattle.std.specs.Prelude.{None, ◌==◌, ◌&&◌, ◌||◌, fold}
 use Rattle.std.specs.List.{list_any}
 use Rattle.std.proofs.lemmas.Bool.{cond-true, ne_eqb}
-use Rattle.tree_search.specs.Levels.{Role, Row, is_live, lower_after, role_of, row, row_page, row_role}
+use Rattle.tree_search.specs.Levels.{Role, Row, lower_after, row, row_page, row_role}
 use Rattle.tree_search.specs.Tree.{linked_from}
-use Rattle.tree_search.proofs.Lists.{Each}
 use Rattle.tree_rules.specs.Cursor.{with_dead}
 use Rattle.tree_rules.specs.LevelWalk.{walk_start, walk_step}
 use Rattle.tree_rules.specs.Links.{to_right}
@@ -20,7 +19,6 @@ use Rattle.level_walk.specs.Shows.{Carries, Sees}
 use Rattle.level_walk.proofs.Carried.{start, step}
 use Rattle.bt_pages.specs.Trees.{Tree}
 use Rattle.bt_walks.specs.declared.levels.Levels.{Levels}
-use Rattle.bt_walks.specs.Bounds.{Bound}
 use Rattle.bt_walks.specs.Downlinks.{IsSettled, Reads, TreeDownlink, cursor_of}
 use Rattle.bt_walks.specs.Reading.{IsOfLevel}
 use Rattle.bt_walks.specs.Sets.{is_in}

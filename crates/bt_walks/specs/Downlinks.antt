@@ -1,6 +1,6 @@
 -- The downlinks to a level, read one after the other along the level above: what is in hand of them, and the cursor of
 -- tree_rules that this is.
-use Rattle.std.specs.Prelude.{◌≡◌, ◌≤◌, ◌-◌, ◌==◌, ℕ, Bool, true, false, List, [], ◌∷◌, Option, None, drop, if◌then◌else◌}
+use Rattle.std.specs.Prelude.{◌≡◌, ◌≤◌, ◌-◌, ◌==◌, ℕ, Bool, true, false, List, [], ◌∷◌, None, drop, if◌then◌else◌}
 use Rattle.page_layout.specs.Page.{count_of, page_rule_of}
 use Rattle.page_layout.specs.declared.page.PageKind.TheVariants.{Tree as tree_page}
 use Rattle.tree_search.specs.Keys.{Separator}

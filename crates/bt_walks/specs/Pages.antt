@@ -11,7 +11,7 @@ use Rattle.key_orders.specs.declared.more.MoreSpec.{MoreSpec}
 use Rattle.key_orders.specs.declared.Tid.{Tid}
 use Rattle.bt_meta.specs.Flags.{is_half_dead}
 use Rattle.bt_meta.specs.Pages.{opaque_of}
-use Rattle.tree_image.specs.Image.{TreePage, page_image}
+use Rattle.tree_image.specs.Image.{TreePage}
 use Rattle.tree_image.specs.Pages.{IsPlainItem, breaks_items}
 
 -- each item of a page can be read, and there is one where there has to be

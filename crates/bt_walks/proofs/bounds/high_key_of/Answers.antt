@@ -1,15 +1,9 @@
-use Rattle.std.proofs.Common.{◌≡◌, ℕ, ◌+◌, ◌≤◌, Bool, true, false, ap, sym, subst, ◌∙◌, arith}
-use Rattle.std.specs.Prelude.{not, Some}
-use Rattle.std.specs.Ordering.{is_eq, is_le, is_lt}
+use Rattle.std.proofs.Common.{◌≡◌, ◌≤◌, true, ap, sym, ◌∙◌, arith}
+use Rattle.std.specs.Prelude.{Some}
 use Rattle.page_layout.specs.Page.{count_of}
 use Rattle.page_layout.specs.View.{page_bytes}
-use Rattle.tree_search.specs.Keys.{compare_keys}
-use Rattle.tree_rules.specs.Tests.{is_low_entry, is_low_separator}
-use Rattle.key_orders.specs.Keys.{columns_of, tid_order}
-use Rattle.key_orders.specs.Scans.{order_of}
-use Rattle.key_orders.specs.Separators.{separator_of}
 use Rattle.bt_tuples.specs.Keys.{first_key}
-use Rattle.tree_image.specs.Image.{first_data, has_high_key, item_at}
+use Rattle.tree_image.specs.Image.{has_high_key}
 use Rattle.bt_walks.proofs.Pages.{high_before, high_none, high_some, high_spot, item_means, must_read, pivot_key, some_high, spot_high}
 use Rattle.bt_walks.proofs.bounds.high_key_of.Goals.{then-not-has_high_key-via-then-not-has_high_key, then-not-has_high_key-via-else-not-has_high_key+then-item_count-eq0}
 use Rattle.bt_walks.proofs.bounds.high_key_of.Goals as goal

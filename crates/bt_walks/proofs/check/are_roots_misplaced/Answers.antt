@@ -1,4 +1,4 @@
-use Rattle.std.proofs.Common.{◌≡◌, sym, ◌∙◌}
+use Rattle.std.proofs.Common.{sym, ◌∙◌}
 use Rattle.bt_pages.specs.Trees.{tree_seen}
 use Rattle.bt_walks.proofs.Roots.{by_fast, by_levels, by_root}
 use Rattle.bt_walks.proofs.check.are_roots_misplaced.Goals as goal

@@ -1,10 +1,8 @@
-use Rattle.std.proofs.Common.{◌≡◌, ◌≢◌, ℕ, suc, ◌+◌, ◌-◌, ◌≤◌, ◌<◌, Bool, true, false, ap, sym, subst, ◌∙◌, arith}
+use Rattle.std.proofs.Common.{◌≡◌, true, ap, sym, ◌∙◌}
 use Rattle.std.specs.Prelude.{Some}
-use Rattle.page_layout.specs.Page.{count_of}
 use Rattle.page_layout.specs.View.{page_bytes}
 use Rattle.std.proofs.lemmas.Bool.{both_ways}
 use Rattle.page_layout.specs.Items.{is_misplaced_tree_item}
-use Rattle.page_layout.specs.declared.page.LinePtr.{LinePtr}
 use Rattle.bt_meta.specs.Heads.{tree_head_of}
 use Rattle.bt_tuples.specs.Rules.{breaks_place}
 use Rattle.bt_walks.proofs.Pages.{down_is, kind_is, tuple_is, upper_is}

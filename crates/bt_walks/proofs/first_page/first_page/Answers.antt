@@ -1,7 +1,5 @@
-use Rattle.std.proofs.Common.{◌≡◌, ◌≢◌, ◌+◌, ◌<◌, ℕ, ap, sym, subst, ◌∙◌, arith}
+use Rattle.std.proofs.Common.{◌≡◌, ◌+◌, ◌<◌, sym, subst, ◌∙◌, arith}
 use Rattle.outside.proofs.Asking.{Passed-next, Passed-none}
-use Rattle.rel_files.specs.Relation.{count_of}
-use Rattle.tree_search.specs.Searchable.{IsInUse}
 use Rattle.tree_rules.specs.Links.{to_left}
 use Rattle.tree_rules.proofs.Loops.{LeftWalk, left_all, left_circle, left_end, left_start, left_step}
 use Rattle.bt_pages.specs.Trees.{tree_seen}

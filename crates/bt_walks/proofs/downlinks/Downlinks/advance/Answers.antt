@@ -1,9 +1,5 @@
-use Rattle.std.proofs.Common.{◌≡◌, ◌≢◌, ℕ, suc, ◌+◌, ◌-◌, ◌≤◌, ◌<◌, Bool, true, false, ap, sym, subst, ◌∙◌, arith}
-use Rattle.std.specs.Prelude.{Some}
+use Rattle.std.proofs.Common.{◌≡◌, ◌<◌, false, ap, sym, subst, ◌∙◌, arith}
 use Rattle.page_layout.specs.Page.{count_of}
-use Rattle.page_layout.specs.View.{page_bytes}
-use Rattle.bt_walks.specs.declared.downlinks.Downlinks.{Downlinks}
-use Rattle.bt_walks.specs.Downlinks.{HasAdvanced}
 use Rattle.bt_walks.specs.Pages.{HasPlainItems}
 use Rattle.bt_meta.specs.Flags.{is_half_dead}
 use Rattle.bt_meta.specs.Pages.{opaque_of}

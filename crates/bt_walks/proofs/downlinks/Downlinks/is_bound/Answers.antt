@@ -1,7 +1,5 @@
-use Rattle.std.proofs.Common.{◌≡◌, ◌≢◌, ℕ, suc, ◌+◌, ◌-◌, ◌≤◌, ◌<◌, Bool, true, false, ap, sym, subst, ◌∙◌, arith}
+use Rattle.std.proofs.Common.{◌≡◌, ◌≢◌, ap, sym, subst, ◌∙◌, arith}
 use Rattle.std.specs.Prelude.{Some}
-use Rattle.page_layout.specs.Page.{count_of}
-use Rattle.page_layout.specs.View.{page_bytes}
 use Rattle.tree_rules.specs.Same.{same_keys}
 use Rattle.tree_rules.specs.Tests.{same_bound}
 use Rattle.key_orders.specs.Keys.{columns_of, tid_order}

@@ -1,5 +1,4 @@
-use Rattle.std.proofs.Common.{◌≡◌, ap, sym, ◌∙◌}
-use Rattle.std.specs.Prelude.{Some}
+use Rattle.std.proofs.Common.{ap, sym, ◌∙◌}
 use Rattle.bt_walks.specs.Downlinks.{in_hand}
 use Rattle.bt_walks.proofs.Seeing.{first_leads, leads_to}
 use Rattle.bt_walks.proofs.downlinks.Downlinks.leads_to.Goals as goal

@@ -1,4 +1,4 @@
-use Rattle.std.proofs.Common.{suc, ◌∙◌}
+use Rattle.std.proofs.Common.{suc}
 use Rattle.rel_files.specs.Relation.{count_of}
 use Rattle.bt_pages.specs.Trees.{tree_seen}
 use Rattle.bt_walks.specs.Sets.{is_in}

@@ -1,4 +1,4 @@
-use Rattle.std.proofs.Common.{◌≡◌, ◌≢◌, ℕ, suc, ◌+◌, ◌-◌, ◌≤◌, ◌<◌, Bool, true, false, List, refl, ap, sym, subst, ◌∙◌, arith}
+use Rattle.std.proofs.Common.{◌≡◌, suc, ◌+◌, ◌-◌, sym, subst, ◌∙◌, arith}
 use Rattle.outside.proofs.Asking.{Passed-next, Passed-none}
 use Rattle.rel_files.specs.Relation.{count_of}
 use Rattle.bt_pages.specs.Trees.{tree_seen}

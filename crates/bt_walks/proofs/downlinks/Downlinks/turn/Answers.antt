@@ -1,7 +1,5 @@
-use Rattle.std.proofs.Common.{◌≡◌, ◌≢◌, ℕ, suc, ◌+◌, ◌-◌, ◌≤◌, ◌<◌, Bool, true, false, ap, sym, subst, ◌∙◌, arith}
-use Rattle.std.specs.Prelude.{Some}
+use Rattle.std.proofs.Common.{◌≤◌, ap, sym, subst, ◌∙◌}
 use Rattle.page_layout.specs.Page.{count_of}
-use Rattle.page_layout.specs.View.{page_bytes}
 use Rattle.page_layout.specs.Page.{page_rule_of}
 use Rattle.page_layout.specs.declared.page.PageKind.TheVariants.{Tree as tree_page}
 use Rattle.bt_meta.specs.Pages.{opaque_of}

@@ -1,5 +1,4 @@
 use Rattle.std.proofs.Common.{suc, sym, subst}
-use Rattle.rel_files.specs.Relation.{count_of}
 use Rattle.bt_pages.specs.Trees.{tree_seen}
 use Rattle.bt_walks.specs.Reading.{IsReading}
 use Rattle.bt_walks.specs.Sets.{is_in}

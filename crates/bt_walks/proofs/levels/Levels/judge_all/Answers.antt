@@ -1,4 +1,4 @@
-use Rattle.std.proofs.Common.{◌≡◌, ◌≢◌, ap, sym, subst, ◌∙◌}
+use Rattle.std.proofs.Common.{◌≢◌, ap, sym, ◌∙◌}
 use Rattle.bt_pages.specs.Trees.{tree_seen}
 use Rattle.bt_walks.specs.Trees.{image_of}
 use Rattle.bt_walks.specs.Walked.{tree_of}

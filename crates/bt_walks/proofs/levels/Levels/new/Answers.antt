@@ -1,10 +1,5 @@
-use Rattle.std.proofs.Common.{◌≡◌, ◌≤◌, refl, ap, sym, subst, ◌∙◌, arith}
-use Rattle.std.specs.Prelude.{[], ◌∷◌, None}
-use Rattle.tree_rules.specs.Cursor.{downlinks_left}
+use Rattle.std.proofs.Common.{ap, ◌∙◌}
 use Rattle.bt_pages.specs.Trees.{tree_seen}
-use Rattle.bt_walks.specs.Reading.{IsReading}
-use Rattle.bt_walks.specs.Sets.{is_in}
-use Rattle.bt_walks.specs.Trees.{image_of}
 use Rattle.bt_walks.proofs.Descending.{top_reads}
 use Rattle.bt_walks.proofs.levels.Levels.new.Goals as goal
 

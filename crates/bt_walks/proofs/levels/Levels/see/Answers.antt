@@ -1,4 +1,4 @@
-use Rattle.std.proofs.Common.{◌≡◌, subst}
+use Rattle.std.proofs.Common.{subst}
 use Rattle.level_walk.specs.Shows.{ShowsMarks}
 use Rattle.tree_image.specs.Image.{page_image}
 use Rattle.bt_pages.specs.Trees.{tree_seen}

@@ -1,9 +1,7 @@
-use Rattle.std.proofs.Common.{◌≡◌, ◌+◌, ◌<◌, ℕ, true, refl, ap, sym, subst, ◌∙◌, arith}
-use Rattle.std.specs.Prelude.{None}
+use Rattle.std.proofs.Common.{◌≡◌, ◌+◌, refl, ap, sym, subst, ◌∙◌, arith}
 use Rattle.std.proofs.lemmas.Bool.{both_ways}
 use Rattle.outside.proofs.Asking.{Passed-next, Passed-none}
 use Rattle.bt_meta.specs.Pages.{opaque_of}
-use Rattle.rel_files.specs.Relation.{count_of}
 use Rattle.bt_pages.specs.Trees.{tree_seen}
 use Rattle.bt_walks.specs.Trees.{HoldsPages, image_of}
 use Rattle.bt_walks.specs.Reading.{IsOfLevel}
