@@ -382,7 +382,7 @@ pub(crate) const DELETED_ROOT: Pages = &[TreePage {
     ..LEAF
 }];
 
-// The leaves below two pages of level 1: one in no hand, 5, and 7 and 9.
+// The leaves below two pages of level 1: a half-dead one, one with 5, and one with 7 and 9.
 const BESIDE: TreePage<'static> = TreePage { next: 3, ..SECOND };
 
 const BEHIND: TreePage<'static> = TreePage { prev: 2, ..RIGHT };
