@@ -209,58 +209,88 @@ const SEVENS: [TreePage<'static>; 3] = [
     },
 ];
 
+// What is on a leaf with 5 below 7, on one with 7 and 9, and on the root above both, blocks 2 and 4.
+const FIVE_BELOW_SEVEN: &[IndexTuple<'static>] = &[
+    IndexTuple {
+        block: 0,
+        body: &[7, 0, 0, 0],
+        ..ABOVE
+    },
+    IndexTuple {
+        item: 1,
+        body: &[5, 0, 0, 0],
+        ..ENTRY
+    },
+];
+
+const SEVEN_AND_NINE: &[IndexTuple<'static>] = &[
+    IndexTuple {
+        item: 2,
+        body: &[7, 0, 0, 0],
+        ..ENTRY
+    },
+    IndexTuple {
+        item: 3,
+        body: &[9, 0, 0, 0],
+        ..ENTRY
+    },
+];
+
+const TO_TWO_AND_FOUR: &[IndexTuple<'static>] = &[
+    IndexTuple { block: 2, ..FIRST },
+    IndexTuple {
+        block: 4,
+        body: &[7, 0, 0, 0],
+        ..ABOVE
+    },
+];
+
+// A half-dead leaf, without entries.
+const DEAD: TreePage<'static> = TreePage {
+    flags: 17,
+    tuples: &[IndexTuple { block: 0, ..FIRST }],
+    ..LEAF
+};
+
+// A half-dead leaf before two leaves, below block 3.
+const DEAD_FIRST: [TreePage<'static>; 4] = [
+    TreePage { next: 2, ..DEAD },
+    TreePage {
+        prev: 1,
+        next: 4,
+        tuples: FIVE_BELOW_SEVEN,
+        ..LEAF
+    },
+    TreePage {
+        tuples: TO_TWO_AND_FOUR,
+        ..ROOT
+    },
+    TreePage {
+        prev: 2,
+        tuples: SEVEN_AND_NINE,
+        ..LEAF
+    },
+];
+
 // A half-dead leaf between two leaves, below block 3.
-const HALF_DEAD: [TreePage<'static>; 4] = [
+const DEAD_BETWEEN: [TreePage<'static>; 4] = [
     TreePage {
         prev: 2,
         next: 4,
-        flags: 17,
-        tuples: &[IndexTuple { block: 0, ..FIRST }],
-        ..LEAF
+        ..DEAD
     },
     TreePage {
-        prev: 0,
         next: 1,
-        tuples: &[
-            IndexTuple {
-                block: 0,
-                body: &[7, 0, 0, 0],
-                ..ABOVE
-            },
-            IndexTuple {
-                item: 1,
-                body: &[5, 0, 0, 0],
-                ..ENTRY
-            },
-        ],
+        tuples: FIVE_BELOW_SEVEN,
         ..LEAF
     },
     TreePage {
-        tuples: &[
-            IndexTuple { block: 2, ..FIRST },
-            IndexTuple {
-                block: 4,
-                body: &[7, 0, 0, 0],
-                ..ABOVE
-            },
-        ],
+        tuples: TO_TWO_AND_FOUR,
         ..ROOT
     },
     TreePage {
         prev: 1,
-        next: 0,
-        tuples: &[
-            IndexTuple {
-                item: 2,
-                body: &[7, 0, 0, 0],
-                ..ENTRY
-            },
-            IndexTuple {
-                item: 3,
-                body: &[9, 0, 0, 0],
-                ..ENTRY
-            },
-        ],
+        tuples: SEVEN_AND_NINE,
         ..LEAF
     },
 ];
@@ -548,16 +578,11 @@ fn scans_of_equal_keys(rt: HostRuntime) -> Result<(), Fail> {
 fn scans_past_a_half_dead_leaf(rt: HostRuntime) -> Result<(), Fail> {
     let alloc = rt.alloc();
     let nines = (Some((9, true)), None);
-    assert!(rt;
-        yields(
-            alloc,
-            ONE,
-            (3, 1, &HALF_DEAD),
-            ALL,
-            (&[(5, 1), (7, 2), (9, 3)], 4)
-        )?
-    );
-    assert!(rt; yields(alloc, ONE, (3, 1, &HALF_DEAD), nines, (&[(9, 3)], 2))?);
+    for (pages, visits) in [(&DEAD_FIRST, 3), (&DEAD_BETWEEN, 4)] {
+        let tree = (3, 1, pages.as_slice());
+        assert!(rt; yields(alloc, ONE, tree, ALL, (&[(5, 1), (7, 2), (9, 3)], visits))?);
+        assert!(rt; yields(alloc, ONE, tree, nines, (&[(9, 3)], 2))?);
+    }
     Ok(())
 }
 
