@@ -68,7 +68,8 @@ pub record IsSound (check : Check) (names : Names) (lists : Lists) : Type 0 wher
 -- each place where a rule is broken, or of which something is in doubt, stands in the report; of the rules on levels,
 -- the first that is broken
 pub record IsComplete (check : Check) (names : Names) (lists : Lists) : Type 0 where
-  pub broken : (rule : Rule) (place : Place) → IsBroken check names rule place → IsListed lists place ⊎ IsBehind lists rule
+  pub broken : (rule : Rule) (place : Place) → IsBroken check names rule place
+      → IsListed lists place ⊎ IsBehind lists rule
   pub in_doubt : (reason : Reason) (place : Place) → IsInDoubt check names reason place → IsListed lists place
 
 -- what a report is worth, and the answer of the run that made it

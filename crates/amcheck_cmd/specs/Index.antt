@@ -65,8 +65,8 @@ pub data DoubtsIndex (file name : List ℕ) (names : Names) (reason : Reason) (p
   in_tree : (has : HasIndex file name names) → DoubtsTree has.case names has.number reason place
       → DoubtsIndex file name names reason place
 
--- what is said of a clean heap is true of the case's heap, and the index breaks no rule on its pages or on its levels: each
--- search of it finds what it should
+-- what is said of a clean heap is true of the case's heap, and the index breaks no rule on its pages or on its levels:
+-- each search of it finds what it should
 pub record HasTrueIndex (file name : List ℕ) (names : Names) : Type 0 where
   pub has : HasIndex file name names
   pub heap : IsTrueHeap has.case names

@@ -50,7 +50,8 @@ pub fn attach_file<F: Files>(
     requires small { segment_blocks ≤ 131072 }
     ensures named { IfOk result (IsNamed base.now segment_blocks) }
     ensures told { Tells F.seen files.old result (λ r names. IsRelationOf names base.now segment_blocks block_limit r) }
-    ensures refusal { IfTold F.seen files.old (λ names. TellsRefusal (file_refusal which names base.now segment_blocks) result) }
+    ensures refusal { IfTold F.seen files.old (λ names.
+        TellsRefusal (file_refusal which names base.now segment_blocks) result) }
     ensures asked { Asked F.seen files.old files.new result CheckFault.ReadFault }
 {
     match Relation::attach(alloc, files, base, segment_blocks, BLOCK_LIMIT) {

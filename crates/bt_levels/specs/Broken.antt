@@ -42,7 +42,8 @@ pub data BreaksPages (tree : Tree) (long : Option ℕ) : Rule → Place → Type
       → BreaksPages tree long P2 (block_place tree 0)
   bad_places : 0 < tree.blocks → has_bad_places Meta (tree.block 0) ≡ true
       → BreaksPages tree long P3 (block_place tree 0)
-  stray_byte : 0 < tree.blocks → is_new_but_written (tree.block 0) ≡ true → BreaksPages tree long P4 (block_place tree 0)
+  stray_byte : 0 < tree.blocks → is_new_but_written (tree.block 0) ≡ true
+      → BreaksPages tree long P4 (block_place tree 0)
   no_metapage : 0 < tree.blocks → is_no_metapage (tree.block 0) ≡ true → BreaksPages tree long M1 (block_place tree 0)
   bad_root : 0 < tree.blocks → (meta_of (tree.block 0)).version ≡ 4
       → has_bad_root tree.blocks (meta_of (tree.block 0)) ≡ true → BreaksPages tree long M2 (block_place tree 0)

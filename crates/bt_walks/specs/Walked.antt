@@ -84,7 +84,12 @@ ChangesDownlinks old new = new ≡ record old { upper = new.upper }
 
 abbrev pub ChangesSets : Levels → Levels → Type 0
 ChangesSets old new =
-    new ≡ record old { dead = new.dead; stands = new.stands; right_halves = new.right_halves; half_dead = new.half_dead }
+    new ≡ record old {
+      dead = new.dead;
+      stands = new.stands;
+      right_halves = new.right_halves;
+      half_dead = new.half_dead;
+    }
 
 -- it stands before the first of these downlinks, which is in hand if there is one
 pub record StandsBefore (tree : Tree) (level : ℕ) (levels : Levels) (left : List TreeDownlink) : Type 0 where
@@ -126,7 +131,8 @@ pub record BeginsChain (tree : Tree) (level first : ℕ) : Type 0 where
 pub record HasWalked (tree : Tree) (level : ℕ) (ds : List TreeDownlink) (first : ℕ) (old new : Levels)
     (carried : LevelWalk) : Type 0 where
   pub walk : TreeWalk
-  pub is : walk ≡ fold (walk_step (same_in tree) (order_in tree) (image_of tree)) (walk_start ds) (chain_from tree first)
+  pub is : walk
+      ≡ fold (walk_step (same_in tree) (order_in tree) (image_of tree)) (walk_start ds) (chain_from tree first)
   pub walking : IsWalking tree level new carried walk
   pub dead_pages : (q : ℕ)
       → is_in new.dead q ≡ with_dead (is_in old.dead) (rows_met (image_of tree) (chain_from tree first) ds false None) q
@@ -148,8 +154,8 @@ pub record AreLevelsJudged (tree : Tree) (new : Levels) (finding : Option Findin
   pub found : finding ≡ all_levels_finding (same_in tree) (order_in tree) (image_of tree)
   pub pages : finding ≡ None → (b : ℕ) → is_in new.stands b ≡ is_block_read (image_of tree) b
 
--- what is found of the roots and on all levels is the first broken rule; where it is nothing, the first block that stands
--- in no chain is
+-- what is found of the roots and on all levels is the first broken rule; where it is nothing, the first block that
+-- stands in no chain is
 pub record IsTreeJudged (tree : Tree) (new : Levels) (finding : Option Finding) : Type 0 where
   pub found : (f : Finding) → finding ≡ Some f → first_broken_in tree ≡ Some f
   pub nothing : finding ≡ None → first_broken_in tree ≡ unreached_finding (image_of tree) (is_in new.stands)

@@ -24,7 +24,7 @@ impl Model for BlockSet {
 impl BlockSet {
     /// A set without blocks, of a file of so many.
     pub fn new(alloc: Global, blocks: u32) -> Result<BlockSet, NoMemory>
-        ensures blocks { IfOk result (λ set. length set ≡ blocks) }
+        ensures sized { IfOk result (λ set. length set ≡ blocks) }
         ensures empty { IfOk result IsEmptySet }
     {
         let members = vec![in alloc; false; blocks as usize]?;
@@ -34,7 +34,7 @@ impl BlockSet {
     /// Puts a block into the set.
     pub fn add(&mut self, b: u32)
         requires { b < length self.old }
-        ensures blocks { length self.new ≡ length self.old }
+        ensures sized { length self.new ≡ length self.old }
         ensures added { (q : ℕ) → is_in self.new q ≡ (is_in self.old q || (b == q)) }
     {
         self.members[b as usize] = true;

@@ -1,5 +1,6 @@
 //! Lower bounds of pages, and how the keys of a page stand to them.
-ghost use Rattle.std.specs.Prelude.{◌≡◌, ◌≤◌, ◌&&◌, ◌||◌, false, true, not, slice_get, IfOk, IfSome, IsSome, None, Some};
+ghost use Rattle.std.specs.Prelude.{◌≡◌, ◌≤◌, ◌&&◌, ◌||◌, false, true, not, slice_get};
+ghost use Rattle.std.specs.Prelude.{IfOk, IfSome, IsSome, None, Some};
 ghost use Rattle.std.specs.Ordering.{is_eq, is_le, is_lt};
 ghost use Rattle.page_layout.specs.Page.{count_of, page_rule_of};
 ghost use Rattle.page_layout.specs.View.{page_bytes};
@@ -42,12 +43,14 @@ fn compare_with_item(
     requires last { i ≤ count_of (page_bytes page) }
     requires separator { IsKeySeparator tree.now.specs.now (separator_of separator.now) }
     ensures order { IfSome result (λ order. order ≡ compare_keys (columns_of tree.now.specs.now) tid_order
-        (separator_of separator.now) (first_key (item_at tree.now.specs.now tree.now.more.now (page_bytes page.entry) i))) }
+        (separator_of separator.now)
+        (first_key (item_at tree.now.specs.now tree.now.more.now (page_bytes page.entry) i))) }
     ensures turned { IfSome result (λ order. not (is_lt order) ≡ is_le (compare_keys (columns_of tree.now.specs.now)
         tid_order (first_key (item_at tree.now.specs.now tree.now.more.now (page_bytes page.entry) i))
         (separator_of separator.now))) }
     ensures same { IfSome result (λ order. is_eq order ≡ same_keys (columns_of tree.now.specs.now) tid_order
-        (first_key (item_at tree.now.specs.now tree.now.more.now (page_bytes page.entry) i)) (separator_of separator.now)) }
+        (first_key (item_at tree.now.specs.now tree.now.more.now (page_bytes page.entry) i))
+        (separator_of separator.now)) }
     ensures read { IsPlainItem tree.now.specs.now tree.now.more.now (page_bytes page.entry) i → IsSome result }
 {
     key_orders_are_total();

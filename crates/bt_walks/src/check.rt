@@ -108,7 +108,8 @@ fn first_outside<F: Files>(
     requires some { 0 < count_of tree.now.relation.now }
     requires pages { IfTold F.seen files.old (λ names. HoldsPages names tree.now) }
     ensures told { Tells F.seen files.old result (λ found names.
-        found ≡ first_outside (image_of (tree_seen names tree.now)) (is_in stands.now) (count_of tree.now.relation.now)) }
+        found ≡ first_outside (image_of (tree_seen names tree.now)) (is_in stands.now)
+        (count_of tree.now.relation.now)) }
     ensures asked { Asked F.seen files.old files.new result read_fault }
 {
     for k in 0..tree.relation.blocks() - 1 {

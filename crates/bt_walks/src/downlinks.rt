@@ -84,7 +84,8 @@ impl Downlinks {
     pub fn to_root(root: u32) -> Downlinks
         ensures readable { (specs : List Spec) → IsReadable specs result }
         ensures settled { IsSettled result }
-        ensures sound { (specs : List Spec) (more : List More) → IsSoundHand specs more (page_of result) (hand_of result) }
+        ensures sound { (specs : List Spec) (more : List More)
+            → IsSoundHand specs more (page_of result) (hand_of result) }
         ensures hand { (specs : List Spec) (more : List More) → cursor_of specs more result
             ≡ record { items = (None, root) ∷ []; lower = None; block = 0 } }
     {
@@ -99,7 +100,8 @@ impl Downlinks {
     /// Before the first downlink of a level, which begins with this page.
     pub fn begin(&mut self, first: u32)
         ensures readable { (specs : List Spec) → IsReadable specs self.new }
-        ensures sound { (specs : List Spec) (more : List More) → IsSoundHand specs more (page_of self.new) (hand_of self.new) }
+        ensures sound { (specs : List Spec) (more : List More)
+            → IsSoundHand specs more (page_of self.new) (hand_of self.new) }
         ensures cursor { (specs : List Spec) (more : List More) → cursor_of specs more self.new
             ≡ record { items = []; lower = None; block = first } }
     {
@@ -193,8 +195,10 @@ impl Downlinks {
         ensures readable { IsReadable tree.now.specs.now self.new }
         ensures reads { OnOk result (IfTold F.seen files.old (λ names.
             (level : ℕ) (left : List TreeDownlink)
-            → Reads (tree_seen names tree.now) (is_in dead.now) (suc level) (blocks_of tree.now.relation.now) self.old left
-            → Reads (tree_seen names tree.now) (is_in dead.now) (suc level) (blocks_of tree.now.relation.now) self.new left
+            → Reads (tree_seen names tree.now) (is_in dead.now) (suc level) (blocks_of tree.now.relation.now) self.old
+            left
+            → Reads (tree_seen names tree.now) (is_in dead.now) (suc level) (blocks_of tree.now.relation.now) self.new
+            left
             × IsSettled self.new)) }
         ensures asked { Asked F.seen files.old files.new result read_fault }
     {
@@ -301,7 +305,8 @@ impl Downlinks {
             (level : ℕ) (d : TreeDownlink) (left : List TreeDownlink) → IsSettled self.old
             → Reads (tree_seen names tree.now) (is_in dead.now) (suc level) (blocks_of tree.now.relation.now) self.old
             (d ∷ left)
-            → Reads (tree_seen names tree.now) (is_in dead.now) (suc level) (blocks_of tree.now.relation.now) self.new left
+            → Reads (tree_seen names tree.now) (is_in dead.now) (suc level) (blocks_of tree.now.relation.now) self.new
+            left
             × IsSettled self.new)) }
         ensures asked { Asked F.seen files.old files.new result PageFault.ReadFault }
     {

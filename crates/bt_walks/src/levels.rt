@@ -97,8 +97,9 @@ impl<'t> Levels<'t> {
         ensures { is_linked (role_named role) ≡ true
             → IsSoundHand (tree_of self.now).specs.now (tree_of self.now).more.now (page_of (upper_of self.now))
             (hand_of (upper_of self.now))
-            → result ≡ not (same_bound (same_keys (columns_of (tree_of self.now).specs.now) tid_order) (next_separator
-            (in_hand (tree_of self.now).specs.now (tree_of self.now).more.now (upper_of self.now))) (lower_of self.now)) }
+            → result ≡ not (same_bound (same_keys (columns_of (tree_of self.now).specs.now) tid_order)
+            (next_separator (in_hand (tree_of self.now).specs.now (tree_of self.now).more.now (upper_of self.now)))
+            (lower_of self.now)) }
     {
         role == PageRole::Linked && !self.upper.is_bound(&self.tree, &self.lower)
     }
@@ -146,7 +147,8 @@ impl<'t> Levels<'t> {
         requires page { page_rule_of PageKind.Tree (page_in self.old) ≡ None }
         ensures ready { IsReady self.new }
         ensures bound { ChangesBound self.old self.new }
-        ensures kept { OnOk result (HasPlainItems (tree_of self.old).specs.now (tree_of self.old).more.now (page_in self.old)
+        ensures kept { OnOk result (
+            HasPlainItems (tree_of self.old).specs.now (tree_of self.old).more.now (page_in self.old)
             → (is_live (role_named role) ≡ true → is_half_dead (opaque_of (page_in self.old)) ≡ false)
             → lower_of self.new ≡ lower_after
             (page_image (tree_of self.old).specs.now (tree_of self.old).more.now (page_in self.old)) (role_named role)

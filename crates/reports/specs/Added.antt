@@ -45,4 +45,5 @@ each_upto lists f (suc n) = lists.join (each_upto lists f n) (f (suc n))
 -- the place is among those of the findings, or among those that can't be judged
 pub data IsListed (lists : Lists) (place : Place) : Type 0 where
   found : (rule : Rule) → Contains lists.findings (record { rule = rule; place = place }) → IsListed lists place
-  in_doubt : (reason : Reason) → Contains lists.unjudged (record { reason = reason; place = place }) → IsListed lists place
+  in_doubt : (reason : Reason) → Contains lists.unjudged (record { reason = reason; place = place })
+      → IsListed lists place

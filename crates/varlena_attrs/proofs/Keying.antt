@@ -1,10 +1,10 @@
 -- One more column of an index tuple.
 use Rattle.std.proofs.Common.{◌≡◌, ℕ, zero, suc, Bool, true, false, ◌+◌, ◌-◌, ◌<◌, ◌≤◌, List, [], ◌∷◌, ◌++◌, length, get_or, take, drop, refl, ap, sym, subst, ◌∙◌, add-one, arith, append-nil, append_assoc, cond}
-use Rattle.std.specs.Prelude.{Option, Some, None, Ok, Err, All}
+use Rattle.std.specs.Prelude.{Option, Some, None, Result, Ok, Err, IfOk, All}
 use Rattle.std.specs.Option.{option_copied, option_or}
 use Rattle.std.proofs.Math.Seq.{drop-cons}
 use Rattle.std.proofs.lemmas.Bool.{and_from, and_parts}
-use Rattle.std.proofs.lemmas.List.{length-take-le, length-drop, length-map, length-append, get_or-map, take-map}
+use Rattle.std.proofs.lemmas.List.{drop_all, length-take-le, length-drop, length-map, length-append, get_or-map, take-map}
 use Rattle.std.proofs.lemmas.List.Elements.{All-get_or, All-take}
 use Rattle.key_orders.specs.Keys.{fits_columns}
 use Rattle.key_orders.specs.Orders.{fits_type}
@@ -127,6 +127,13 @@ told_all columns values packed is =
     ap (told_after values columns.packed columns.column []) (read_inline-nil (option_copied columns.nulls) columns.natts columns.body.now columns.column columns.place)
     ∙ (λ i. unless_packed ((or_none columns.packed ∙ is) i) (append-nil values i))
 
+-- the same of a key whose columns were all read
+pub told_end : (specs : List KeySpec) (body : List ℕ) (values : List Value) (k place : ℕ) → length specs ≤ k → told_after values None k (key_types (drop k specs)) (read_inline (key_types (drop k specs)) None (length specs) body k place) ≡ Ok values
+told_end specs body values k place all =
+    ap (λ (ks : List KeySpec). told_after values None k (key_types ks) (read_inline (key_types ks) None (length specs) body k place)) (drop_all k specs all)
+    ∙ ap (told_after values None k []) (read_inline-nil None (length specs) body k place)
+    ∙ ap Ok (append-nil values)
+
 -- THE TYPES OF A KEY AND OF WHAT IS INCLUDED
 
 pub key_types-drop : (specs : List KeySpec) (i : ℕ) (d : KeySpec) → i < length specs → key_types (drop i specs) ≡ (get_or specs i d).ctype ∷ key_types (drop (i + 1) specs)
@@ -170,6 +177,10 @@ fits_first zero (s ∷ specs) (v ∷ values) fits = absurd cc
 fits_first (suc n) (s ∷ specs) (v ∷ values) fits =
     let both = and_parts (fits_type s.ctype v) (fits_columns (take n specs) values) fits in
     and_from (fits_type s.ctype v) (fits_columns specs values) both.0 (fits_first n specs values both.1)
+
+pub first_fit : {A E : Type 0} (n : ℕ) (specs : List KeySpec) (values : List Value) (r : Result A E) → IfOk r (λ u. fits_columns (take n specs) values ≡ true) → IfOk r (λ u. fits_columns specs values ≡ true)
+first_fit n specs values (Ok u) fits = fits_first n specs values fits
+first_fit n specs values (Err e) fits = tt
 
 -- the types of the first columns
 pub key_types-take : (n : ℕ) (specs : List KeySpec) → key_types (take n specs) ≡ take n (key_types specs)

@@ -1,6 +1,6 @@
 //! The columns of an index tuple, as values that lie in it.
 ghost use Rattle.std.specs.Prelude.{◌≡◌, ◌+◌, ◌++◌, [], ◌∷◌, ◌≤◌, ◌<◌, Ok, Err, ℕ, List, Option};
-ghost use Rattle.std.specs.Prelude.{length, take, true, IfOk, IfErr, All};
+ghost use Rattle.std.specs.Prelude.{length, take, true, None, IfOk, IfErr, All};
 ghost use Rattle.std.specs.Option.{option_copied};
 ghost use Rattle.key_orders.specs.Keys.{fits_columns};
 ghost use Rattle.key_orders.specs.Orders.{fits_type};
@@ -218,6 +218,32 @@ impl<'p> IndexColumns<'p> {
     }
 }
 
+// Reads the values of a key in a tuple without null bits, as long as each is found by the least that tells
+// it (`plain`), and answers whether all were. Else it has read some of them. A second walk over the
+// columns, for its speed alone: where it stands is two numbers, and most keys are read by it.
+#[inline(always)]
+fn read_plain_key<'p>(specs: &[KeySpec], body: &'p [u8], key: &mut KeyRefs<'p>) -> bool
+    requires few { length specs.now ≤ 8 }
+    requires aligned { All HasAlignment (key_types specs.now) }
+    ensures value { result ≡ true → key_values (key_types specs.now) body.now None ≡ Ok key.new }
+    ensures count { result ≡ true → length key.new ≡ length specs.now }
+    ensures fits { result ≡ true → fits_columns specs.now key.new ≡ true }
+{
+    key.clear();
+    let mut place = 0;
+    for spec in specs {
+        match plain_piece(spec.ctype, body, place) {
+            None => return false,
+            Some(piece) => {
+                let found = piece.found();
+                key.push(value_at(spec.ctype, body, found.place));
+                place = found.next;
+            }
+        }
+    }
+    true
+}
+
 /// The values of the first columns of a key in an index tuple, where they lie: `kept` of those in
 /// `specs`, from the tuple's body and its null bits, where it has some. Columns past those that the
 /// tuple has null bits for aren't null.
@@ -246,7 +272,6 @@ pub fn key_attributes<'p>(
 /// Reads the values of [`key_attributes`] into a place that is at hand, where they are the only ones
 /// then. After a fault it has some of them.
 #[inline(always)]
-#[tactic(auto, unfolding(crate::specs::Keyed::key_values))]
 pub fn read_key_attributes<'p>(
     specs: &[KeySpec],
     body: &'p [u8],
@@ -264,8 +289,34 @@ pub fn read_key_attributes<'p>(
     ensures count { IfOk result (λ u. length key.new ≡ kept) }
     ensures fits { IfOk result (λ u. fits_columns specs.now key.new ≡ true) }
 {
-    let mut columns = IndexColumns::new(body, nulls, kept);
-    columns.read_key(&specs[..kept as usize], key)?;
+    let specs = &specs[..kept as usize];
+    if nulls.is_none() && read_plain_key(specs, body, key) {
+        return Ok(());
+    }
+    read_any_key(specs, body, nulls, key)
+}
+
+// Reads the values of a key in a tuple that has its columns alone. It stays a call, since few keys are
+// read by it: in line, what it keeps would be set up for each.
+#[inline(never)]
+#[tactic(auto, unfolding(crate::specs::Keyed::key_values))]
+fn read_any_key<'p>(
+    specs: &[KeySpec],
+    body: &'p [u8],
+    nulls: Option<&'p [u8]>,
+    key: &mut KeyRefs<'p>,
+) -> Result<(), KeyFault>
+    requires few { length specs.now ≤ 8 }
+    requires aligned { All HasAlignment (key_types specs.now) }
+    ensures value { IfOk result (λ u.
+        key_values (key_types specs.now) body.now (option_copied nulls.entry) ≡ Ok key.new) }
+    ensures fault { IfErr result (λ e.
+        key_values (key_types specs.now) body.now (option_copied nulls.entry) ≡ Err e) }
+    ensures count { IfOk result (λ u. length key.new ≡ length specs.now) }
+    ensures fits { IfOk result (λ u. fits_columns specs.now key.new ≡ true) }
+{
+    let mut columns = IndexColumns::new(body, nulls, specs.len() as u16);
+    columns.read_key(specs, key)?;
     match columns.packed {
         Some(column) => Err(KeyFault::Packed { column }),
         None => Ok(()),

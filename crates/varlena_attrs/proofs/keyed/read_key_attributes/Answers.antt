@@ -1,43 +1,15 @@
-use Rattle.std.proofs.Common.{◌≡◌, ℕ, ◌++◌, List, [], take, sym, ap, ◌∙◌, append-nil}
-use Rattle.std.specs.Prelude.{Option, Err}
-use Rattle.std.proofs.lemmas.Result.{err_from_is_err_and}
-use Rattle.key_orders.specs.declared.columns.ColType.{ColType}
-use Rattle.key_orders.specs.declared.columns.Value.{Value}
-use Rattle.varlena_attrs.specs.declared.keyed.IndexColumns.{IndexColumns}
-use Rattle.varlena_attrs.specs.declared.keyed.KeyFault.{KeyFault}
-use Rattle.varlena_attrs.specs.Keyed.{KeyValues, key_types, unless_packed}
-use Rattle.varlena_attrs.specs.KeyedShown.{told_by}
-use Rattle.varlena_attrs.proofs.Keying.{count_of_first, first_aligned, fits_first, told_all}
+use Rattle.std.proofs.Common.{refl}
+use Rattle.varlena_attrs.proofs.Keying.{first_aligned, first_fit, fits_first}
 use Rattle.varlena_attrs.proofs.keyed.read_key_attributes.Goals as goal
 
--- what is told by all columns, none of which comes after those of the key
-all_read : (first last : IndexColumns) (types : List ColType) (key : List Value) (packed : Option ℕ) (told : KeyValues)
-    → told_by first [] types ≡ told → told_by first [] (types ++ []) ≡ told_by last key [] → last.packed ≡ packed → told ≡ unless_packed packed key
-all_read first last types key packed told is past_key where_packed =
-    sym is ∙ ap (told_by first []) (sym (append-nil types)) ∙ past_key ∙ told_all last key packed where_packed
+pub read_plain_key-requires-clause-aligned : goal.read_plain_key-requires-clause-aligned
+read_plain_key-requires-clause-aligned c = first_aligned c.args.kept c.args.specs.now c.requires.aligned
 
-failed : (first : IndexColumns) (types : List ColType) (e : KeyFault) (told : KeyValues)
-    → told_by first [] types ≡ told → told_by first [] (types ++ []) ≡ Err e → told ≡ Err e
-failed first types e told is fault = sym is ∙ ap (told_by first []) (sym (append-nil types)) ∙ fault
+pub returns-then-read_plain_key-clause-fits : goal.returns-then-read_plain_key-clause-fits
+returns-then-read_plain_key-clause-fits c = fits_first c.args.kept c.args.specs.now c.read_plain_key.new.key (c.if-read_plain_key.ensures.fits refl)
 
-pub read_key-requires-clause-aligned : goal.read_key-requires-clause-aligned
-read_key-requires-clause-aligned c = first_aligned c.args.kept c.args.specs.now c.requires.aligned
+pub read_any_key-requires-clause-aligned : goal.read_any_key-requires-clause-aligned
+read_any_key-requires-clause-aligned c = first_aligned c.args.kept c.args.specs.now c.requires.aligned
 
-pub returns-in_err-read_key-clause-fault : goal.returns-in_err-read_key-clause-fault
-returns-in_err-read_key-clause-fault c =
-    let p = err_from_is_err_and c.from_residual.result c.from_residual.ensures.1 in
-    let types = key_types (take c.args.kept c.args.specs.now) in
-    rw (p.1, p.2) (failed c.new-columns.result types _ _ (c.new-columns.ensures.told types (count_of_first c.args.kept c.args.specs.now c.requires.kept)) (c.in_err-read_key.ensures.fault []))
-
-pub returns-in-Some-clause-fault : goal.returns-in-Some-clause-fault
-returns-in-Some-clause-fault c =
-    let types = key_types (take c.args.kept c.args.specs.now) in
-    all_read c.new-columns.result c.read_key.new.self types c.read_key.new.key _ _ (c.new-columns.ensures.told types (count_of_first c.args.kept c.args.specs.now c.requires.kept)) (c.in_ok-read_key.ensures.value []) c.in-Some.is
-
-pub returns-in-None-clause-value : goal.returns-in-None-clause-value
-returns-in-None-clause-value c =
-    let types = key_types (take c.args.kept c.args.specs.now) in
-    all_read c.new-columns.result c.read_key.new.self types c.read_key.new.key _ _ (c.new-columns.ensures.told types (count_of_first c.args.kept c.args.specs.now c.requires.kept)) (c.in_ok-read_key.ensures.value []) c.in-None.is
-
-pub returns-in-None-clause-fits : goal.returns-in-None-clause-fits
-returns-in-None-clause-fits c = fits_first c.args.kept c.args.specs.now c.read_key.new.key c.in_ok-read_key.ensures.fits
+pub returns-clause-fits : goal.returns-clause-fits
+returns-clause-fits c = first_fit c.args.kept c.args.specs.now c.read_any_key.new.key c.read_any_key.result c.read_any_key.ensures.fits

@@ -1,7 +1,6 @@
-use Rattle.std.proofs.Common.{◌≡◌, ◌+◌, ◌/◌, ◌-◌, drop, take, ap, subst, sym, ◌∙◌, arith}
+use Rattle.std.proofs.Common.{◌≡◌, ◌+◌, ◌/◌, ◌-◌, drop, take, ap, ◌∙◌, arith}
 use Rattle.std.specs.Prelude.{Ok}
 use Rattle.varlena_attrs.specs.Forms.{Plain}
-use Rattle.varlena_attrs.specs.Reading.{Step}
 use Rattle.varlena_attrs.proofs.Ends.{short_start, short_step}
 use Rattle.varlena_attrs.proofs.plain.short_piece.Goals as goal
 

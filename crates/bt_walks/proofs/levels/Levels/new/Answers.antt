@@ -8,8 +8,8 @@ returns-clause-ready c = record {
   columns = c.requires.columns;
   upper = c.to_root.ensures.readable c.args.tree.specs.now;
   lower = tt;
-  dead = c.in_ok-dead.ensures.blocks ∙ c.blocks-blocks.ensures;
-  stands = c.in_ok-stands.ensures.blocks ∙ c.blocks-blocks.ensures;
+  dead = c.in_ok-dead.ensures.sized ∙ c.blocks-blocks.ensures;
+  stands = c.in_ok-stands.ensures.sized ∙ c.blocks-blocks.ensures;
 }
 
 pub returns-clause-top : goal.returns-clause-top

@@ -1,0 +1,98 @@
+use Rattle.std.proofs.Common.{◌≡◌, ◌+◌, ◌<◌, ◌≤◌, ℕ, List, [], drop, take, get_or, length, refl, sym, ap, subst, ◌∙◌, arith}
+use Rattle.std.specs.Prelude.{None, Ok, false}
+use Rattle.std.proofs.lemmas.List.{length-append, length-map}
+use Rattle.key_orders.specs.declared.columns.ColType.{ColType}
+use Rattle.key_orders.specs.declared.columns.ColType.TheVariants.{Bool as BoolType}
+use Rattle.key_orders.specs.declared.columns.KeySpec.{KeySpec}
+use Rattle.key_orders.specs.declared.columns.Value.{Value}
+use Rattle.varlena_attrs.specs.declared.forms.Found.{Found}
+use Rattle.varlena_attrs.specs.declared.places.AttrPlace.TheVariants as at
+use Rattle.key_orders.specs.Types.{HasAlignment}
+use Rattle.varlena_attrs.specs.Attributes.{Presence, Stored, is_null, presence_of}
+use Rattle.varlena_attrs.specs.Forms.{Plain}
+use Rattle.varlena_attrs.specs.Keyed.{InlineStep, inline_step, is_packed, key_types, read_inline}
+use Rattle.varlena_attrs.specs.KeyedShown.{HasPlainLength, packed_here, told_after}
+use Rattle.varlena_attrs.specs.Reading.{attribute_at, stored_at}
+use Rattle.varlena_attrs.specs.Shown.{shown_at}
+use Rattle.varlena_attrs.proofs.Ends.{stored_there}
+use Rattle.varlena_attrs.proofs.Keying.{fits_push, key_aligned, key_types-drop, past_column, plain_fits, told_end, told_none}
+use Rattle.varlena_attrs.proofs.keyed.read_plain_key.Goals as goal
+
+-- before the first column and after the last one
+first_told : (specs : List KeySpec) (body : List ℕ) (key : List Value) → key ≡ [] → told_after [] None 0 (key_types specs) (read_inline (key_types specs) None (length specs) body 0 0) ≡ told_after key None 0 (key_types (drop 0 specs)) (read_inline (key_types (drop 0 specs)) None (length specs) body 0 0)
+first_told specs body key e = ap (λ k. told_after k None 0 (key_types specs) (read_inline (key_types specs) None (length specs) body 0 0)) (sym e)
+
+pub loop-spec-init : goal.loop-spec-init
+loop-spec-init c = record {
+  told = sym (told_none (key_types c.args.specs.now) (length c.args.specs.now) c.args.body.now None (length-map c.args.specs.now (λ k. k.ctype))) ∙ first_told c.args.specs.now c.args.body.now _ c.clear.ensures;
+  count = rw c.clear.ensures refl;
+  fits = rw c.clear.ensures refl;
+  within = omega arith;
+}
+
+pub plain_piece-requires-clause-known : goal.plain_piece-requires-clause-known
+plain_piece-requires-clause-known c = key_aligned c.args.specs.now c.loop-spec.spec-index _ c.loop-spec-test.true c.requires.aligned
+
+pub plain_piece-requires-clause-within : goal.plain_piece-requires-clause-within
+plain_piece-requires-clause-within c = c.loop-spec.invariant.within
+
+-- the bytes of a value that is found so are as many as its type asks for
+long_there : (ctype : ColType) (body : List ℕ) (place start len : ℕ) (found : Found) → HasAlignment ctype → start + len ≤ length body → stored_at ctype body place ≡ Ok (Plain (take len (drop start body)), start + len) → found ≡ record { place = at.Plain start len; next = start + len } → HasPlainLength ctype found.place
+long_there ctype body place start len found known within step is =
+    subst (λ (f : Found). HasPlainLength ctype f.place) (sym is)
+    (plain_fits Stored ctype body place (start + len) (at.Plain start len) known within (sym step))
+
+pub value_at-requires-clause-long : goal.value_at-requires-clause-long
+value_at-requires-clause-long c =
+    long_there (get_or c.args.specs.now c.loop-spec.spec-index _).ctype c.args.body.now c.loop-spec.place c.in-Some.piece.start c.in-Some.piece.len c.found-found.result (key_aligned c.args.specs.now c.loop-spec.spec-index _ c.loop-spec-test.true c.requires.aligned) c.in-Some.ensures.within c.in-Some.ensures.step c.found-found.ensures
+
+pub push-requires : goal.push-requires
+push-requires c = omega (arith, c.loop-spec.invariant.count, c.loop-spec-test.true, c.requires.few)
+
+-- a column of a tuple without null bits is there
+there : (natts k : ℕ) → k < natts → presence_of None natts k ≡ Stored
+unfolding is_null
+there natts k lt = stored_there None natts k lt refl
+
+step_there : (ctype : ColType) (natts k : ℕ) (body : List ℕ) (place start len : ℕ) (found : Found) → k < natts → stored_at ctype body place ≡ Ok (Plain (take len (drop start body)), start + len) → found ≡ record { place = at.Plain start len; next = start + len }
+    → ◌≡◌ {A = InlineStep} (Ok (shown_at body found.place, found.next)) (inline_step (k + 1) (attribute_at (presence_of None natts k) ctype body place))
+step_there ctype natts k body place start len found lt step is =
+    ap (λ (f : Found). Ok (shown_at body f.place, f.next)) is
+    ∙ sym (ap (λ (p : Presence). inline_step (k + 1) (attribute_at p ctype body place)) (there natts k lt)
+    ∙ ap (inline_step (k + 1)) step)
+
+none_packed : (found : Found) (start len column : ℕ) (body : List ℕ) → found ≡ record { place = at.Plain start len; next = start + len } → None ≡ packed_here (is_packed (shown_at body found.place)) column
+none_packed found start len column body is = rw is refl
+
+pub loop-spec-preserved : goal.loop-spec-preserved
+loop-spec-preserved c =
+    let specs = c.args.specs.now in
+    let body = c.args.body.now in
+    let k = c.loop-spec.spec-index in
+    let none : KeySpec = record { column = 0; ctype = BoolType; desc = false; nulls_first = false } in
+    let ctype = (get_or specs k none).ctype in
+    let rest = key_types (drop (k + 1) specs) in
+    let found = c.found-found.result in
+    let piece = c.in-Some.piece in
+    let step = step_there ctype (length specs) k body c.loop-spec.place piece.start piece.len found c.loop-spec-test.true c.in-Some.ensures.step c.found-found.ensures in
+    record {
+      told =
+          c.loop-spec.invariant.told
+          ∙ ap (λ (ts : List ColType). told_after c.loop-spec.key None k ts (read_inline ts None (length specs) body k c.loop-spec.place)) (key_types-drop specs k none c.loop-spec-test.true)
+          ∙ past_column c.loop-spec.key None k ctype rest None (length specs) body c.loop-spec.place found.next (shown_at body found.place) _ None step c.value_at.ensures.value (none_packed found piece.start piece.len (k + 1) body c.found-found.ensures)
+          ∙ ap (λ key. told_after key None (k + 1) rest (read_inline rest None (length specs) body (k + 1) c.found-found.result.next)) (sym c.push.ensures);
+      count = rw c.push.ensures (length-append c.loop-spec.key _ ∙ rw c.loop-spec.invariant.count refl);
+      fits = rw c.push.ensures (fits_push specs c.loop-spec.key _ none k c.loop-spec.invariant.count c.loop-spec-test.true c.loop-spec.invariant.fits c.value_at.ensures.fits);
+      within = rw c.found-found.ensures c.in-Some.ensures.within;
+    }
+
+pub returns-clause-value : goal.returns-clause-value
+returns-clause-value c e =
+    c.loop-spec.invariant.told
+    ∙ told_end c.args.specs.now c.args.body.now c.loop-spec.key c.loop-spec.spec-index c.loop-spec.place (omega (arith, c.loop-spec-test.false))
+
+pub returns-clause-count : goal.returns-clause-count
+returns-clause-count c e = omega (arith, c.loop-spec.invariant.count, c.loop-spec-test.false, c.loop-spec.auto.spec-index-end)
+
+pub returns-clause-fits : goal.returns-clause-fits
+returns-clause-fits c e = c.loop-spec.invariant.fits
