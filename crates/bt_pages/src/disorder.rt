@@ -16,7 +16,7 @@ use crate::turns::read_item;
 use bt_tuples::ItemKeys;
 use key_orders::{KeySpec, MoreSpec, SepRef};
 use page_layout::{PageKind, PageView, Rule};
-use tree_image::spot_of;
+use tree_image::{ItemPlaces, spot_of};
 
 // The key of the last entry of item i; before the first item none is kept.
 fn last_key_at<'p>(page: PageView<'p>, i: u16, specs: &[KeySpec], more: &[MoreSpec]) -> SepRef<'p>
@@ -57,7 +57,8 @@ fn is_low_item(page: PageView<'_>, i: u16, specs: &[KeySpec], more: &[MoreSpec])
     ensures { result ≡ breaks_order specs.now more.now (page_bytes page.entry) i }
 {
     let before = last_key_at(page, i - 1, specs, more);
-    match read_item(page, i, specs, more, &before, &mut ItemKeys::new()) {
+    let at = ItemPlaces::of(page).at(i);
+    match read_item(page, at, specs, more, &before, &mut ItemKeys::new()) {
         None => false,
         Some(is_low) => is_low,
     }

@@ -70,7 +70,7 @@ fn pass_over(page: PageView<'_>, specs: &[KeySpec], more: &[MoreSpec]) -> Pass
         (are_plain specs.now more.now (page_bytes page.entry) (count_of (page_bytes page.entry)))
         (is_disordered specs.now more.now (page_bytes page.entry)) }
 {
-    let mut turns = Turns::new();
+    let mut turns = Turns::new(page);
     let mut is_disordered = false;
     for k in 0..page.item_count() {
         match turns.read(page, k + 1, specs, more) {

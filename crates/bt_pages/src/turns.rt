@@ -9,51 +9,54 @@ ghost use Rattle.varlena_attrs.specs.Keyed.{key_types, more_types};
 ghost use Rattle.bt_meta.specs.Flags.{is_half_dead};
 ghost use Rattle.bt_meta.specs.Pages.{opaque_of};
 ghost use Rattle.tree_image.specs.Pages.{breaks_order};
+ghost use Rattle.tree_image.specs.Places.{place_of, places_of};
 ghost use Rattle.bt_pages.specs.Passes.{IsCarried, held};
 ghost use Rattle.bt_pages.specs.Questions.{is_plain};
 
 use bt_tuples::ItemKeys;
 use key_orders::{KeySpec, MoreSpec, SepRef};
 use page_layout::{PageKind, PageView};
-use tree_image::{breaks_order, spot_of};
+use tree_image::{ItemPlace, ItemPlaces, breaks_order};
 
-// Reads item i into a place, where it is plain, and tells whether it isn't above the item before, whose
+// Reads an item into a place, where it is plain, and tells whether it isn't above the item before, whose
 // last key is in hand (B10). The place then has the key of the last entry.
 #[inline]
 pub fn read_item<'p>(
     page: PageView<'p>,
-    i: u16,
+    at: ItemPlace,
     specs: &[KeySpec],
     more: &[MoreSpec],
     before: &SepRef<'p>,
     keys: &mut ItemKeys<'p>,
 ) -> Option<bool>
     requires page { page_rule_of PageKind.Tree (page_bytes page) ≡ None }
-    requires first { 1 ≤ i }
-    requires last { i ≤ count_of (page_bytes page) }
+    requires place { at ≡ place_of (page_bytes page) at.number }
+    requires first { 1 ≤ at.number }
+    requires last { at.number ≤ count_of (page_bytes page) }
     requires few { length specs.now ≤ 8 }
     requires few_more { length more.now ≤ 24 }
     requires aligned { All HasAlignment (key_types specs.now) }
     requires aligned_more { All HasAlignment (more_types more.now) }
     requires live { is_half_dead (opaque_of (page_bytes page)) ≡ false }
-    requires before { IsCarried specs.now more.now (page_bytes page) (i - 1) before.now }
-    ensures plain { is_plain specs.now more.now (page_bytes page.entry) i ≡ is_some result }
-    ensures low { IfSome result (λ low. low ≡ breaks_order specs.now more.now (page_bytes page.entry) i) }
-    ensures last { IfSome result (λ low. IsCarried specs.now more.now (page_bytes page.entry) i keys.new.first) }
+    requires before { IsCarried specs.now more.now (page_bytes page) (at.number - 1) before.now }
+    ensures plain { is_plain specs.now more.now (page_bytes page.entry) at.number ≡ is_some result }
+    ensures low { IfSome result (λ low. low ≡ breaks_order specs.now more.now (page_bytes page.entry) at.number) }
+    ensures last { IfSome result (λ low. IsCarried specs.now more.now (page_bytes page.entry) at.number keys.new.first) }
 {
-    match keys.read(page, i, specs, more, spot_of(page, i)) {
+    match keys.read(page, at.number, specs, more, at.spot) {
         Err(_) => None,
         Ok(()) => {
-            let is_low = breaks_order(page, i, specs, before, keys);
+            let is_low = breaks_order(at, specs, before, keys);
             keys.keep_last();
             Some(is_low)
         }
     }
 }
 
-// The key of the last entry of the item that was read last, and room for that of the next.
+// The key of the last entry of the item of a page that was read last, and room for that of the next.
 #[derive(Drop)]
 pub struct Turns<'p> {
+    places: ItemPlaces,
     left: ItemKeys<'p>,
     right: ItemKeys<'p>,
     // Which of them was read last.
@@ -61,11 +64,13 @@ pub struct Turns<'p> {
 }
 
 impl<'p> Turns<'p> {
-    // Before the first item.
-    pub fn new() -> Turns<'p>
-        ensures { separator_of (held result) ≡ record { kept = []; tid = None } }
+    // Before the first item of a page.
+    pub fn new(page: PageView<'_>) -> Turns<'p>
+        ensures places { result.places ≡ places_of (page_bytes page.entry) }
+        ensures held { separator_of (held result) ≡ record { kept = []; tid = None } }
     {
         Turns {
+            places: ItemPlaces::of(page),
             left: ItemKeys::new(),
             right: ItemKeys::new(),
             is_right: false,
@@ -94,6 +99,7 @@ impl<'p> Turns<'p> {
         more: &[MoreSpec],
     ) -> Option<bool>
         requires page { page_rule_of PageKind.Tree (page_bytes page) ≡ None }
+        requires places { self.old.places ≡ places_of (page_bytes page) }
         requires first { 1 ≤ i }
         requires last { i ≤ count_of (page_bytes page) }
         requires few { length specs.now ≤ 8 }
@@ -102,14 +108,16 @@ impl<'p> Turns<'p> {
         requires aligned_more { All HasAlignment (more_types more.now) }
         requires live { is_half_dead (opaque_of (page_bytes page)) ≡ false }
         requires before { IsCarried specs.now more.now (page_bytes page) (i - 1) (held self.old) }
+        ensures places { self.new.places ≡ self.old.places }
         ensures plain { is_plain specs.now more.now (page_bytes page.entry) i ≡ is_some result }
         ensures low { IfSome result (λ low. low ≡ breaks_order specs.now more.now (page_bytes page.entry) i) }
         ensures last { IfSome result (λ low. IsCarried specs.now more.now (page_bytes page.entry) i (held self.new)) }
     {
+        let at = self.places.at(i);
         let is_low = if self.is_right {
-            read_item(page, i, specs, more, &self.right.first, &mut self.left)
+            read_item(page, at, specs, more, &self.right.first, &mut self.left)
         } else {
-            read_item(page, i, specs, more, &self.left.first, &mut self.right)
+            read_item(page, at, specs, more, &self.left.first, &mut self.right)
         };
         self.is_right = !self.is_right;
         is_low

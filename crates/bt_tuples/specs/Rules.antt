@@ -37,6 +37,11 @@ is_pivot Pivot = true
 is_pivot Plain = false
 is_pivot Posting = false
 
+abbrev pub is_plain : HeadKind → Bool
+is_plain Pivot = false
+is_plain Plain = true
+is_plain Posting = false
+
 abbrev pub is_posting : HeadKind → Bool
 is_posting Pivot = false
 is_posting Plain = false

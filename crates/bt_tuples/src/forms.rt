@@ -1,6 +1,6 @@
 //! Which forms of tuples may stand where (rule B7).
 ghost use Rattle.std.specs.Prelude.{◌≡◌};
-ghost use Rattle.bt_tuples.specs.Rules.{breaks_form, is_pivot, is_posting, keeps_wrong};
+ghost use Rattle.bt_tuples.specs.Rules.{breaks_form, is_pivot, is_plain, is_posting, keeps_wrong};
 
 use crate::heads::{keeps_tid, number_of};
 use crate::items::Spot3;
@@ -11,6 +11,13 @@ fn is_pivot(kind: HeadKind) -> bool
     ensures { result ≡ is_pivot kind }
 {
     matches!(kind, HeadKind::Pivot)
+}
+
+#[inline]
+pub(crate) fn is_plain(kind: HeadKind) -> bool
+    ensures { result ≡ is_plain kind }
+{
+    matches!(kind, HeadKind::Plain)
 }
 
 #[inline]

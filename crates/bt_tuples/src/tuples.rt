@@ -1,6 +1,6 @@
 //! The bytes of an index tuple: which of the rules B6 to B9 they break, and the values of its key.
 ghost use Rattle.std.specs.Prelude.{◌≡◌, ◌≢◌, ◌<◌, ◌≤◌, ◌+◌, ◌*◌, ◌++◌, [], Bool};
-ghost use Rattle.std.specs.Prelude.{List, length, true, false, All, IfErr, IfOk, Ok, Err};
+ghost use Rattle.std.specs.Prelude.{List, length, true, false, All, IfErr, IfOk, IfSome, Ok, Err};
 ghost use Rattle.key_orders.specs.declared.more.MoreSpec.{MoreSpec as More};
 ghost use Rattle.key_orders.specs.Keys.{fits_columns};
 ghost use Rattle.key_orders.specs.Types.{HasAlignment};
@@ -12,9 +12,10 @@ ghost use Rattle.bt_tuples.specs.Rules.{breaks_tids, breaks_tids_by, is_pivot};
 ghost use Rattle.bt_tuples.specs.Shown.{outcome_with};
 ghost use Rattle.bt_tuples.specs.Tuples.{body_begin, body_end, keeps_tid, kept_tid, number_of, values_in};
 
-use crate::forms::breaks_form;
+use crate::forms::{breaks_form, is_plain};
 use crate::heads::{
-    TID_LEN, body_begin, body_end, body_of, keeps_tid, null_bits_of, number_of, size_of,
+    TID_LEN, body_begin, body_end, body_of, has_null_bits, keeps_tid, null_bits_of, number_of,
+    size_of,
 };
 use crate::items::{ItemFault, Spot3};
 use crate::tids::{are_not_rising, tid_at};
@@ -246,11 +247,45 @@ fn read_key<'p>(
     }
 }
 
-// Reads the values of the key of a tuple at a place of this kind, where the tuple breaks none of the
-// rules B6 to B9 and has no compressed value. Then it answers its head.
+// Reads the values of a plain tuple of a leaf without null bits, in an index without included columns, where
+// it breaks none of the rules B6 to B9 and has no compressed value. Then it answers its head. A second way
+// to what `read_any_tuple` answers, for its speed alone: nearly all items of an index are such tuples.
 #[inline(always)]
 #[tactic(auto, unfolding(crate::specs::Items::tuple_outcome))]
-pub(crate) fn read_tuple<'p>(
+fn read_plain_tuple<'p>(
+    specs: &[KeySpec],
+    tuple: &'p [u8],
+    key: &mut KeyRefs<'p>,
+) -> Option<TreeHead>
+    requires few { length specs.now ≤ 8 }
+    requires aligned { All HasAlignment (key_types specs.now) }
+    requires long { 8 ≤ length tuple.now }
+    ensures head { IfSome result (λ head. head ≡ tree_head_of tuple.now) }
+    ensures kind { IfSome result (λ head. head.kind ≡ HeadKind.Plain) }
+    ensures begins { IfSome result (λ head. body_begin head ≤ body_end head (length tuple.now)) }
+    ensures outcome { IfSome result (λ head. (killed : Bool)
+        → tuple_outcome specs.now [] Spot3.LeafItem tuple.now killed ≡ Ok (meaning_of specs.now [] tuple.now killed)) }
+    ensures value { IfSome result (λ head. values_in specs.now [] tuple.now ≡ Ok key.new) }
+    ensures count { IfSome result (λ head. length key.new ≡ length specs.now) }
+    ensures fits { IfSome result (λ head. fits_columns specs.now key.new ≡ true) }
+{
+    let head = tree_head(tuple);
+    if !is_plain(head.kind) || has_null_bits(head) || head.item == 0 {
+        return None;
+    }
+    if usize::from(size_of(head)) != tuple.len() {
+        return None;
+    }
+    match read_whole_key(specs, tuple, head, key) {
+        Err(_) => None,
+        Ok(()) => Some(head),
+    }
+}
+
+// Reads the values of the key of any tuple, as `read_tuple` does.
+#[inline(never)]
+#[tactic(auto, unfolding(crate::specs::Items::tuple_outcome))]
+fn read_any_tuple<'p>(
     specs: &[KeySpec],
     more: &[MoreSpec],
     spot: Spot3,
@@ -296,4 +331,41 @@ pub(crate) fn read_tuple<'p>(
             Ok(head)
         }
     }
+}
+
+// Reads the values of the key of a tuple at a place of this kind, where the tuple breaks none of the
+// rules B6 to B9 and has no compressed value. Then it answers its head.
+#[inline(always)]
+pub(crate) fn read_tuple<'p>(
+    specs: &[KeySpec],
+    more: &[MoreSpec],
+    spot: Spot3,
+    tuple: &'p [u8],
+    key: &mut KeyRefs<'p>,
+) -> Result<TreeHead, ItemFault>
+    requires few { length specs.now ≤ 8 }
+    requires few_more { length more.now ≤ 24 }
+    requires aligned { All HasAlignment (key_types specs.now) }
+    requires aligned_more { All HasAlignment (more_types more.now) }
+    requires long { 8 ≤ length tuple.now }
+    ensures head { IfOk result (λ head. head ≡ tree_head_of tuple.now) }
+    ensures begins { IfOk result (λ head. body_begin head ≤ body_end head (length tuple.now)) }
+    ensures outcome { (killed : Bool) → outcome_with result (meaning_of specs.now more.now tuple.now killed)
+        ≡ tuple_outcome specs.now more.now spot tuple.now killed }
+    ensures value { IfOk result (λ head.
+        BeginsWithKey more.now head.kind (values_in specs.now more.now tuple.now) key.new) }
+    ensures count { IfOk result (λ head. length key.new ≡ key_count head (length specs.now)) }
+    ensures fits { IfOk result (λ head. fits_columns specs.now key.new ≡ true) }
+    ensures whole { IfOk result (λ head. head.kind ≡ HeadKind.Pivot → keeps_tid head ≡ true
+        → number_of head ≡ length specs.now) }
+    ensures some { IfOk result (λ head. head.kind ≡ HeadKind.Posting → 0 < number_of head) }
+    ensures within { IfOk result (λ head. head.kind ≡ HeadKind.Posting
+        → head.block + 6 * number_of head ≤ length tuple.now) }
+{
+    if more.is_empty() && matches!(spot, Spot3::LeafItem) {
+        if let Some(head) = read_plain_tuple(specs, tuple, key) {
+            return Ok(head);
+        }
+    }
+    read_any_tuple(specs, more, spot, tuple, key)
 }

@@ -6,8 +6,10 @@
 
 mod laws;
 mod order;
+mod places;
 #[cfg(test)]
 mod tests;
 
 pub use laws::{entries_are_gathered, kept_rules_make_a_sound_image};
-pub use order::{breaks_high_key, breaks_order, first_data, has_high_key, spot_of};
+pub use order::{breaks_high_key, breaks_order};
+pub use places::{ItemPlace, ItemPlaces, first_data, has_high_key, spot_of};

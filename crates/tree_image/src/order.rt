@@ -1,86 +1,42 @@
 //! The items of a page in their order (rules B10 and B11), where they lie. A loop over a page reads
 //! each item once, and carries the last key of the item before.
-ghost use Rattle.std.specs.Prelude.{◌≡◌, ◌-◌, ◌≤◌, List, None};
+ghost use Rattle.std.specs.Prelude.{◌≡◌, ◌-◌, ◌≤◌, ℕ, List, None};
 ghost use Rattle.key_orders.specs.declared.more.MoreSpec.{MoreSpec as More};
 ghost use Rattle.page_layout.specs.Page.{count_of, page_rule_of};
 ghost use Rattle.page_layout.specs.View.{page_bytes};
 ghost use Rattle.key_orders.specs.Keys.{IsKeySeparator};
 ghost use Rattle.key_orders.specs.Separators.{separator_of};
 ghost use Rattle.bt_tuples.specs.Keys.{first_key, last_key};
-ghost use Rattle.tree_image.specs.Image.{first_data, has_high_key, item_at, separator_in, spot_of};
+ghost use Rattle.tree_image.specs.Image.{item_at, separator_in};
 ghost use Rattle.tree_image.specs.Pages.{breaks_high_key, breaks_order, first_compared, is_past, least_for_high_key};
+ghost use Rattle.tree_image.specs.Places.{place_of};
 
+use crate::places::{ItemPlace, first_data, has_high_key};
 use bt_meta::opaque;
-use bt_tuples::{ItemKeys, Spot3};
+use bt_tuples::ItemKeys;
 use key_orders::{KeySpec, SepRef, cmp_two_seps};
 use page_layout::{PageKind, PageView};
 
-/// Whether a page has a high key, its item 1: it has a right sibling.
-#[inline]
-pub fn has_high_key(page: PageView<'_>) -> bool
-    ensures { result ≡ has_high_key (page_bytes page.entry) }
-{
-    opaque(page).next != 0
-}
-
-/// The number of a page's first data item.
-#[inline]
-pub fn first_data(page: PageView<'_>) -> u16
-    ensures { result ≡ first_data (page_bytes page.entry) }
-{
-    if has_high_key(page) { 2 } else { 1 }
-}
-
-/// The place of item i, which says what form it has to have.
-#[inline]
-pub fn spot_of(page: PageView<'_>, i: u16) -> Spot3
-    ensures { result ≡ spot_of (page_bytes page.entry) i }
-{
-    let first = first_data(page);
-    if i < first {
-        Spot3::HighKey
-    } else if opaque(page).is_leaf() {
-        Spot3::LeafItem
-    } else if i == first {
-        Spot3::FirstInner
-    } else {
-        Spot3::Inner
-    }
-}
-
-// The number of the first data item that is compared with the one before it.
-#[inline]
-fn first_compared(page: PageView<'_>) -> u16
-    ensures { result ≡ first_compared (page_bytes page.entry) }
-{
-    if opaque(page).is_leaf() {
-        first_data(page) + 1
-    } else {
-        first_data(page) + 2
-    }
-}
-
-/// Whether item i breaks B10: it is a data item that is compared with the one before it, and isn't
+/// Whether an item breaks B10: it is a data item that is compared with the one before it, and isn't
 /// above it. It is asked with the last key of the item before, if it is compared with that, and with the
 /// keys of the item.
 #[inline]
 #[tactic(auto, unfolding(crate::specs::Pages::breaks_order))]
 pub fn breaks_order(
-    page: PageView<'_>,
-    i: u16,
+    at: ItemPlace,
     specs: &[KeySpec],
     before: &SepRef<'_>,
     keys: &ItemKeys<'_>,
 ) -> bool
     requires before { IsKeySeparator specs.now (separator_of before.now) }
     requires item { IsKeySeparator specs.now (separator_of keys.now.first) }
-    ensures { (more : List More)
-        → (first_compared (page_bytes page.entry) ≤ i
-        → separator_of before.now ≡ last_key (item_at specs.now more (page_bytes page.entry) (i - 1)))
-        → separator_of keys.now.first ≡ first_key (item_at specs.now more (page_bytes page.entry) i)
-        → result ≡ breaks_order specs.now more (page_bytes page.entry) i }
+    ensures { (more : List More) (page : List ℕ) → at ≡ place_of page at.number
+        → (first_compared page ≤ at.number
+        → separator_of before.now ≡ last_key (item_at specs.now more page (at.number - 1)))
+        → separator_of keys.now.first ≡ first_key (item_at specs.now more page at.number)
+        → result ≡ breaks_order specs.now more page at.number }
 {
-    first_compared(page) <= i && !cmp_two_seps(specs, before, &keys.first).is_lt()
+    at.is_compared && !cmp_two_seps(specs, before, &keys.first).is_lt()
 }
 
 // Whether the last key of a leaf is above the high key, or the last separator of an internal page

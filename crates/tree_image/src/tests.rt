@@ -3,7 +3,7 @@ ghost use Rattle.std.specs.Prelude.{◌≡◌, ◌≤◌, length, All};
 ghost use Rattle.key_orders.specs.Types.{HasAlignment};
 ghost use Rattle.varlena_attrs.specs.Keyed.{key_types};
 
-use crate::{breaks_high_key, breaks_order, first_data, has_high_key, spot_of};
+use crate::{ItemPlaces, breaks_high_key, breaks_order, first_data, has_high_key, spot_of};
 use bt_tuples::{ItemKeys, Spot3};
 use key_orders::{ColType, KeySpec};
 use page_layout::{PageKind, PageView};
@@ -68,7 +68,7 @@ fn broken(bytes: &[u8; 8192]) -> Option<(bool, bool)> {
     first.read(page, 1, &specs, &[], spot_of(page, 1)).ok()?;
     second.read(page, 2, &specs, &[], spot_of(page, 2)).ok()?;
     first.keep_last();
-    let order = breaks_order(page, 2, &specs, &first.first, &second);
+    let order = breaks_order(ItemPlaces::of(page).at(2), &specs, &first.first, &second);
     second.keep_last();
     let high_key = breaks_high_key(page, &specs, &second.first, &first.first);
     Some((order, high_key))

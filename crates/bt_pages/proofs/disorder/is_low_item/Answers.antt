@@ -1,9 +1,16 @@
-use Rattle.std.proofs.Common.{◌≡◌, ◌∙◌, sym, true, false}
+use Rattle.std.proofs.Common.{◌≡◌, ◌∙◌, ap, sym, subst, true, false}
 use Rattle.page_layout.specs.View.{page_bytes}
+use Rattle.tree_image.specs.declared.places.ItemPlace.{ItemPlace}
+use Rattle.bt_pages.specs.Questions.{is_plain}
 use Rattle.bt_pages.proofs.Passing.{plain-each}
 use Rattle.bt_pages.proofs.disorder.is_low_item.Goals as goal
 
 pub returns-in-None : goal.returns-in-None
 returns-in-None c =
+    let specs = c.args.specs.now in
+    let more = c.args.more.now in
+    let page = page_bytes c.args.page in
+    let number = ap (λ (p : ItemPlace). p.number) (c.at-at.ensures page c.of.ensures) in
     absurd (let both : true ≡ false =
-    sym (plain-each c.args.specs.now c.args.more.now (page_bytes c.args.page) c.args.i _ c.requires.first c.requires.last c.requires.plain) ∙ c.in-None.ensures.plain in cc)
+    sym (plain-each specs more page c.args.i _ c.requires.first c.requires.last c.requires.plain)
+    ∙ subst (λ i. is_plain specs more page i ≡ false) number c.in-None.ensures.plain in cc)

@@ -10,9 +10,10 @@ use Rattle.bt_pages.proofs.order.pass_over.Goals.{then-is_disordered, else-is_di
 
 pub loop-k-init : goal.loop-k-init
 loop-k-init c = record {
+  places = c.new-turns.ensures.places;
   plain = plain-none c.args.specs.now c.args.more.now (page_bytes c.args.page);
   carried = record {
-    fits = subst (IsKeySeparator c.args.specs.now) (sym c.new-turns.ensures) (nothing-fits c.args.specs.now);
+    fits = subst (IsKeySeparator c.args.specs.now) (sym c.new-turns.ensures.held) (nothing-fits c.args.specs.now);
     key_is = λ from. absurd (omega (arith, from));
   };
   disordered = sym (disordered-none c.args.specs.now c.args.more.now (page_bytes c.args.page));
@@ -30,6 +31,7 @@ loop-k-preserved c =
       | else-is_disordered w ↦ new_flag _ c.in-Some.is_low _ w.if-is_disordered.false w.is_disordered-is
     ] in
     record {
+      places = c.read.ensures.places ∙ c.loop-k.invariant.places;
       plain = plain-next c.args.specs.now c.args.more.now (page_bytes c.args.page) c.loop-k.k c.loop-k.invariant.plain c.in-Some.ensures.plain;
       carried = c.in-Some.ensures.last;
       disordered =

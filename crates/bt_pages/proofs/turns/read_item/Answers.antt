@@ -1,21 +1,27 @@
-use Rattle.std.proofs.Common.{◌≡◌, ◌∙◌, ap, sym, subst, arith}
+use Rattle.std.proofs.Common.{◌≡◌, ◌∙◌, ℕ, List, ap, sym, subst, arith}
 use Rattle.page_layout.specs.View.{page_bytes}
 use Rattle.key_orders.specs.Keys.{IsKeySeparator}
 use Rattle.bt_tuples.specs.Keys.{first_key, last_key}
-use Rattle.tree_image.specs.Image.{item_at}
+use Rattle.tree_image.specs.declared.places.ItemPlace.{ItemPlace}
+use Rattle.tree_image.specs.Image.{item_at, spot_of}
+use Rattle.tree_image.specs.Places.{place_of}
 use Rattle.bt_pages.proofs.Orders.{compared-past_1}
 use Rattle.bt_pages.proofs.Plain.{at_spot, fits-first, fits-last, item-means, plain-read, plain-unread}
 use Rattle.bt_pages.proofs.turns.read_item.Goals as goal
 
+-- what form an item has to have
+spot_is : (at : ItemPlace) (page : List ℕ) → at ≡ place_of page at.number → at.spot ≡ spot_of page at.number
+spot_is at page is = ap (λ (p : ItemPlace). p.spot) is
+
 pub returns-in-Err-clause-plain : goal.returns-in-Err-clause-plain
 returns-in-Err-clause-plain c =
-    plain-unread c.args.specs.now c.args.more.now (page_bytes c.args.page) c.args.i _ c.requires.live
-    (at_spot c.args.specs.now c.args.more.now (page_bytes c.args.page) c.args.i _ _ c.spot_of.ensures (sym c.in-Err.ensures.fault))
+    plain-unread c.args.specs.now c.args.more.now (page_bytes c.args.page) c.args.at.number _ c.requires.live
+    (at_spot c.args.specs.now c.args.more.now (page_bytes c.args.page) c.args.at.number _ _ (spot_is c.args.at (page_bytes c.args.page) c.requires.place) (sym c.in-Err.ensures.fault))
 
 pub returns-in-Ok-clause-plain : goal.returns-in-Ok-clause-plain
 returns-in-Ok-clause-plain c =
-    plain-read c.args.specs.now c.args.more.now (page_bytes c.args.page) c.args.i _ c.requires.live
-    (at_spot c.args.specs.now c.args.more.now (page_bytes c.args.page) c.args.i _ _ c.spot_of.ensures (sym c.in-Ok.ensures.keys.is))
+    plain-read c.args.specs.now c.args.more.now (page_bytes c.args.page) c.args.at.number _ c.requires.live
+    (at_spot c.args.specs.now c.args.more.now (page_bytes c.args.page) c.args.at.number _ _ (spot_is c.args.at (page_bytes c.args.page) c.requires.place) (sym c.in-Ok.ensures.keys.is))
 
 pub breaks_order-is_low-requires-clause-before : goal.breaks_order-is_low-requires-clause-before
 breaks_order-is_low-requires-clause-before c = c.requires.before.fits
@@ -28,15 +34,15 @@ breaks_order-is_low-requires-clause-item c =
 pub returns-in-Ok-clause-low : goal.returns-in-Ok-clause-low
 returns-in-Ok-clause-low c =
     let keys = c.in-Ok.ensures.keys in
-    let means : keys.item ≡ item_at c.args.specs.now c.args.more.now (page_bytes c.args.page) c.args.i =
-    item-means c.args.specs.now c.args.more.now (page_bytes c.args.page) c.args.i c.requires.live _ (at_spot c.args.specs.now c.args.more.now (page_bytes c.args.page) c.args.i _ _ c.spot_of.ensures (sym keys.is)) in
-    c.breaks_order-is_low.ensures c.args.more.now (λ compared. c.requires.before.key_is (let past = compared-past_1 (page_bytes c.args.page) in omega (arith, compared, past))) (keys.first ∙ ap first_key means)
+    let means : keys.item ≡ item_at c.args.specs.now c.args.more.now (page_bytes c.args.page) c.args.at.number =
+    item-means c.args.specs.now c.args.more.now (page_bytes c.args.page) c.args.at.number c.requires.live _ (at_spot c.args.specs.now c.args.more.now (page_bytes c.args.page) c.args.at.number _ _ (spot_is c.args.at (page_bytes c.args.page) c.requires.place) (sym keys.is)) in
+    c.breaks_order-is_low.ensures c.args.more.now (page_bytes c.args.page) c.requires.place (λ compared. c.requires.before.key_is (let past = compared-past_1 (page_bytes c.args.page) in omega (arith, compared, past))) (keys.first ∙ ap first_key means)
 
 pub returns-in-Ok-clause-last : goal.returns-in-Ok-clause-last
 returns-in-Ok-clause-last c =
     let keys = c.in-Ok.ensures.keys in
-    let means : keys.item ≡ item_at c.args.specs.now c.args.more.now (page_bytes c.args.page) c.args.i =
-    item-means c.args.specs.now c.args.more.now (page_bytes c.args.page) c.args.i c.requires.live _ (at_spot c.args.specs.now c.args.more.now (page_bytes c.args.page) c.args.i _ _ c.spot_of.ensures (sym keys.is)) in
+    let means : keys.item ≡ item_at c.args.specs.now c.args.more.now (page_bytes c.args.page) c.args.at.number =
+    item-means c.args.specs.now c.args.more.now (page_bytes c.args.page) c.args.at.number c.requires.live _ (at_spot c.args.specs.now c.args.more.now (page_bytes c.args.page) c.args.at.number _ _ (spot_is c.args.at (page_bytes c.args.page) c.requires.place) (sym keys.is)) in
     let key = c.keep_last.ensures ∙ keys.last in
     record {
       fits = subst (IsKeySeparator c.args.specs.now) (sym key) (fits-last c.args.specs.now keys.item keys.fits);
