@@ -1,12 +1,12 @@
 -- A search goes from page to page: what each visit leaves of it.
 use Rattle.std.proofs.Common.{◌≡◌, ◌≢◌, ℕ, zero, suc, ◌+◌, ◌<◌, ◌≤◌, ◌⊎◌, inl, inr, Bool, true, false, List, [], refl, ap, sym, subst, ◌∙◌, arith}
-use Rattle.std.specs.Prelude.{IfOk, Result, Ok, Err, not, nat_lt, ◌==◌}
+use Rattle.std.specs.Prelude.{IfOk, Result, Ok, Err, None, Option, Some, cond, not, nat_lt, ◌==◌, ◌||◌, ◌∷◌}
 use Rattle.std.proofs.lemmas.Bool.{and_cases, and_from, both_ways, cases_lt, cond-false, cond-true, eq-eqb, lt-ltb, ne_eqb, not_from_false, or_parts}
 use Rattle.outside.specs.Outside.{Names}
 use Rattle.page_layout.specs.Page.{count_of}
 use Rattle.tree_search.specs.Keys.{Entry}
 use Rattle.tree_search.specs.Order.{Scan}
-use Rattle.tree_search.specs.Search.{Answers, At, Ended, IsWanted, State, Stuck, search_start, visit, visit_page}
+use Rattle.tree_search.specs.Search.{Answers, At, Ended, IsWanted, State, Stuck, descend, right_of, search_start, visit, visit_page}
 use Rattle.tree_search.specs.Spots.{Stands, VisitsOn, from_place, left_of, rest_of, visits_made, yielded_of}
 use Rattle.tree_search.specs.Tree.{Index}
 use Rattle.tree_search.proofs.Whole.{after_ended}
@@ -16,19 +16,20 @@ use Rattle.key_orders.specs.declared.Tid.{Tid}
 use Rattle.key_orders.specs.Scans.{Bounds, order_of}
 use Rattle.bt_meta.specs.Flags.{is_half_dead, is_leaf}
 use Rattle.bt_meta.specs.Pages.{opaque_of}
-use Rattle.tree_image.specs.Image.{first_data, has_high_key, page_image}
+use Rattle.tree_image.specs.Image.{TreePage, first_data, has_high_key, page_image}
 use Rattle.tree_image.specs.Pages.{breaks_items}
 use Rattle.bt_levels.specs.declared.sound.SoundTree.{SoundTree}
 use Rattle.bt_levels.specs.Sound.{HoldsTree, block_count, fastroot_of, held_block, image_of, specs_of}
-use Rattle.bt_search.specs.declared.inner.Step.{Step}
-use Rattle.bt_search.specs.declared.inner.Step.TheVariants.{To, Read, Lost}
+use Rattle.bt_steps.specs.declared.inner.Step.{Step}
+use Rattle.bt_steps.specs.declared.inner.Step.TheVariants.{To, Read, Lost}
 use Rattle.bt_search.specs.declared.spot.Spot.{Spot}
-use Rattle.bt_search.specs.Descents.{ComesTo, GoesOn, Leads}
-use Rattle.bt_search.specs.Entries.{IsPlaceOn, entries_before, place_of}
-use Rattle.bt_search.specs.Pages.{IsReadable, is_killed, is_left_behind}
+use Rattle.bt_search.specs.Descents.{ComesTo, GoesOn, scan_goes}
+use Rattle.bt_steps.specs.Entries.{IsPlaceOn, entries_before, place_of}
+use Rattle.bt_steps.specs.Pages.{IsReadable, is_killed}
+use Rattle.bt_steps.specs.Ways.{Key, Leads, down_to, is_left_behind, next_of}
 use Rattle.bt_search.specs.Spots.{StandsAt, left_at, left_from, rest_at, rest_from, scan_on, state_at}
 use Rattle.bt_search.specs.Steps.{GoesInSteps}
-use Rattle.bt_search.proofs.Places.{before-first}
+use Rattle.bt_steps.proofs.Places.{before-first}
 use Rattle.bt_search.proofs.Reading.{keys-some, readable-at, stands-there, state-there}
 
 -- a page that can be visited
@@ -36,6 +37,28 @@ visit-is : {S E : Type 0} (killed : E → Bool) (x : Index S E) (scan : Scan S E
 unfolding visit
 visit-is killed x scan b v =
     cond-true _ _ _ (and_from (not (b == 0)) _ (not_from_false (b == 0) (ne_eqb b 0 v.not_meta)) (and_from (nat_lt b x.blocks) _ (lt-ltb b x.blocks v.inside) (not_from_false _ v.used)))
+
+-- where a scan goes is where the searcher goes
+scan-goes : (killed : Entry Value Tid → Bool) (scan : Scan Key (Entry Value Tid)) (p : TreePage) (next : ℕ) → next_of scan.goes_right p ≡ Some next → visit_page killed scan p [] ≡ At next []
+unfolding visit_page
+scan-goes killed scan p next to = by_cases (right_of scan.goes_right p.high_key || p.half_dead) p.leaf p.children _ to
+  where
+    same : (m n : ℕ) → ◌≡◌ {A = Option ℕ} (Some m) (Some n) → ◌≡◌ {A = State (Entry Value Tid)} (At m []) (At n [])
+    same m n e = ap (λ (o : ℕ). At o []) (inner e)
+      where
+        inner : ◌≡◌ {A = Option ℕ} (Some m) (Some n) → m ≡ n
+        inner h = cc
+
+    down : (cs : List (Key × ℕ)) → down_to scan.goes_right cs ≡ Some next → descend scan cs [] ≡ At next []
+    down [] e = absurd cc
+    down (c ∷ cs) e = same _ next e
+
+    by_cases : (behind leaf : Bool) (cs : List (Key × ℕ)) (rest : State (Entry Value Tid))
+        → cond behind (Some p.next) (cond leaf None (down_to scan.goes_right cs)) ≡ Some next
+        → cond behind (At p.next []) (cond (not leaf) (descend scan cs []) rest) ≡ At next []
+    by_cases true leaf cs rest e = same p.next next e
+    by_cases false true cs rest e = absurd cc
+    by_cases false false cs rest e = down cs e
 
 -- who has ended makes no visit, and has nothing left
 made-none : {S E : Type 0} (killed : E → Bool) (x : Index S E) (scan : Scan S E) (n : ℕ) (es : List E) → visits_made killed x scan n (Ended es) ≡ 0
@@ -155,19 +178,20 @@ module _ (names : Names) (sound : SoundTree) (bounds : Bounds) (holds : HoldsTre
   readable-in : (page : List ℕ) → page ≡ held_block names sound b → IsReadable (specs_of sound) page
   readable-in page is = subst (IsReadable (specs_of sound)) (sym is) (readable-at names sound bounds holds steps b comes)
 
-  pub step-lost : (page : List ℕ) → page ≡ held_block names sound b → (IsReadable (specs_of sound) page → Leads (specs_of sound) bounds page Lost) → ⊥
+  pub step-lost : (page : List ℕ) → page ≡ held_block names sound b → (IsReadable (specs_of sound) page → Leads (specs_of sound) (scan_goes (specs_of sound) bounds) page Lost) → ⊥
   step-lost page is leads = leads (readable-in page is)
 
   -- to another page
-  goes-by : (next : ℕ) (page : List ℕ) → page ≡ held_block names sound b → (IsReadable (specs_of sound) page → Leads (specs_of sound) bounds page (To next)) → visit is_killed (image_of names sound) (scan_on sound bounds) b [] ≡ At next []
+  goes-by : (next : ℕ) (page : List ℕ) → page ≡ held_block names sound b → (IsReadable (specs_of sound) page → Leads (specs_of sound) (scan_goes (specs_of sound) bounds) page (To next)) → visit is_killed (image_of names sound) (scan_on sound bounds) b [] ≡ At next []
   goes-by next page is leads =
       visit-is is_killed (image_of names sound) (scan_on sound bounds) b v
-      ∙ subst (λ (p : List ℕ). visit_page is_killed (scan_on sound bounds) (page_image (specs_of sound) [] p) [] ≡ At next []) is (leads (readable-in page is))
+      ∙ subst (λ (p : List ℕ). visit_page is_killed (scan_on sound bounds) (page_image (specs_of sound) [] p) [] ≡ At next []) is
+      (scan-goes is_killed (scan_on sound bounds) (page_image (specs_of sound) [] page) next (leads (readable-in page is)))
 
-  pub step-comes : (next : ℕ) (page : List ℕ) → page ≡ held_block names sound b → (IsReadable (specs_of sound) page → Leads (specs_of sound) bounds page (To next)) → ComesTo names sound bounds next
+  pub step-comes : (next : ℕ) (page : List ℕ) → page ≡ held_block names sound b → (IsReadable (specs_of sound) page → Leads (specs_of sound) (scan_goes (specs_of sound) bounds) page (To next)) → ComesTo names sound bounds next
   step-comes next page is leads = v.goes_on next [] (goes-by next page is leads)
 
-  pub step-goes : (next : ℕ) (page : List ℕ) → page ≡ held_block names sound b → (IsReadable (specs_of sound) page → Leads (specs_of sound) bounds page (To next))
+  pub step-goes : (next : ℕ) (page : List ℕ) → page ≡ held_block names sound b → (IsReadable (specs_of sound) page → Leads (specs_of sound) (scan_goes (specs_of sound) bounds) page (To next))
       → (first : State (Entry Value Tid)) (before now : ℕ) → GoesOn names sound bounds first (At b []) before now → GoesOn names sound bounds first (At next []) before (now + 1)
   step-goes next page is leads first before now goes =
       let to = goes-by next page is leads in
@@ -176,15 +200,15 @@ module _ (names : Names) (sound : SoundTree) (bounds : Bounds) (holds : HoldsTre
       record { rest = goes.rest ∙ (v.rest ∙ ap (rest_from names sound bounds) to); left = omega (arith, left, so_far) }
 
   -- and to a leaf that is read
-  module _ (page : List ℕ) (is : page ≡ held_block names sound b) (leads : IsReadable (specs_of sound) page → Leads (specs_of sound) bounds page Read) (spot : Spot) (block : spot.block ≡ b) (item : spot.item ≡ first_data page) (nth : spot.nth ≡ 0) where
+  module _ (page : List ℕ) (is : page ≡ held_block names sound b) (leads : IsReadable (specs_of sound) page → Leads (specs_of sound) (scan_goes (specs_of sound) bounds) page Read) (spot : Spot) (block : spot.block ≡ b) (item : spot.item ≡ first_data page) (nth : spot.nth ≡ 0) where
     abbrev held : List ℕ
     held = held_block names sound b
 
     readable : IsReadable (specs_of sound) held
     readable = readable-at names sound bounds holds steps b comes
 
-    stays : is_left_behind (specs_of sound) bounds held ≡ false
-    stays = subst (λ (p : List ℕ). is_left_behind (specs_of sound) bounds p ≡ false) is (leads (readable-in page is)).0
+    stays : is_left_behind (specs_of sound) (scan_goes (specs_of sound) bounds) held ≡ false
+    stays = subst (λ (p : List ℕ). is_left_behind (specs_of sound) (scan_goes (specs_of sound) bounds) p ≡ false) is (leads (readable-in page is)).0
 
     leaf : is_leaf (opaque_of held) ≡ true
     leaf = subst (λ (p : List ℕ). is_leaf (opaque_of p) ≡ true) is (leads (readable-in page is)).1
@@ -227,9 +251,9 @@ module _ (names : Names) (sound : SoundTree) (bounds : Bounds) (holds : HoldsTre
         record { rest = goes.rest ∙ (v.rest ∙ ap (rest_from names sound bounds) there); left = omega (arith, left, so_far) }
 
 -- what is told of a page holds of the same bytes and columns
-pub leads-there : (s t : List KeySpec) (bounds : Bounds) (p q : List ℕ) (step : Step) → s ≡ t → p ≡ q → (IsReadable s p → Leads s bounds p step) → IsReadable t q → Leads t bounds q step
+pub leads-there : (s t : List KeySpec) (bounds : Bounds) (p q : List ℕ) (step : Step) → s ≡ t → p ≡ q → (IsReadable s p → Leads s (scan_goes s bounds) p step) → IsReadable t q → Leads t (scan_goes t bounds) q step
 leads-there s t bounds p q step a b leads =
-    subst (λ (k : List KeySpec). IsReadable k q → Leads k bounds q step) a (subst (λ (l : List ℕ). IsReadable s l → Leads s bounds l step) b leads)
+    subst (λ (k : List KeySpec). IsReadable k q → Leads k (scan_goes k bounds) q step) a (subst (λ (l : List ℕ). IsReadable s l → Leads s (scan_goes s bounds) l step) b leads)
 
 -- an answer that has one property has another
 pub ok-then : {T E : Type 0} {P Q : T → Type 0} (r : Result T E) → ((x : T) → P x → Q x) → IfOk r P → IfOk r Q

@@ -1,8 +1,5 @@
-pub mod Separators
-pub mod Halves
-pub mod Visiting
-pub mod Places
 pub mod Reading
 pub mod Asked
 pub mod Arriving
-pub mod Items
+mod Caching
+mod There

@@ -28,12 +28,13 @@ use Rattle.bt_search.specs.declared.leaf.Fate.{Fate}
 use Rattle.bt_search.specs.declared.leaf.Fate.TheVariants.{Past, Wanted, Other}
 use Rattle.bt_search.specs.declared.spot.Spot.{Spot}
 use Rattle.bt_search.specs.Descents.{ComesTo}
-use Rattle.bt_search.specs.Entries.{IsPlaceOn, IsRead, entries_before, entry_on, keys_at, place_of}
+use Rattle.bt_steps.specs.Entries.{IsPlaceOn, IsRead, entries_before, keys_at, place_of}
+use Rattle.bt_search.specs.Entries.{entry_on}
 use Rattle.bt_search.specs.Leaves.{Finishes, HasFate, Leaves, Passes, Yields}
-use Rattle.bt_search.specs.Pages.{IsReadable, is_killed}
+use Rattle.bt_steps.specs.Pages.{IsReadable, is_killed}
 use Rattle.bt_search.specs.Spots.{StandsAt, left_from, rest_from, scan_on, state_at}
 use Rattle.bt_search.specs.Steps.{GoesInSteps}
-use Rattle.bt_search.proofs.Places.{before-all, before-next, entry-there, image-entries}
+use Rattle.bt_steps.proofs.Places.{before-all, before-next, entry-there, image-entries}
 
 -- The pages of an index that the names hold
 
@@ -53,12 +54,6 @@ good-some (Posting key (t ∷ ts) killed) good = omega arith
 
 -- a leaf's items
 module _ (specs : List KeySpec) (page : List ℕ) (readable : IsReadable specs page) (leaf : is_leaf (opaque_of page) ≡ true) (alive : is_half_dead (opaque_of page) ≡ false) where
-  pub item-read : (i : ℕ) → first_data page ≤ i → i ≤ count_of page → IsRead specs page i
-  item-read i from to =
-      let one = first_cases page in
-      let plain = readable.items alive i (omega (arith, one, from)) to in
-      record { rules = subst (λ (s : Spot3). KeepsItemRules specs [] s page i) (leaf_spot page i leaf from) plain.rules; plain = plain.read }
-
   pub keys-some : (i : ℕ) → first_data page ≤ i → i ≤ count_of page → 0 < length (keys_at specs page i)
   unfolding keys_at
   keys-some i from to =

@@ -12,31 +12,7 @@ use Rattle.bt_tuples.specs.Rules.{KeepsItemRules, has_packed, tuple_of}
 use Rattle.tree_image.specs.Image.{first_data, item_at, keys_in, numbers_from}
 use Rattle.bt_search.specs.declared.spot.EntryRef.{EntryRef}
 use Rattle.bt_search.specs.declared.spot.Spot.{Spot}
-
--- the entries of item i, one for each TID
-unfoldable pub keys_at : List KeySpec → List ℕ → ℕ → List (Entry Value Tid)
-keys_at specs page i = keys_in (item_at specs [] page i)
-
--- how many entries the data items before item i have
-unfoldable pub entries_before : List KeySpec → List ℕ → ℕ → ℕ
-entries_before specs page i =
-    length (flat_map (λ k. keys_in (item_at specs [] page k)) (numbers_from (first_data page) (i - first_data page)))
-
--- the place of an item's nth entry among those of its page; both count from 0
-abbrev pub place_of : List KeySpec → List ℕ → (item nth : ℕ) → ℕ
-place_of specs page item nth = entries_before specs page item + nth
-
--- it is the place of an entry of a leaf, or the one behind the last
-pub record IsPlaceOn (specs : List KeySpec) (page : List ℕ) (item nth : ℕ) : Type 0 where
-  pub from : first_data page ≤ item
-  pub to : item ≤ count_of page + 1
-  pub inside : item ≤ count_of page → nth < length (keys_at specs page item)
-  pub behind : item ≡ count_of page + 1 → nth ≡ 0
-
--- item i can be read as a data item of a leaf
-pub record IsRead (specs : List KeySpec) (page : List ℕ) (i : ℕ) : Type 0 where
-  pub rules : KeepsItemRules specs [] LeafItem page i
-  pub plain : has_packed specs [] (tuple_of page i) ≡ false
+use Rattle.bt_steps.specs.Entries.{IsRead, keys_at}
 
 -- there is an entry at this place of the page
 pub record HasEntry (specs : List KeySpec) (page : List ℕ) (at : Spot) : Type 0 where

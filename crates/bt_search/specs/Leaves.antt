@@ -17,7 +17,7 @@ use Rattle.bt_search.specs.declared.leaf.OnItem.TheVariants as on
 use Rattle.bt_search.specs.declared.spot.Spot.{Spot}
 use Rattle.bt_search.specs.Descents.{ComesTo}
 use Rattle.bt_search.specs.Entries.{entry_on}
-use Rattle.bt_search.specs.Pages.{KeyScan, is_killed}
+use Rattle.bt_steps.specs.Pages.{KeyScan, is_killed}
 use Rattle.bt_search.specs.Spots.{StandsAt, left_at, left_from, rest_at, rest_from}
 
 -- what a scan does with an entry: it ends there, yields it, or passes over it

@@ -10,8 +10,9 @@ use Rattle.key_orders.specs.Scans.{Bounds, scan_of}
 use Rattle.bt_levels.specs.declared.sound.SoundTree.{SoundTree}
 use Rattle.bt_levels.specs.Sound.{fastroot_of, held_block, image_of, specs_of}
 use Rattle.bt_search.specs.declared.spot.Spot.{Spot}
-use Rattle.bt_search.specs.Entries.{HasEntry, IsPlaceOn, entry_on, place_of}
-use Rattle.bt_search.specs.Pages.{KeyScan, is_killed}
+use Rattle.bt_steps.specs.Entries.{IsPlaceOn, place_of}
+use Rattle.bt_search.specs.Entries.{HasEntry, entry_on}
+use Rattle.bt_steps.specs.Pages.{KeyScan, is_killed}
 
 -- a scan of an index
 abbrev pub scan_on : SoundTree → Bounds → KeyScan

@@ -7,7 +7,7 @@ use Rattle.key_orders.specs.Scans.{Bounds, order_of}
 use Rattle.bt_levels.specs.declared.sound.SoundTree.{SoundTree}
 use Rattle.bt_levels.specs.Sound.{block_count, image_of, specs_of}
 use Rattle.bt_search.specs.Descents.{ComesTo}
-use Rattle.bt_search.specs.Pages.{is_killed}
+use Rattle.bt_steps.specs.Pages.{is_killed}
 use Rattle.bt_search.specs.Spots.{left_from, rest_from, scan_on}
 
 -- What is left at the start is what the scan wants, and what the searcher has yielded when it has ended, within as many

@@ -8,13 +8,13 @@ ghost use Rattle.tree_search.specs.Search.{Answers, At, IsWanted, search_start};
 ghost use Rattle.key_orders.specs.Scans.{FitsKey, order_of};
 ghost use Rattle.bt_levels.specs.Sound.{HoldsTree, block_count, fastroot_of, held_block, image_of, specs_of};
 ghost use Rattle.bt_search.specs.Descents.{ComesTo, GoesOn};
-ghost use Rattle.bt_search.specs.Pages.{is_killed};
+ghost use Rattle.bt_steps.specs.Pages.{is_killed};
 ghost use Rattle.bt_search.specs.Spots.{StandsAt, left_at, left_from, rest_at, scan_on, state_at};
 
-use crate::inner::{Step, step_on};
 use crate::laws::searches_go_in_steps;
 use crate::spot::{NOWHERE, Spot, Visits};
 use bt_levels::SoundTree;
+use bt_steps::{Step, step_on};
 use key_orders::Scan;
 use outside::Files;
 use page_layout::PageView;

@@ -1,12 +1,16 @@
 //! Searches a B-tree index between two bounds: a descent from the fast root to a leaf, and a walk along
-//! the leaves, entry by entry. A page is in hand at a time, and no memory is taken.
+//! the leaves, entry by entry. A page is in hand at a time, and no memory is taken. And a cache of pages,
+//! for searches of which many look at the same pages.
 //!
 //! Source: the nbtree README of PostgreSQL, on searching and on moving right.
 #![tactic(auto)]
 
+mod cache;
+#[cfg(test)]
+mod cache_tests;
 mod descent;
 mod entry;
-mod inner;
+mod kept;
 mod laws;
 mod leaf;
 mod next;
@@ -16,6 +20,7 @@ mod tests;
 #[cfg(test)]
 mod trees;
 
+pub use cache::PageCache;
 pub use descent::descend;
 pub use entry::entry_at;
 pub use laws::searches_go_in_steps;

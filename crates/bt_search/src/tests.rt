@@ -13,7 +13,7 @@ use std::alloc::Global;
 use std::test::Fail;
 
 // A table of one column or of two, with an index on all of it.
-const ONE: &[u8] = b"[cluster]
+pub const ONE: &[u8] = b"[cluster]
 next_xid = 1000
 oldest_xid = 3
 next_multi = 10
@@ -324,7 +324,7 @@ const LISTED: [TreePage<'static>; 1] = [TreePage {
 }];
 
 // Six leaves of one entry below block 4.
-const SIX: [TreePage<'static>; 7] = [
+pub const SIX: [TreePage<'static>; 7] = [
     TreePage {
         prev: 0,
         next: 2,
@@ -454,7 +454,7 @@ const SIX: [TreePage<'static>; 7] = [
 ];
 
 // The tree of a file, which is answered as sound.
-fn tree_of(alloc: Global, case: &[u8], files: &mut Untold<'_>) -> Result<SoundTree, Fail> {
+pub fn tree_of(alloc: Global, case: &[u8], files: &mut Untold<'_>) -> Result<SoundTree, Fail> {
     let case: Case = read_case(alloc, case).ok().ok_or("refused")?;
     if case.index_count() != 1 {
         return Err("no index".into());

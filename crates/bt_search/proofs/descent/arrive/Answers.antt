@@ -2,7 +2,7 @@ use Rattle.std.proofs.Common.{◌∙◌, ℕ, [], ap, arith, subst, sym}
 use Rattle.tree_search.specs.Search.{At}
 use Rattle.tree_image.specs.Image.{first_data}
 use Rattle.bt_levels.specs.Sound.{specs_of}
-use Rattle.bt_search.specs.declared.inner.Step.TheVariants.{Lost, Read, To}
+use Rattle.bt_steps.specs.declared.inner.Step.TheVariants.{Lost, Read, To}
 use Rattle.bt_search.specs.Descents.{GoesOn}
 use Rattle.bt_search.specs.Spots.{state_at}
 use Rattle.bt_search.proofs.Arriving.{comes-inside, leads-there, not-over, read-goes, read-stands, step-comes, step-goes, step-lost}

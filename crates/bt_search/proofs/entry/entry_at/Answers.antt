@@ -9,8 +9,10 @@ use Rattle.key_orders.specs.declared.columns.Value.{Value}
 use Rattle.key_orders.specs.declared.Tid.{Tid}
 use Rattle.bt_tuples.specs.Shown.{item_shown}
 use Rattle.bt_levels.specs.Sound.{specs_of}
-use Rattle.bt_search.specs.Entries.{Shows, keys_at}
-use Rattle.bt_search.proofs.Items.{has-there, item-reads, item-unread, keys-are}
+use Rattle.bt_steps.specs.Entries.{keys_at}
+use Rattle.bt_search.specs.Entries.{Shows}
+use Rattle.bt_steps.proofs.Items.{item-reads, item-unread, keys-are}
+use Rattle.bt_search.proofs.There.{has-there}
 use Rattle.bt_search.proofs.entry.entry_at.Goals as goal
 
 pub returns-in-Err-clause-some : goal.returns-in-Err-clause-some

@@ -8,7 +8,7 @@ use Rattle.bt_tuples.specs.Shown.{item_shown}
 use Rattle.tree_image.specs.Image.{keys_in}
 use Rattle.bt_search.specs.declared.spot.EntryRef.{EntryRef}
 use Rattle.bt_search.specs.Entries.{Shows}
-use Rattle.bt_search.proofs.Items.{list-get}
+use Rattle.bt_steps.proofs.Items.{list-get}
 use Rattle.bt_search.proofs.entry.entry_in.Goals as goal
 
 pub returns-then-nth-len-clause-entry : goal.returns-then-nth-len-clause-entry

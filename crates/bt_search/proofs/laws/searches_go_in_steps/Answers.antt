@@ -10,7 +10,7 @@ use Rattle.key_orders.specs.declared.columns.Value.{Value}
 use Rattle.key_orders.specs.declared.Tid.{Tid}
 use Rattle.key_orders.specs.Scans.{order_of}
 use Rattle.bt_levels.specs.Sound.{block_count, image_of, specs_of}
-use Rattle.bt_search.specs.Pages.{is_killed}
+use Rattle.bt_steps.specs.Pages.{is_killed}
 use Rattle.bt_search.specs.Spots.{scan_on}
 use Rattle.bt_search.proofs.laws.searches_go_in_steps.Goals as goal
 

@@ -8,7 +8,7 @@ use Rattle.bt_tuples.specs.declared.items.TreeItem.{TreeItem}
 use Rattle.bt_tuples.specs.Shown.{item_shown}
 use Rattle.tree_image.specs.Image.{keys_in}
 use Rattle.tree_image.proofs.Rises.{IsGood}
-use Rattle.bt_search.proofs.Items.{item-good, item-reads, item-unread, keys-are, list-count, list-each, one-each}
+use Rattle.bt_steps.proofs.Items.{item-good, item-reads, item-unread, keys-are, list-count, list-each, one-each}
 use Rattle.bt_search.proofs.leaf.fate_at.Goals as goal
 
 pub returns-in-Ok-Plain-clause-read : goal.returns-in-Ok-Plain-clause-read

@@ -3,7 +3,8 @@ use Rattle.page_layout.specs.Page.{count_of}
 use Rattle.page_layout.specs.View.{page_bytes}
 use Rattle.bt_levels.specs.Sound.{held_block, specs_of}
 use Rattle.bt_search.specs.declared.leaf.Fate.TheVariants.{Other, Past, Wanted}
-use Rattle.bt_search.proofs.Reading.{ends-past, is-alive, is-leaf, item-read, passes, read-there, readable, seen-there, takes}
+use Rattle.bt_steps.proofs.OnLeaf.{item-read}
+use Rattle.bt_search.proofs.Reading.{ends-past, is-alive, is-leaf, passes, read-there, readable, seen-there, takes}
 use Rattle.bt_search.proofs.leaf.read_item.Goals as goal
 
 pub returns-in_default-clause-told : goal.returns-in_default-clause-told

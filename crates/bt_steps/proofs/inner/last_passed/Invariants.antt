@@ -1,0 +1,22 @@
+use Rattle.std.proofs.Common.{◌≡◌, ◌+◌, ◌-◌, ◌<◌, ◌≤◌, true, false}
+use Rattle.page_layout.specs.Page.{count_of}
+use Rattle.page_layout.specs.View.{page_bytes}
+use Rattle.bt_meta.specs.Flags.{is_half_dead}
+use Rattle.bt_meta.specs.Pages.{opaque_of}
+use Rattle.tree_image.specs.Image.{first_data}
+use Rattle.bt_steps.specs.Pages.{IsReadable}
+use Rattle.bt_steps.specs.Ways.{is_passed}
+use Rattle.bt_steps.proofs.inner.last_passed.Given as goal
+
+-- the scan goes right of the lower item, or it is the first, and not of the higher one, or it is past the last
+abbrev pub invariant-loop-high : goal.invariant-loop-high
+invariant-loop-high g l = record {
+  from : first_data (page_bytes l.page) ≤ l.low;
+  less : l.low < l.high;
+  to : l.high ≤ count_of (page_bytes l.page) + 1;
+  passed : IsReadable l.specs (page_bytes l.page) → is_half_dead (opaque_of (page_bytes l.page)) ≡ false → first_data (page_bytes l.page) < l.low → is_passed l.specs (g.W.Way.goes l.way l.specs) (page_bytes l.page) l.low ≡ true;
+  stopped : IsReadable l.specs (page_bytes l.page) → is_half_dead (opaque_of (page_bytes l.page)) ≡ false → l.high ≤ count_of (page_bytes l.page) → is_passed l.specs (g.W.Way.goes l.way l.specs) (page_bytes l.page) l.high ≡ false;
+}
+
+abbrev pub decreases-loop-high : goal.decreases-loop-high
+decreases-loop-high g l = l.high - l.low

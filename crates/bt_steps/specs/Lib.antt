@@ -1,0 +1,5 @@
+pub mod Pages
+pub mod Ways
+pub mod Sought
+pub mod WayLaws
+pub mod Entries
