@@ -1,5 +1,5 @@
--- What a way goes right of, it goes right of all below it. The law of `Way` names these proofs for each kind of way, and
--- so they stand here: a law can't name what stands in proofs/.
+-- What a way goes right of, it goes right of all below it. The law of `Way` names these proofs for each kind of way, so
+-- they stand here: a law can't name what stands in proofs/.
 use Rattle.std.specs.Prelude.{ℕ, zero, suc, List, [], ◌∷◌, length}
 use Rattle.std.proofs.Common.{inl, inr, ap}
 use Rattle.std.specs.Cmp.{IsTotalOrder, nat_cmp_total, on_total, then_total}
@@ -23,7 +23,9 @@ use Rattle.bt_steps.specs.Ways.{GoesLower}
 
 columns_total : (specs : List KeySpec) (i : ℕ) → IsTotalOrder (columns_of specs i)
 columns_total [] i = value_order_total
-columns_total (k ∷ ks) zero = with_nulls_total k.nulls_first (directed k.desc value_order) (directed_total k.desc value_order value_order_total)
+columns_total (k ∷ ks) zero =
+    with_nulls_total k.nulls_first (directed k.desc value_order)
+    (directed_total k.desc value_order value_order_total)
 columns_total (k ∷ ks) (suc i) = columns_total ks i
 
 pub tids_total : IsTotalOrder tid_order
@@ -40,13 +42,20 @@ total specs = keys_total (columns_of specs) (columns_total specs) tid_order tids
 pub ordered : (specs : List KeySpec) → IsOrder (order_of specs)
 ordered specs = key_order_laws (columns_of specs) (columns_total specs) tid_order tids_total
 
-pub scan_lower : (specs : List KeySpec) (bounds : Bounds) → GoesLower specs (λ s. goes_right (columns_of specs) bounds.low s)
-scan_lower specs bounds = record { lower = λ s t is it below right. right_of_lower (columns_of specs) (columns_total specs) tid_order tids_total (length specs) bounds.low s t is it below right }
+pub scan_lower : (specs : List KeySpec) (bounds : Bounds)
+    → GoesLower specs (λ s. goes_right (columns_of specs) bounds.low s)
+scan_lower specs bounds = record {
+  lower = λ s t is it below right.
+      right_of_lower (columns_of specs) (columns_total specs) tid_order tids_total (length specs) bounds.low s t is it
+      below right;
+}
 
 pub sought_lower : (specs : List KeySpec) (key : List Value) (tid : Tid) → GoesLower specs (is_below specs key tid)
 sought_lower specs key tid = record {
   lower = λ s t is it below right. elim (cases_Bool ((order_of specs).within (entry_of key tid) s)) [
-    | inl at ↦ absurd (both_ways ((order_of specs).within (entry_of key tid) t) (not-true _ right) ((ordered specs).higher (entry_of key tid) s t at below))
+    | inl at ↦
+        let up = (ordered specs).higher (entry_of key tid) s t at below in
+        absurd (both_ways ((order_of specs).within (entry_of key tid) t) (not-true _ right) up)
     | inr past ↦ not_from_false _ past
   ];
 }
@@ -54,7 +63,10 @@ sought_lower specs key tid = record {
 pub within_lower : (specs : List KeySpec) (key : List Value) (tid : Tid) → GoesLower specs (is_within specs key tid)
 within_lower specs key tid = record {
   lower = λ s t is it below right. elim (cases_Bool (is_lt (keys specs (as_separator (entry_of key tid)) s))) [
-    | inl under ↦ absurd (both_ways (is_lt (keys specs (as_separator (entry_of key tid)) t)) (not-true _ right) (ap is_lt ((total specs).trans (as_separator (entry_of key tid)) s t (lt_less _ under) (lt_less _ below))))
+    | inl under ↦
+        let e = as_separator (entry_of key tid) in
+        let up = ap is_lt ((total specs).trans e s t (lt_less _ under) (lt_less _ below)) in
+        absurd (both_ways (is_lt (keys specs e t)) (not-true _ right) up)
     | inr at ↦ not_from_false _ at
   ];
 }

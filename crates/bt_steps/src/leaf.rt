@@ -71,10 +71,12 @@ fn nth_in_item(page: PageView<'_>, i: u16, specs: &[KeySpec], sought: Sought<'_>
     requires few { length specs.now ≤ 8 }
     requires aligned { All HasAlignment (key_types specs.now) }
     requires key { IsKey specs.now sought.key.now }
-    ensures some { IfSome result (λ nth. HasSought specs.now (page_bytes page.entry) sought.entry.key.now sought.entry.tid i nth) }
+    ensures some { IfSome result (λ nth.
+        HasSought specs.now (page_bytes page.entry) sought.entry.key.now sought.entry.tid i nth) }
     ensures none { result ≡ None → (k : ℕ) (e : Given Value At)
         → slice_get (keys_at specs.now (page_bytes page.entry) i) k ≡ Some e
-        → IsSought sought.entry.key.now sought.entry.tid e → IsRead specs.now (page_bytes page.entry) i → e.killed ≡ true }
+        → IsSought sought.entry.key.now sought.entry.tid e → IsRead specs.now (page_bytes page.entry) i
+        → e.killed ≡ true }
 {
     match tree_item(page, i, specs, &[], Spot3::LeafItem) {
         Ok(
