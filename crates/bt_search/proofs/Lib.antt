@@ -3,3 +3,5 @@ pub mod Asked
 pub mod Arriving
 mod Caching
 mod There
+mod Lookups
+mod Onward

@@ -16,10 +16,7 @@ use Rattle.key_orders.specs.Scans.{Bounds, scan_of}
 use Rattle.bt_meta.specs.Flags.{is_half_dead, is_leaf}
 use Rattle.bt_meta.specs.Pages.{opaque_of}
 use Rattle.bt_tuples.specs.Items.{Item, Pivot, Plain, Posting}
-use Rattle.bt_tuples.specs.declared.items.Spot3.{Spot3}
-use Rattle.bt_tuples.specs.Rules.{KeepsItemRules}
 use Rattle.tree_image.specs.Image.{first_data, item_at, keys_in, page_image, page_keys, spot_of}
-use Rattle.tree_image.specs.Pages.{KeepsPage}
 use Rattle.tree_image.proofs.PageFields.{first_cases, leaf_item_good, leaf_spot}
 use Rattle.tree_image.proofs.Rises.{IsGood}
 use Rattle.bt_levels.specs.declared.sound.SoundTree.{SoundTree}
@@ -34,12 +31,8 @@ use Rattle.bt_search.specs.Leaves.{Finishes, HasFate, Leaves, Passes, Yields}
 use Rattle.bt_steps.specs.Pages.{IsReadable, is_killed}
 use Rattle.bt_search.specs.Spots.{StandsAt, left_from, rest_from, scan_on, state_at}
 use Rattle.bt_search.specs.Steps.{GoesInSteps}
+use Rattle.bt_steps.proofs.OnLeaf.{page-readable}
 use Rattle.bt_steps.proofs.Places.{before-all, before-next, entry-there, image-entries}
-
--- The pages of an index that the names hold
-
-pub page-readable : (specs : List KeySpec) (blocks : ℕ) (block : ℕ → List ℕ) (b : ℕ) → KeepsPage specs [] blocks block b → IsReadable specs (block b)
-page-readable specs blocks block b kept = record { laid_out = kept.laid_out; some_items = kept.some_items; items = kept.items; order = kept.order }
 
 get-some : {X : Type 0} (xs : List X) (k : ℕ) → k < length xs → (x : X) × (slice_get xs k ≡ Some x)
 get-some [] k lt = absurd (omega arith)

@@ -5,3 +5,4 @@ pub mod Leaves
 pub mod Steps
 pub mod Cached
 pub mod Lending
+pub mod Lookups

@@ -1,6 +1,6 @@
 //! Searches a B-tree index between two bounds: a descent from the fast root to a leaf, and a walk along
-//! the leaves, entry by entry. A page is in hand at a time, and no memory is taken. And a cache of pages,
-//! for searches of which many look at the same pages.
+//! the leaves, entry by entry. A page is in hand at a time, and no memory is taken. And look-ups of one entry
+//! each, through a cache of pages, since many look at the same pages.
 //!
 //! Source: the nbtree README of PostgreSQL, on searching and on moving right.
 #![tactic(auto)]
@@ -13,6 +13,10 @@ mod entry;
 mod kept;
 mod laws;
 mod leaf;
+mod look_up;
+#[cfg(test)]
+mod look_up_tests;
+mod near;
 mod next;
 mod spot;
 #[cfg(test)]
@@ -24,5 +28,7 @@ pub use cache::PageCache;
 pub use descent::descend;
 pub use entry::entry_at;
 pub use laws::searches_go_in_steps;
+pub use look_up::{entries_have_a_leaf, find, probe, spots_are_of_entries};
+pub use near::find_near;
 pub use next::next_entry;
 pub use spot::{EntryRef, Spot, Visits};

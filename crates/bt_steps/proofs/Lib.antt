@@ -6,3 +6,4 @@ pub mod Items
 pub mod OnLeaf
 pub mod TidRises
 pub mod OnItem
+pub mod Members

@@ -1,10 +1,10 @@
 -- On a leaf an entry that is sought can stand in one item alone: the last whose first key isn't above it.
 use Rattle.std.proofs.Common.{◌≡◌, ℕ, zero, suc, ◌+◌, ◌-◌, ◌<◌, ◌≤◌, ◌⊎◌, inl, inr, true, false, List, [], ◌∷◌, ◌++◌, refl, ap, sym, subst, ◌∙◌, arith}
-use Rattle.std.specs.Prelude.{Contains, None, Some, slice_get}
+use Rattle.std.specs.Prelude.{Contains, None, Some, not, slice_get}
 use Rattle.std.specs.Cmp.{tied_itself}
 use Rattle.std.specs.List.{flat_map}
 use Rattle.std.specs.Ordering.{is_lt}
-use Rattle.std.proofs.lemmas.Bool.{both_ways, cases_lt, cond-true, not-false, not-true}
+use Rattle.std.proofs.lemmas.Bool.{and_parts, both_ways, cases_lt, cond-true, not-false, not-true}
 use Rattle.page_layout.specs.Page.{count_of}
 use Rattle.tree_search.specs.Keys.{Entry, Separator, as_separator, compare_keys}
 use Rattle.tree_search.specs.Order.{Order}
@@ -17,21 +17,33 @@ use Rattle.key_orders.specs.declared.Tid.{Tid}
 use Rattle.key_orders.specs.Keys.{columns_of, entry_of, tid_order}
 use Rattle.key_orders.specs.Scans.{order_of}
 use Rattle.bt_meta.specs.Flags.{is_half_dead, is_leaf}
-use Rattle.bt_meta.specs.Pages.{opaque_of}
+use Rattle.bt_meta.specs.Pages.{is_idle, opaque_of}
 use Rattle.bt_tuples.specs.declared.items.Spot3.{Spot3}
 use Rattle.bt_tuples.specs.Items.{Item, Pivot, Plain, Posting}
 use Rattle.bt_tuples.specs.Rules.{KeepsItemRules}
 use Rattle.bt_tuples.specs.Keys.{first_key, last_key}
 use Rattle.tree_image.specs.Image.{first_data, item_at, keys_in, numbers_from, page_keys}
-use Rattle.tree_image.specs.Pages.{first_compared, is_key_below}
+use Rattle.tree_image.specs.Pages.{KeepsPage, first_compared, is_key_below}
 use Rattle.tree_image.proofs.PageFields.{first_cases, leaf_item_good, leaf_spot, order_kept}
 use Rattle.tree_image.proofs.Rises.{AreSame, IsGood, adjacent_from, items_rise}
 use Rattle.tree_image.proofs.Sound.{same_values}
 use Rattle.bt_steps.specs.Entries.{IsRead}
-use Rattle.bt_steps.specs.Pages.{IsReadable}
+use Rattle.bt_steps.specs.Pages.{IsReadable, is_live_leaf}
 use Rattle.bt_steps.specs.Sought.{IsSought, is_within}
 use Rattle.bt_steps.specs.WayLaws.{ordered, total}
 use Rattle.bt_steps.specs.Ways.{is_passed}
+
+-- What the rules leave of a page
+
+pub page-readable : (specs : List KeySpec) (blocks : ℕ) (block : ℕ → List ℕ) (b : ℕ) → KeepsPage specs [] blocks block b → IsReadable specs (block b)
+page-readable specs blocks block b kept = record { laid_out = kept.laid_out; some_items = kept.some_items; items = kept.items; order = kept.order }
+
+-- what is known of a leaf in use that isn't half-dead
+pub live-parts : (page : List ℕ) → is_live_leaf page ≡ true → (is_leaf (opaque_of page) ≡ true) × (is_idle page ≡ false) × (is_half_dead (opaque_of page) ≡ false)
+live-parts page live =
+    let leaf = and_parts (is_leaf (opaque_of page)) _ live in
+    let rest = and_parts (not (is_idle page)) _ leaf.1 in
+    (leaf.0, not-true _ rest.0, not-true _ rest.1)
 
 -- Lists that are laid one behind the other
 

@@ -1,5 +1,5 @@
 -- A page of an index, as a search reads it.
-use Rattle.std.specs.Prelude.{◌≡◌, ℕ, ◌≤◌, Bool, false, List, [], None}
+use Rattle.std.specs.Prelude.{◌≡◌, ℕ, ◌≤◌, Bool, false, not, ◌&&◌, List, [], None}
 use Rattle.page_layout.specs.Page.{count_of, page_rule_of}
 use Rattle.page_layout.specs.declared.page.PageKind.TheVariants.{Tree}
 use Rattle.tree_search.specs.Keys.{Entry, Separator}
@@ -7,13 +7,17 @@ use Rattle.tree_search.specs.Order.{Scan}
 use Rattle.key_orders.specs.declared.columns.KeySpec.{KeySpec}
 use Rattle.key_orders.specs.declared.columns.Value.{Value}
 use Rattle.key_orders.specs.declared.Tid.{Tid}
-use Rattle.bt_meta.specs.Flags.{is_half_dead}
-use Rattle.bt_meta.specs.Pages.{opaque_of}
+use Rattle.bt_meta.specs.Flags.{is_half_dead, is_leaf}
+use Rattle.bt_meta.specs.Pages.{is_idle, opaque_of}
 use Rattle.tree_image.specs.Pages.{IsDataItem, IsPlainItem, breaks_items, breaks_order}
 
 -- an entry that a scan passes over though it matches
 abbrev pub is_killed : Entry Value Tid → Bool
 is_killed e = e.killed
+
+-- a leaf in use that isn't half-dead
+abbrev pub is_live_leaf : List ℕ → Bool
+is_live_leaf page = is_leaf (opaque_of page) && (not (is_idle page) && not (is_half_dead (opaque_of page)))
 
 -- a scan, as the searcher sees it
 abbrev pub KeyScan : Type 0

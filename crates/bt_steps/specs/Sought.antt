@@ -1,14 +1,15 @@
 -- An entry that is sought, and the keys below it.
-use Rattle.std.specs.Prelude.{◌≡◌, ◌≤◌, ℕ, false, not, List, Some, slice_get}
+use Rattle.std.specs.Prelude.{◌≡◌, ◌≤◌, ℕ, false, not, List, Some, slice_get, Contains}
 use Rattle.page_layout.specs.Page.{count_of}
 use Rattle.std.specs.Ordering.{is_lt}
 use Rattle.tree_search.specs.Keys.{Entry, as_separator, compare_keys}
+use Rattle.tree_search.specs.Search.{entries_of}
 use Rattle.key_orders.specs.declared.columns.KeySpec.{KeySpec}
 use Rattle.key_orders.specs.declared.columns.Value.{Value}
 use Rattle.key_orders.specs.declared.Tid.{Tid}
 use Rattle.key_orders.specs.Keys.{columns_of, entry_of, tid_order}
 use Rattle.key_orders.specs.Scans.{order_of}
-use Rattle.tree_image.specs.Image.{first_data}
+use Rattle.tree_image.specs.Image.{TreeIndex, first_data}
 use Rattle.bt_steps.specs.Entries.{IsRead, keys_at}
 use Rattle.bt_steps.specs.Ways.{Goes}
 
@@ -31,5 +32,12 @@ pub record HasSought (specs : List KeySpec) (page : List ℕ) (key : List Value)
   pub read : IsRead specs page item
   pub entry : Entry Value Tid
   pub is : slice_get (keys_at specs page item) nth ≡ Some entry
+  pub sought : IsSought key tid entry
+  pub alive : entry.killed ≡ false
+
+-- the leaves of an index, linked or not, have such an entry that isn't killed
+pub record HasAlive (image : TreeIndex) (key : List Value) (tid : Tid) : Type 0 where
+  pub entry : Entry Value Tid
+  pub among : Contains (entries_of image) entry
   pub sought : IsSought key tid entry
   pub alive : entry.killed ≡ false

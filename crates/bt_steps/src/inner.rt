@@ -82,9 +82,9 @@ fn is_left_behind<'p, W: Way>(
     goes_right_of(page, 1, specs, way, keys)
 }
 
-/// Looks by halves for the last data item of a page that a search goes right of, by its first key, or the
-/// first data item where it goes right of none but that.
-pub fn last_passed<'p, W: Way>(
+// Looks by halves for the last data item of a page that a search goes right of, by its first key, or the
+// first data item where it goes right of none but that.
+pub(crate) fn last_passed<'p, W: Way>(
     page: PageView<'p>,
     specs: &[KeySpec],
     way: &W,

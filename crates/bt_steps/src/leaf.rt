@@ -15,11 +15,12 @@ ghost use Rattle.bt_meta.specs.Pages.{opaque_of};
 ghost use Rattle.bt_tuples.specs.Rules.{are_not_rising};
 ghost use Rattle.tree_image.specs.Image.{first_data, page_keys};
 ghost use Rattle.bt_steps.specs.Entries.{IsRead, keys_at};
-ghost use Rattle.bt_steps.specs.Pages.{IsReadable};
+ghost use Rattle.bt_steps.specs.Pages.{IsReadable, is_live_leaf};
 ghost use Rattle.bt_steps.specs.Sought.{HasSought, IsSought};
 
 use crate::inner::last_passed;
 use crate::way::{Sought, UpTo};
+use bt_meta::{is_idle, opaque};
 use bt_tuples::{ItemKeys, Spot3, TidList, TreeItem, tree_item};
 use key_orders::{KeySpec, Tid, cmp_values, key_orders_are_total};
 use page_layout::{PageKind, PageView};
@@ -62,8 +63,14 @@ fn nth_of(tids: &TidList<'_>, tid: Tid) -> Option<u16>
     None
 }
 
-// Where the entry stands among those of item i, a data item, if it is there and isn't killed.
-fn nth_in_item(page: PageView<'_>, i: u16, specs: &[KeySpec], sought: Sought<'_>) -> Option<u16>
+/// Where an entry stands among those of item `i` of a leaf, a data item, counted from 0, if it is there and
+/// isn't killed.
+pub fn find_in_item(
+    page: PageView<'_>,
+    i: u16,
+    specs: &[KeySpec],
+    sought: Sought<'_>,
+) -> Option<u16>
     requires page { page_rule_of PageKind.Tree (page_bytes page) ≡ None }
     requires first { 1 ≤ i }
     requires from { first_data (page_bytes page) ≤ i }
@@ -106,6 +113,14 @@ fn nth_in_item(page: PageView<'_>, i: u16, specs: &[KeySpec], sought: Sought<'_>
     }
 }
 
+/// Whether a page is a leaf in use that isn't half-dead. The entries of an index are those of such pages.
+pub fn is_live_leaf(page: PageView<'_>) -> bool
+    ensures { result ≡ is_live_leaf (page_bytes page.entry) }
+{
+    let special = opaque(page);
+    special.is_leaf() && !is_idle(page) && !special.is_half_dead()
+}
+
 /// Where an entry stands on a leaf, if it is there and isn't killed. Its item is found by halves.
 pub fn find_on(page: PageView<'_>, specs: &[KeySpec], sought: Sought<'_>) -> Option<Place>
     requires page { page_rule_of PageKind.Tree (page_bytes page) ≡ None }
@@ -124,6 +139,6 @@ pub fn find_on(page: PageView<'_>, specs: &[KeySpec], sought: Sought<'_>) -> Opt
         return None;
     }
     let item = last_passed(page, specs, &UpTo { sought }, &mut ItemKeys::new());
-    let nth = nth_in_item(page, item, specs, sought)?;
+    let nth = find_in_item(page, item, specs, sought)?;
     Some(Place { item, nth })
 }

@@ -10,6 +10,6 @@ mod leaf;
 mod tests;
 mod way;
 
-pub use inner::{Step, last_passed, step_on};
-pub use leaf::{Place, find_on};
+pub use inner::{Step, step_on};
+pub use leaf::{Place, find_in_item, find_on, is_live_leaf};
 pub use way::{Sought, UpTo, Way};

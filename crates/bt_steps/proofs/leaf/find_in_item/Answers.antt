@@ -15,8 +15,8 @@ use Rattle.bt_steps.specs.Entries.{IsRead, keys_at}
 use Rattle.bt_steps.specs.Sought.{HasSought}
 use Rattle.bt_steps.proofs.Items.{entry_with, item-good, item-reads, item-unread, keys-are, list-get}
 use Rattle.bt_steps.proofs.OnItem.{list-has, list-tid, ne-false, ne-true, one-is}
-use Rattle.bt_steps.proofs.leaf.nth_in_item.Goals as goal
-use Rattle.bt_steps.proofs.leaf.nth_in_item.Goals.{then-killed-via-then-killed, then-killed-via-else-killed+then-is_ne, then-killed-via-else-killed+else-is_ne+then-is_ne-2, then-killed-2-via-then-killed-2, then-killed-2-via-else-killed-2+then-is_ne-3}
+use Rattle.bt_steps.proofs.leaf.find_in_item.Goals as goal
+use Rattle.bt_steps.proofs.leaf.find_in_item.Goals.{then-killed-via-then-killed, then-killed-via-else-killed+then-is_ne, then-killed-via-else-killed+else-is_ne+then-is_ne-2, then-killed-2-via-then-killed-2, then-killed-2-via-else-killed-2+then-is_ne-3}
 
 abbrev entries : Type 0
 entries = List (Entry Value Tid)

@@ -1,0 +1,130 @@
+//! Entries that are looked up in an index of six leaves: on the way from the root, near another entry, through
+//! caches of one page and of all, and over a read that fails. Places and visits are worked out by hand.
+use crate::tests::{ONE, SIX, tree_of};
+use crate::trees::{Untold, index_file};
+use crate::{PageCache, Spot, Visits, find, find_near};
+use bt_levels::SoundTree;
+use bt_steps::Sought;
+use key_orders::{KeyRefs, Tid, ValueRef, fits_columns};
+use std::alloc::Global;
+use std::test::Fail;
+
+// The key of a value of an index of one column.
+fn key_of(value: i64) -> KeyRefs<'static> {
+    let mut key = KeyRefs::new();
+    key.push(ValueRef::Int(value));
+    key
+}
+
+// Looks for a value with the TID of an item of block 0, and says at which block it was found, if it was, and at
+// how many visits; nothing after a fault.
+fn looked_up(
+    tree: &SoundTree,
+    files: &mut Untold<'_>,
+    cache: &mut PageCache,
+    value: i64,
+    item: u16,
+) -> Option<(Option<u32>, u64)> {
+    let key = key_of(value);
+    let tid = Tid { block: 0, item };
+    let mut visits = Visits { count: 0 };
+    let is_key = fits_columns(tree.specs(), &key) && key.as_slice().len() == tree.specs().len();
+    if !is_key || tree.blocks() == 0 {
+        return None;
+    }
+    let found = find(tree, files, Sought { key: &key, tid }, cache, &mut visits).ok()?;
+    Some((found.map(|at| at.block), visits.count))
+}
+
+// The same near a spot, with the TID that the value has in the index.
+fn near(
+    tree: &SoundTree,
+    files: &mut Untold<'_>,
+    cache: &mut PageCache,
+    value: i64,
+    at: Spot,
+) -> Option<Spot> {
+    let key = key_of(value);
+    let item = (value.clamp(10, 60) / 10) as u16;
+    let tid = Tid { block: 0, item };
+    if !fits_columns(tree.specs(), &key) || key.as_slice().len() != tree.specs().len() {
+        return None;
+    }
+    find_near(tree, files, Sought { key: &key, tid }, cache, at).ok()?
+}
+
+#[test]
+fn finds_entries(rt: HostRuntime) -> Result<(), Fail> {
+    let alloc = rt.alloc();
+    let bytes = index_file(alloc, 4, 1, &SIX)?;
+    let mut files = Untold::new(bytes.as_slice());
+    let tree = tree_of(alloc, ONE, &mut files)?;
+    let mut cache = PageCache::new(alloc, 1)?;
+    let rows = [
+        (10, 1, Some(1)),
+        (20, 2, Some(2)),
+        (40, 4, Some(5)),
+        (60, 6, Some(7)),
+        // of another TID, and of other keys
+        (20, 3, None),
+        (5, 1, None),
+        (25, 2, None),
+        (70, 6, None),
+    ];
+    for (value, item, block) in rows {
+        let found = looked_up(&tree, &mut files, &mut cache, value, item);
+        assert_eq!(rt; found, Some((block, 2)));
+    }
+    Ok(())
+}
+
+fn at(block: u32, item: u16) -> Spot {
+    Spot {
+        block,
+        item,
+        nth: 0,
+    }
+}
+
+#[test]
+fn finds_entries_near_others(rt: HostRuntime) -> Result<(), Fail> {
+    let alloc = rt.alloc();
+    let bytes = index_file(alloc, 4, 1, &SIX)?;
+    let mut files = Untold::new(bytes.as_slice());
+    let tree = tree_of(alloc, ONE, &mut files)?;
+    let mut cache = PageCache::new(alloc, 4)?;
+    let rows = [
+        // at the item after the spot's, at its own, and wherever it is
+        (20, at(2, 1), Some(at(2, 2))),
+        (20, at(2, 2), Some(at(2, 2))),
+        (20, at(2, 9), Some(at(2, 2))),
+        (20, at(2, 0), Some(at(2, 2))),
+        // of another leaf, of no leaf, of no block
+        (20, at(1, 1), None),
+        (20, at(4, 1), None),
+        (20, at(0, 1), None),
+        (20, at(8, 1), None),
+    ];
+    for (value, spot, want) in rows {
+        assert_eq!(rt; near(&tree, &mut files, &mut cache, value, spot), want);
+    }
+    Ok(())
+}
+
+// A look-up needs no read of a page that is kept, and no more reads than visits.
+#[test]
+fn keeps_the_pages_of_look_ups(rt: HostRuntime) -> Result<(), Fail> {
+    let alloc = rt.alloc();
+    let bytes = index_file(alloc, 4, 1, &SIX)?;
+    let mut files = Untold::new(bytes.as_slice());
+    let tree = tree_of(alloc, ONE, &mut files)?;
+    let mut cache = PageCache::new(alloc, 2)?;
+    files.fails_from = files.reads.saturating_add(3);
+    let found = looked_up(&tree, &mut files, &mut cache, 10, 1);
+    assert_eq!(rt; found, Some((Some(1), 2)));
+    files.fails_from = files.reads.saturating_add(1);
+    let found = looked_up(&tree, &mut files, &mut cache, 15, 1);
+    assert_eq!(rt; found, Some((None, 2)));
+    assert!(rt; looked_up(&tree, &mut files, &mut cache, 20, 2).is_none());
+    Ok(())
+}
