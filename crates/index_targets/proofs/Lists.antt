@@ -1,0 +1,60 @@
+-- What one entry gives, and an item that can be read.
+use Rattle.std.proofs.Common.{◌≡◌, ◌∙◌, ◌<◌, ◌≤◌, ℕ, Bool, true, false, List, [], ◌∷◌, refl, ap}
+use Rattle.std.specs.Prelude.{if◌then◌else◌, map, Some, None}
+use Rattle.std.proofs.lemmas.Bool.{le-ltb, lt-ltb}
+use Rattle.outside.specs.Adds.{each_below}
+use Rattle.key_orders.specs.declared.columns.KeySpec.{KeySpec}
+use Rattle.key_orders.specs.declared.columns.Value.{Value}
+use Rattle.key_orders.specs.declared.Tid.{Tid}
+use Rattle.page_layout.specs.declared.rules.Rule.TheVariants.{X2}
+use Rattle.tree_image.specs.Image.{first_data, keys_in}
+use Rattle.tree_search.specs.Keys.{Entry}
+use Rattle.bt_steps.specs.Entries.{keys_at}
+use Rattle.bt_steps.specs.Pages.{is_live_leaf}
+use Rattle.bt_tuples.specs.Items.{Item, Plain, Posting}
+use Rattle.reports.specs.Added.{nothing}
+use Rattle.indexed_rules.specs.Lists.{entry_lists, item_lists, items_lists, leaf_lists, stray_rule, tids_at, tids_lists}
+
+pub rule-is : (may : Bool) → (if may then None else Some X2) ≡ stray_rule may
+rule-is true = refl
+rule-is false = refl
+
+-- the TIDs of an item's entries
+abbrev pub tids_in : Item → List Tid
+tids_in item = map (λ e. e.tid) (keys_in item)
+
+pub plain-tids : (key more : List Value) (tid : Tid) (killed : Bool) → tids_in (Plain key more tid killed) ≡ tid ∷ []
+plain-tids key more tid killed = refl
+
+pub list-tids : (key : List Value) (tids : List Tid) (killed : Bool) → tids_in (Posting key tids killed) ≡ tids
+list-tids key [] killed = refl
+list-tids key (t ∷ ts) killed = ap (λ (l : List Tid). t ∷ l) (list-tids key ts killed)
+
+pub one-tid : (number : ℕ) (may : Tid → Bool) (b i : ℕ) (tid : Tid) → tids_lists number may b i (tid ∷ []) ≡ entry_lists number may b i tid
+unfolding each_below
+one-tid number may b i tid = refl
+
+-- an item before the first data item gives nothing, and a data item what its TIDs give
+module _ (number : ℕ) (specs : List KeySpec) (may : Tid → Bool) (b : ℕ) (page : List ℕ) (i : ℕ) where
+  pub high-key : i < first_data page → item_lists number specs may b page i ≡ nothing
+  unfolding item_lists
+  high-key lt = ap (λ (high : Bool). if high then nothing else tids_lists number may b i (tids_at specs page i)) (lt-ltb i (first_data page) lt)
+
+  pub data-item : first_data page ≤ i → (tids : List Tid) → tids_at specs page i ≡ tids → item_lists number specs may b page i ≡ tids_lists number may b i tids
+  unfolding item_lists
+  data-item from tids is =
+      ap (λ (high : Bool). if high then nothing else tids_lists number may b i (tids_at specs page i)) (le-ltb i (first_data page) from)
+      ∙ ap (tids_lists number may b i) is
+
+pub tids-of : (specs : List KeySpec) (page : List ℕ) (i : ℕ) (item : Item) → keys_at specs page i ≡ keys_in item → tids_at specs page i ≡ tids_in item
+unfolding keys_at
+tids-of specs page i item is = ap (λ (es : List (Entry Value Tid)). map (λ e. e.tid) es) is
+
+-- a page that is no leaf in use gives nothing, and one that is what its items give
+pub no-leaf : (number : ℕ) (specs : List KeySpec) (may : Tid → Bool) (b : ℕ) (page : List ℕ) → is_live_leaf page ≡ false → leaf_lists number specs may b page ≡ nothing
+unfolding leaf_lists
+no-leaf number specs may b page none = ap (λ (live : Bool). if live then items_lists number specs may b page else nothing) none
+
+pub a-leaf : (number : ℕ) (specs : List KeySpec) (may : Tid → Bool) (b : ℕ) (page : List ℕ) → is_live_leaf page ≡ true → leaf_lists number specs may b page ≡ items_lists number specs may b page
+unfolding leaf_lists
+a-leaf number specs may b page live = ap (λ (l : Bool). if l then items_lists number specs may b page else nothing) live

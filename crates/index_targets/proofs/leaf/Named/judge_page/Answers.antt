@@ -1,0 +1,39 @@
+use Rattle.std.proofs.Common.{◌≡◌, ◌∙◌, ℕ, List, true, false, ap, subst, sym}
+use Rattle.std.specs.Prelude.{is_some}
+use Rattle.outside.specs.Adds.{AddsIn}
+use Rattle.page_layout.specs.Page.{page_rule_of}
+use Rattle.page_layout.specs.declared.page.PageKind.TheVariants.{Tree}
+use Rattle.bt_steps.specs.Pages.{IsReadable, is_live_leaf}
+use Rattle.reports.specs.Added.{joined, report_lists}
+use Rattle.reports.specs.Lists.{Lists}
+use Rattle.root_set.specs.Targets.{is_in}
+use Rattle.indexed_rules.specs.Lists.{items_lists}
+use Rattle.index_targets.proofs.Lists.{a-leaf, no-leaf}
+use Rattle.index_targets.proofs.leaf.Named.judge_page.Goals as goal
+use Rattle.index_targets.proofs.leaf.Named.judge_page.Goals.{then-not-is_live_leaf-via-then-not-is_live_leaf, then-not-is_live_leaf-via-else-not-is_live_leaf+then-is_some}
+
+pub returns-then-not-is_live_leaf : goal.returns-then-not-is_live_leaf
+returns-then-not-is_live_leaf c readable =
+    let self = c.args.self in
+    let page = c.args.page.now in
+    let told = sym (c.is_live_leaf.ensures ∙ ap is_live_leaf c.new-page.ensures) in
+    elim c.then-not-is_live_leaf.branch [
+      | then-not-is_live_leaf-via-then-not-is_live_leaf w ↦
+          sym (report_lists.with_none c.args.report.now)
+          ∙ ap (joined c.args.report.now) (sym (no-leaf self.number self.specs.now (is_in self.targets.now) c.args.block page (told ∙ w.if-not-is_live_leaf.true)))
+      | then-not-is_live_leaf-via-else-not-is_live_leaf+then-is_some w ↦
+          let laid_out = (readable (told ∙ w.if-not-is_live_leaf.false)).laid_out in
+          let rule = w.page_rule.ensures.value ∙ ap (page_rule_of Tree) c.new-page.ensures ∙ laid_out in
+          absurd (let clash : true ≡ false = sym w.if-is_some.true ∙ w.is_some.ensures ∙ ap is_some rule in cc)
+    ]
+
+pub returns : goal.returns
+returns c readable =
+    let self = c.args.self in
+    let page = c.args.page.now in
+    let may = is_in self.targets.now in
+    let live = sym (c.is_live_leaf.ensures ∙ ap is_live_leaf c.new-page.ensures) ∙ c.if-not-is_live_leaf.false in
+    subst (λ (l : Lists). AddsIn report_lists c.judge_items.result c.args.report.now c.judge_items.new.report l)
+    (sym (a-leaf self.number self.specs.now may c.args.block page live))
+    (subst (λ (p : List ℕ). IsReadable self.specs.now p → is_live_leaf p ≡ true → AddsIn report_lists c.judge_items.result c.args.report.now c.judge_items.new.report (items_lists self.number self.specs.now may c.args.block p)) c.new-page.ensures
+    c.judge_items.ensures (readable live) live)

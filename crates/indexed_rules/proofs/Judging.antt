@@ -1,0 +1,300 @@
+-- What the lists say, row by row and entry by entry.
+use Rattle.std.proofs.Common.{◌≡◌, ◌∙◌, ◌↔◌, ◌<◌, ◌≤◌, ◌-◌, ℕ, inl, inr, Bool, true, false, List, [], ◌∷◌, refl, ap, sym, subst, arith}
+use Rattle.std.specs.Prelude.{All, Contains, Option, Some, None, if◌then◌else◌, length, nat_lt, slice_get}
+use Rattle.std.specs.Cmp.{IsTotalOrder}
+use Rattle.std.specs.declared.cmp.Ordering.TheVariants.{Equal}
+use Rattle.std.proofs.lemmas.Bool.{both_ways, cases_Bool, cond-false, cond-true, le-ltb, ltb-false}
+use Rattle.std.proofs.lemmas.Option.{slice_get_read}
+use Rattle.std.proofs.lemmas.List.Elements.{All-append, All-cons, All-head, All-nil, Contains-append_left, Contains-append_right}
+use Rattle.outside.specs.Outside.{Names}
+use Rattle.page_layout.specs.Page.{count_of}
+use Rattle.page_layout.specs.declared.rules.Rule.{Rule}
+use Rattle.page_layout.specs.declared.rules.Rule.TheVariants.{X1, X2}
+use Rattle.tree_search.specs.Keys.{Entry as Given, Separator, compare_keys}
+use Rattle.key_orders.specs.declared.columns.KeySpec.{KeySpec}
+use Rattle.key_orders.specs.declared.columns.Value.{Value}
+use Rattle.key_orders.specs.declared.Tid.{Tid}
+use Rattle.key_orders.specs.Keys.{columns_of, tid_order}
+use Rattle.case_file.specs.Record.{CaseRecord}
+use Rattle.tree_image.specs.Image.{TreeIndex, first_data, has_high_key, item_at, keys_in}
+use Rattle.tree_image.specs.Pages.{IsDataItem}
+use Rattle.bt_steps.specs.Pages.{is_live_leaf}
+use Rattle.reports.specs.Added.{each_upto, nothing, report_lists}
+use Rattle.reports.specs.Lists.{Lists}
+use Rattle.reports.specs.declared.places.Finding.{Finding}
+use Rattle.reports.specs.declared.places.UnjudgedPlace.{UnjudgedPlace}
+use Rattle.reports.specs.declared.places.Place.{Place}
+use Rattle.reports.specs.declared.places.Place.TheVariants.{Entry, Tuple}
+use Rattle.reports.specs.declared.places.Reason.{Reason}
+use Rattle.reports.specs.declared.places.Reason.TheVariants.{U6}
+use Rattle.reports.proofs.Parts.{All-below, All-upto, among_below, among_upto}
+use Rattle.bt_pages.specs.Broken.{AreEmpty, IsDoubtedAt, doubted, IsFoundAt, found}
+use Rattle.bt_pages.proofs.BlockLaws.{All-finding_at, among_finding, no_doubts}
+use Rattle.bt_walks.specs.Trees.{image_of}
+use Rattle.bt_levels.specs.Index.{tree_of}
+use Rattle.heap_check.specs.Rows.{rows_of}
+use Rattle.heap_check.specs.declared.rows.LiveRow.{LiveRow}
+use Rattle.indexed_rules.specs.Entries.{has_alive, may_be_named}
+use Rattle.indexed_rules.specs.Lists.{entries_lists, indexed_lists, item_lists, items_lists, leaf_lists, leaves_lists, missing_rule, nth_lists, row_lists, row_lists_by, rows_lists, stray_rule, tids_at, tids_lists}
+use Rattle.indexed_rules.specs.Rows.{key_of, keys_of}
+use Rattle.indexed_rules.specs.Broken.{Breaks, Doubts, HasEntry, IsAt, IsIndexed, IsJudged, no_entry, packed_key, stray}
+use Rattle.bt_steps.proofs.Members.{first-in, from-map, in-map, in-place, none-in}
+use Rattle.indexed_rules.proofs.Each.{All-each, among-each}
+use Rattle.indexed_rules.proofs.Alive.{counts, is-there}
+
+abbrev findings-of : Lists → List Finding
+findings-of l = l.findings
+
+abbrev unjudged-of : Lists → List UnjudgedPlace
+unjudged-of l = l.unjudged
+
+missing-is : (b : Bool) (rule : Rule) → missing_rule b ≡ Some rule → (b ≡ false) × (rule ≡ X1)
+missing-is true rule e = absurd cc
+missing-is false rule e = let is : X1 ≡ rule = cc in (refl, sym is)
+
+stray-is : (b : Bool) (rule : Rule) → stray_rule b ≡ Some rule → (b ≡ false) × (rule ≡ X2)
+stray-is true rule e = absurd cc
+stray-is false rule e = let is : X2 ≡ rule = cc in (refl, sym is)
+
+-- the number of a data item is 1 or more
+first-item : (page : List ℕ) (i : ℕ) → IsDataItem page i → 1 ≤ i
+first-item page i item = go (has_high_key page) refl
+  where
+    go : (b : Bool) → has_high_key page ≡ b → 1 ≤ i
+    go true is = let from = item.from in let two = cond-true {A = ℕ} (has_high_key page) 2 1 is in omega (arith, from, two)
+    go false is = let from = item.from in let one = cond-false {A = ℕ} (has_high_key page) 2 1 is in omega (arith, from, one)
+
+-- ROWS
+
+module _ (case : CaseRecord) (names : Names) (n : ℕ) (total : IsTotalOrder (compare_keys (columns_of (keys_of case n)) tid_order)) (same : (s t : Separator Value Tid) → (compare_keys (columns_of (keys_of case n)) tid_order s t ≡ Equal) ↔ (s ≡ t)) where
+  abbrev specs : List KeySpec
+  specs = keys_of case n
+
+  abbrev image : TreeIndex
+  image = image_of (tree_of case names n)
+
+  abbrev has : List Value → Tid → Bool
+  has = has_alive specs image
+
+  abbrev IsBroken : Finding → Type 0
+  IsBroken f = Breaks case names n f.rule f.place
+
+  abbrev IsDoubtful : UnjudgedPlace → Type 0
+  IsDoubtful u = Doubts case names n u.reason u.place
+
+  broken-row : (row : LiveRow) → Contains (rows_of case names) row → (o : Option (List Value)) → key_of case n row ≡ o → All IsBroken (row_lists_by n has row o).findings
+  broken-row row among (Some key) is =
+      All-finding_at IsBroken (Tuple n row.tid) (missing_rule (has key row.root)) (λ rule e.
+      let what = missing-is (has key row.root) rule e in
+      subst (λ (r : Rule). Breaks case names n r (Tuple n row.tid)) (sym what.1)
+      (no_entry row key among is (λ entry. both_ways (has key row.root) what.0 (counts specs total same key row.root image entry))))
+  broken-row row among None is = All-nil IsBroken
+
+  doubtful-row : (row : LiveRow) → Contains (rows_of case names) row → (o : Option (List Value)) → key_of case n row ≡ o → All IsDoubtful (row_lists_by n has row o).unjudged
+  doubtful-row row among (Some key) is = subst (All IsDoubtful) (sym (no_doubts (Tuple n row.tid) (missing_rule (has key row.root)))) (All-nil IsDoubtful)
+  doubtful-row row among None is = All-cons IsDoubtful (record { reason = U6; place = Tuple n row.tid }) [] (packed_key row among is) (All-nil IsDoubtful)
+
+  broken-rows : All IsBroken (rows_lists case names n).findings
+  unfolding rows_lists row_lists
+  broken-rows = All-each report_lists findings-of refl (λ a b. refl) (row_lists n specs has) IsBroken (rows_of case names) (λ row among. broken-row row among (key_of case n row) refl)
+
+  doubtful-rows : All IsDoubtful (rows_lists case names n).unjudged
+  unfolding rows_lists row_lists
+  doubtful-rows = All-each report_lists unjudged-of refl (λ a b. refl) (row_lists n specs has) IsDoubtful (rows_of case names) (λ row among. doubtful-row row among (key_of case n row) refl)
+
+  row-found : (row : LiveRow) (f : Finding) → Contains (rows_of case names) row → Contains (row_lists n specs has row).findings f → Contains (rows_lists case names n).findings f
+  unfolding rows_lists
+  row-found row f among h = among-each report_lists findings-of refl (λ a b. refl) (row_lists n specs has) (rows_of case names) row f among h
+
+  row-doubted : (row : LiveRow) (u : UnjudgedPlace) → Contains (rows_of case names) row → Contains (row_lists n specs has row).unjudged u → Contains (rows_lists case names n).unjudged u
+  unfolding rows_lists
+  row-doubted row u among h = among-each report_lists unjudged-of refl (λ a b. refl) (row_lists n specs has) (rows_of case names) row u among h
+
+  -- a row without its entry
+  missing-listed : (row : LiveRow) (key : List Value) → Contains (rows_of case names) row → key_of case n row ≡ Some key → has key row.root ≡ false → Contains (rows_lists case names n).findings (record { rule = X1; place = Tuple n row.tid })
+  unfolding row_lists
+  missing-listed row key among is none =
+      let f : Finding = record { rule = X1; place = Tuple n row.tid } in
+      row-found row f among
+      (subst (λ (o : Option (List Value)). Contains (row_lists_by n has row o).findings f) (sym is)
+      (among_finding (Tuple n row.tid) (missing_rule (has key row.root)) X1 (ap missing_rule none)))
+
+  packed-listed : (row : LiveRow) → Contains (rows_of case names) row → key_of case n row ≡ None → Contains (rows_lists case names n).unjudged (record { reason = U6; place = Tuple n row.tid })
+  unfolding row_lists
+  packed-listed row among is =
+      let u : UnjudgedPlace = record { reason = U6; place = Tuple n row.tid } in
+      row-doubted row u among
+      (subst (λ (o : Option (List Value)). Contains (row_lists_by n has row o).unjudged u) (sym is) (first-in u []))
+
+  -- ENTRIES
+
+  abbrev may : Tid → Bool
+  may = may_be_named case names
+
+  abbrev block : ℕ → List ℕ
+  block = (tree_of case names n).block
+
+  abbrev blocks : ℕ
+  blocks = (tree_of case names n).blocks
+
+  broken-tid : (b i k : ℕ) → 1 ≤ b → b < blocks → is_live_leaf (block b) ≡ true → IsDataItem (block b) i → (o : Option Tid) → slice_get (tids_at specs (block b) i) k ≡ o → All IsBroken (nth_lists n may b i o).findings
+  broken-tid b i k some inside leaf item None is = All-nil IsBroken
+  broken-tid b i k some inside leaf item (Some t) is =
+      let from = from-map (λ (e : Given Value Tid). e.tid) (keys_in (item_at specs [] (block b) i)) t (in-place (tids_at specs (block b) i) k t is) in
+      All-finding_at IsBroken (Entry n b i t) (stray_rule (may t)) (λ rule e.
+      let what = stray-is (may t) rule e in
+      subst (λ (r : Rule). Breaks case names n r (Entry n b i t)) (sym what.1)
+      (subst (λ (u : Tid). Breaks case names n X2 (Entry n b i u)) from.2
+      (stray b i from.0 (record { not_meta = some; inside = inside; leaf = leaf; item = item; entry = from.1 }) (ap may from.2 ∙ what.0))))
+
+  broken-item : (b i : ℕ) → 1 ≤ b → b < blocks → is_live_leaf (block b) ≡ true → i ≤ count_of (block b) → All IsBroken (item_lists n specs may b (block b) i).findings
+  unfolding item_lists
+  broken-item b i some inside leaf to = by (nat_lt i (first_data (block b))) refl
+    where
+      by : (high : Bool) → nat_lt i (first_data (block b)) ≡ high → All IsBroken (if high then nothing else tids_lists n may b i (tids_at specs (block b) i)).findings
+      by true is = All-nil IsBroken
+      by false is =
+          let item : IsDataItem (block b) i = record { from = ltb-false i (first_data (block b)) is; to = to } in
+          All-below report_lists findings-of refl (λ a c. refl) IsBroken (λ k. nth_lists n may b i (slice_get (tids_at specs (block b) i) k)) (length (tids_at specs (block b) i))
+          (λ k lt. broken-tid b i k some inside leaf item (slice_get (tids_at specs (block b) i) k) refl)
+
+  broken-leaf : (b : ℕ) → 1 ≤ b → b < blocks → All IsBroken (leaf_lists n specs may b (block b)).findings
+  unfolding leaf_lists items_lists
+  broken-leaf b some inside = by (is_live_leaf (block b)) refl
+    where
+      by : (l : Bool) → is_live_leaf (block b) ≡ l → All IsBroken (if l then each_upto report_lists (item_lists n specs may b (block b)) (count_of (block b)) else nothing).findings
+      by true leaf = All-upto report_lists findings-of refl (λ a c. refl) IsBroken (item_lists n specs may b (block b)) (count_of (block b)) (λ i first to. broken-item b i some inside leaf to)
+      by false leaf = All-nil IsBroken
+
+  broken-leaves : All IsBroken (entries_lists case names n).findings
+  unfolding entries_lists leaves_lists
+  broken-leaves = All-upto report_lists findings-of refl (λ a c. refl) IsBroken (λ b. leaf_lists n specs may b (block b)) (blocks - 1) (λ b some le. broken-leaf b some (omega (arith, some, le)))
+
+  -- entries leave no doubt
+  abbrev Never : UnjudgedPlace → Type 0
+  Never u = ⊥
+
+  certain-tid : (b i : ℕ) → (o : Option Tid) → All Never (nth_lists n may b i o).unjudged
+  certain-tid b i None = All-nil Never
+  certain-tid b i (Some t) = subst (All Never) (sym (no_doubts (Entry n b i t) (stray_rule (may t)))) (All-nil Never)
+
+  certain-item : (b i : ℕ) (page : List ℕ) → All Never (item_lists n specs may b page i).unjudged
+  unfolding item_lists
+  certain-item b i page = by (nat_lt i (first_data page))
+    where
+      by : (high : Bool) → All Never (if high then nothing else tids_lists n may b i (tids_at specs page i)).unjudged
+      by true = All-nil Never
+      by false = All-below report_lists unjudged-of refl (λ a c. refl) Never (λ k. nth_lists n may b i (slice_get (tids_at specs page i) k)) (length (tids_at specs page i)) (λ k lt. certain-tid b i (slice_get (tids_at specs page i) k))
+
+  certain-leaf : (b : ℕ) (page : List ℕ) → All Never (leaf_lists n specs may b page).unjudged
+  unfolding leaf_lists items_lists
+  certain-leaf b page = by (is_live_leaf page)
+    where
+      by : (l : Bool) → All Never (if l then each_upto report_lists (item_lists n specs may b page) (count_of page) else nothing).unjudged
+      by true = All-upto report_lists unjudged-of refl (λ a c. refl) Never (item_lists n specs may b page) (count_of page) (λ i first to. certain-item b i page)
+      by false = All-nil Never
+
+  certain-leaves : All Never (entries_lists case names n).unjudged
+  unfolding entries_lists leaves_lists
+  certain-leaves = All-upto report_lists unjudged-of refl (λ a c. refl) Never (λ b. leaf_lists n specs may b (block b)) (blocks - 1) (λ b some le. certain-leaf b (block b))
+
+  -- an entry that names what it may not
+  stray-item : (b i : ℕ) (e : Given Value Tid) → IsAt case names n b i e → may e.tid ≡ false → Contains (item_lists n specs may b (block b) i).findings (record { rule = X2; place = Entry n b i e.tid })
+  unfolding item_lists
+  stray-item b i e at none =
+      let f : Finding = record { rule = X2; place = Entry n b i e.tid } in
+      let tids = tids_at specs (block b) i in
+      let there = in-map (λ (d : Given Value Tid). d.tid) (keys_in (item_at specs [] (block b) i)) e at.entry in
+      let lt = there.1 in
+      let is : slice_get tids there.0 ≡ Some e.tid = slice_get_read tids (length tids) there.0 e.tid refl lt (sym there.2) in
+      let of-entry : Contains (nth_lists n may b i (slice_get tids there.0)).findings f =
+      subst (λ (o : Option Tid). Contains (nth_lists n may b i o).findings f) (sym is)
+      (among_finding (Entry n b i e.tid) (stray_rule (may e.tid)) X2 (ap stray_rule none)) in
+      subst (λ (high : Bool). Contains (if high then nothing else tids_lists n may b i tids).findings f) (sym (le-ltb i (first_data (block b)) at.item.from))
+      (among_below report_lists findings-of refl (λ a c. refl) (λ k. nth_lists n may b i (slice_get tids k)) (length tids) there.0 f lt of-entry)
+
+  stray-listed : (b i : ℕ) (e : Given Value Tid) → IsAt case names n b i e → may e.tid ≡ false → Contains (entries_lists case names n).findings (record { rule = X2; place = Entry n b i e.tid })
+  unfolding entries_lists leaves_lists leaf_lists items_lists
+  stray-listed b i e at none =
+      let f : Finding = record { rule = X2; place = Entry n b i e.tid } in
+      let page = block b in
+      let first = first-item page i at.item in
+      let some = at.not_meta in
+      let inside = at.inside in
+      let of-items : Contains (each_upto report_lists (item_lists n specs may b page) (count_of page)).findings f =
+      among_upto report_lists findings-of refl (λ a c. refl) (item_lists n specs may b page) (count_of page) i f first at.item.to (stray-item b i e at none) in
+      let of-leaf : Contains (if is_live_leaf page then each_upto report_lists (item_lists n specs may b page) (count_of page) else nothing).findings f =
+      subst (λ (l : Bool). Contains (if l then each_upto report_lists (item_lists n specs may b page) (count_of page) else nothing).findings f) (sym at.leaf) of-items in
+      among_upto report_lists findings-of refl (λ a c. refl) (λ k. leaf_lists n specs may k (block k)) (blocks - 1) b f some (omega (arith, some, inside)) of-leaf
+
+  -- BOTH
+
+  no-doubts : (us : List UnjudgedPlace) → All Never us → us ≡ []
+  no-doubts [] all = refl
+  no-doubts (u ∷ us) all = absurd (All-head Never u us all)
+
+  row-first : (f : Finding) → Contains (rows_lists case names n).findings f → Contains (indexed_lists case names n).findings f
+  unfolding indexed_lists
+  row-first f h = Contains-append_left (rows_lists case names n).findings (entries_lists case names n).findings f h
+
+  entry-second : (f : Finding) → Contains (entries_lists case names n).findings f → Contains (indexed_lists case names n).findings f
+  unfolding indexed_lists
+  entry-second f h = Contains-append_right (rows_lists case names n).findings (entries_lists case names n).findings f h
+
+  doubt-first : (u : UnjudgedPlace) → Contains (rows_lists case names n).unjudged u → Contains (indexed_lists case names n).unjudged u
+  unfolding indexed_lists
+  doubt-first u h = Contains-append_left (rows_lists case names n).unjudged (entries_lists case names n).unjudged u h
+
+  all-broken : All IsBroken (indexed_lists case names n).findings
+  unfolding indexed_lists
+  all-broken = All-append IsBroken (rows_lists case names n).findings (entries_lists case names n).findings broken-rows broken-leaves
+
+  all-doubtful : All IsDoubtful (indexed_lists case names n).unjudged
+  unfolding indexed_lists
+  all-doubtful =
+      All-append IsDoubtful (rows_lists case names n).unjudged (entries_lists case names n).unjudged doubtful-rows
+      (subst (All IsDoubtful) (sym (no-doubts (entries_lists case names n).unjudged certain-leaves)) (All-nil IsDoubtful))
+
+  has-none : (key : List Value) (root : Tid) → ¬ HasEntry case names n key root → has key root ≡ false
+  has-none key root none = elim (cases_Bool (has key root)) [
+    | inl t ↦ absurd (none (is-there specs total same key root image t))
+    | inr f ↦ f
+  ]
+
+  all-listed : (rule : Rule) (place : Place) → Breaks case names n rule place → IsFoundAt (indexed_lists case names n) place
+  all-listed _ _ (no_entry row key among is none) =
+      found X1 (row-first (record { rule = X1; place = Tuple n row.tid }) (missing-listed row key among is (has-none key row.root none)))
+  all-listed _ _ (stray b i e at none) =
+      found X2 (entry-second (record { rule = X2; place = Entry n b i e.tid }) (stray-listed b i e at none))
+
+  all-doubted : (reason : Reason) (place : Place) → Doubts case names n reason place → IsDoubtedAt (indexed_lists case names n) place
+  all-doubted _ _ (packed_key row among is) = doubted U6 (doubt-first (record { reason = U6; place = Tuple n row.tid }) (packed-listed row among is))
+
+  indexed : AreEmpty (indexed_lists case names n) → (row : LiveRow) → Contains (rows_of case names) row → IsIndexed case names n row
+  indexed empty row among = by (key_of case n row) refl
+    where
+      by : (o : Option (List Value)) → key_of case n row ≡ o → IsIndexed case names n row
+      by None is = absurd (none-in _ (indexed_lists case names n).unjudged empty.unjudged (doubt-first (record { reason = U6; place = Tuple n row.tid }) (packed-listed row among is)))
+      by (Some key) is = record {
+        key = key;
+        values = is;
+        entry = elim (cases_Bool (has key row.root)) [
+          | inl t ↦ is-there specs total same key row.root image t
+          | inr f ↦ absurd (none-in _ (indexed_lists case names n).findings empty.findings (row-first (record { rule = X1; place = Tuple n row.tid }) (missing-listed row key among is f)))
+        ];
+      }
+
+  named : AreEmpty (indexed_lists case names n) → (b i : ℕ) (e : Given Value Tid) → IsAt case names n b i e → may e.tid ≡ true
+  named empty b i e at = elim (cases_Bool (may e.tid)) [
+    | inl t ↦ t
+    | inr f ↦ absurd (none-in _ (indexed_lists case names n).findings empty.findings (entry-second (record { rule = X2; place = Entry n b i e.tid }) (stray-listed b i e at f)))
+  ]
+
+  pub judged : IsJudged case names n
+  judged = record {
+    sound = all-broken;
+    doubts = all-doubtful;
+    listed = all-listed;
+    doubted = all-doubted;
+    kept = λ empty. record { rows = indexed empty; entries = named empty };
+  }

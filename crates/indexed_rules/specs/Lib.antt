@@ -1,0 +1,4 @@
+pub mod Rows
+pub mod Entries
+pub mod Lists
+pub mod Broken

@@ -1,0 +1,105 @@
+-- What is found of a heap and an index of it together: the lists of a report, in its order.
+use Rattle.std.specs.Prelude.{ℕ, ◌-◌, Bool, true, false, if◌then◌else◌, nat_lt, List, [], ◌∷◌, length, map, slice_get}
+use Rattle.std.specs.Prelude.{Option, Some, None}
+use Rattle.outside.specs.Adds.{Joins, each_below}
+use Rattle.outside.specs.Outside.{Names}
+use Rattle.page_layout.specs.Page.{count_of}
+use Rattle.page_layout.specs.declared.rules.Rule.{Rule}
+use Rattle.page_layout.specs.declared.rules.Rule.TheVariants.{X1, X2}
+use Rattle.key_orders.specs.declared.columns.KeySpec.{KeySpec}
+use Rattle.key_orders.specs.declared.columns.Value.{Value}
+use Rattle.key_orders.specs.declared.Tid.{Tid}
+use Rattle.case_file.specs.Record.{CaseRecord}
+use Rattle.tree_image.specs.Image.{first_data, item_at, keys_in}
+use Rattle.bt_steps.specs.Pages.{is_live_leaf}
+use Rattle.reports.specs.Added.{doubt_at, each_upto, finding_at, joined, nothing, report_lists}
+use Rattle.reports.specs.Lists.{Lists}
+use Rattle.reports.specs.declared.places.Place.TheVariants.{Entry, Tuple}
+use Rattle.reports.specs.declared.places.Reason.TheVariants.{U6}
+use Rattle.bt_walks.specs.Trees.{image_of}
+use Rattle.bt_levels.specs.Index.{tree_of}
+use Rattle.heap_check.specs.Rows.{rows_of}
+use Rattle.heap_check.specs.declared.rows.LiveRow.{LiveRow}
+use Rattle.indexed_rules.specs.Entries.{has_alive, may_be_named}
+use Rattle.indexed_rules.specs.Rows.{key_in, keys_of}
+
+-- what each of these gives, in their order
+abbrev pub of_each : {L X : Type 0} → Joins L → (X → L) → List X → L
+of_each lists f [] = lists.none
+of_each lists f (x ∷ xs) = lists.join (f x) (of_each lists f xs)
+
+-- Rows
+
+-- X1, where the index hasn't an entry
+abbrev pub missing_rule : (has : Bool) → Option Rule
+missing_rule true = None
+missing_rule false = Some X1
+
+-- a row with this key, or without one that can be read
+abbrev pub row_lists_by : (number : ℕ) → (List Value → Tid → Bool) → LiveRow → Option (List Value) → Lists
+row_lists_by number has row (Some key) = finding_at (Tuple number row.tid) (missing_rule (has key row.root))
+row_lists_by number has row None = doubt_at (Tuple number row.tid) (Some U6)
+
+-- a row of an index with these columns, which has such entries
+unfoldable pub row_lists : (number : ℕ) → List KeySpec → (List Value → Tid → Bool) → LiveRow → Lists
+row_lists number specs has row = row_lists_by number has row (key_in specs row.cells)
+
+-- Entries
+
+-- X2, where an entry may not name what it names
+abbrev pub stray_rule : (may : Bool) → Option Rule
+stray_rule true = None
+stray_rule false = Some X2
+
+-- an entry with this TID at item i of block b
+abbrev pub entry_lists : (number : ℕ) → (Tid → Bool) → (b i : ℕ) → Tid → Lists
+entry_lists number may b i tid = finding_at (Entry number b i tid) (stray_rule (may tid))
+
+-- the entry at a number of an item, counted from 0, if it has so many
+abbrev pub nth_lists : (number : ℕ) → (Tid → Bool) → (b i : ℕ) → Option Tid → Lists
+nth_lists number may b i (Some tid) = entry_lists number may b i tid
+nth_lists number may b i None = nothing
+
+-- the TIDs of item i of a leaf, in their order, and what is found of each
+abbrev pub tids_at : List KeySpec → List ℕ → ℕ → List Tid
+tids_at specs page i = map (λ e. e.tid) (keys_in (item_at specs [] page i))
+
+abbrev pub tids_lists : (number : ℕ) → (Tid → Bool) → (b i : ℕ) → List Tid → Lists
+tids_lists number may b i tids =
+    each_below report_lists (λ k. nth_lists number may b i (slice_get tids k)) (length tids)
+
+-- item i of block b: its entries, if it is a data item
+unfoldable pub item_lists : (number : ℕ) → List KeySpec → (Tid → Bool) → (b : ℕ) → List ℕ → ℕ → Lists
+item_lists number specs may b page i =
+    if nat_lt i (first_data page) then nothing else tids_lists number may b i (tids_at specs page i)
+
+-- the items of a page
+unfoldable pub items_lists : (number : ℕ) → List KeySpec → (Tid → Bool) → (b : ℕ) → List ℕ → Lists
+items_lists number specs may b page = each_upto report_lists (item_lists number specs may b page) (count_of page)
+
+-- block b: its items, if it is a leaf in use and isn't half-dead
+unfoldable pub leaf_lists : (number : ℕ) → List KeySpec → (Tid → Bool) → (b : ℕ) → List ℕ → Lists
+leaf_lists number specs may b page =
+    if is_live_leaf page then items_lists number specs may b page else nothing
+
+-- all blocks but the metapage, by their numbers
+unfoldable pub leaves_lists : (number : ℕ) → List KeySpec → (Tid → Bool) → (blocks : ℕ) → (ℕ → List ℕ) → Lists
+leaves_lists number specs may blocks block =
+    each_upto report_lists (λ b. leaf_lists number specs may b (block b)) (blocks - 1)
+
+-- Index n of a case
+
+-- the live rows by rising TID: U6 and X1
+unfoldable pub rows_lists : CaseRecord → Names → ℕ → Lists
+rows_lists case names n =
+    of_each report_lists (row_lists n (keys_of case n) (has_alive (keys_of case n) (image_of (tree_of case names n))))
+    (rows_of case names)
+
+-- the entries by block, item and place in the item: X2
+unfoldable pub entries_lists : CaseRecord → Names → ℕ → Lists
+entries_lists case names n =
+    leaves_lists n (keys_of case n) (may_be_named case names) (tree_of case names n).blocks (tree_of case names n).block
+
+-- both
+unfoldable pub indexed_lists : CaseRecord → Names → ℕ → Lists
+indexed_lists case names n = joined (rows_lists case names n) (entries_lists case names n)

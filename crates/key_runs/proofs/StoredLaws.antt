@@ -1,0 +1,117 @@
+-- What is stored is read back, whatever stands behind it.
+use Rattle.std.proofs.Common.{◌≡◌, ℕ, suc, ◌+◌, ◌-◌, ◌<◌, ◌≤◌, ◌^◌, true, false, List, [], ◌∷◌, ◌++◌, length, map, take, drop, refl, sym, ap, ◌∙◌, subst, arith, append_assoc, length-append}
+use Rattle.std.specs.Prelude.{All, min, nat_lt, ℤ}
+use Rattle.std.specs.List.{flat_map}
+use Rattle.std.specs.Int.{cast_signed, cast_unsigned, from_le_bytes, to_le_bytes}
+use Rattle.std.proofs.lemmas.Bool.{cond-false, le-ltb}
+use Rattle.std.proofs.lemmas.List.Elements.{All-head, All-tail}
+use Rattle.std.proofs.lemmas.Int.{to_z-of_z}
+use Rattle.std.proofs.lemmas.Nat.{from_le_bytes-to_le_bytes_2, from_le_bytes-to_le_bytes_4, from_le_bytes-to_le_bytes_8}
+use Rattle.std.proofs.Math.Seq.{take-append_seam, drop-append_seam}
+use mir.Syntax.{w16, w32, w64}
+use mir.Facts.{Fits-of_z}
+use Rattle.key_orders.specs.declared.Tid.{Tid}
+use Rattle.key_orders.specs.declared.columns.Value.{Value}
+use Rattle.key_orders.specs.declared.columns.Value.TheVariants.{Null, Bool as BoolValue, Int, Bytes}
+use Rattle.key_runs.specs.Stored.{stored_value, IsStorable, stored_key, int_read, sized_read, bytes_read, value_read, values_read, key_read, item_read, root_read}
+use Rattle.key_runs.specs.Rows.{GatheredRow}
+use Rattle.key_runs.specs.Tables.{IsStorableRow, stored_row, row_in, heads_from}
+
+front_back : (n : ℕ) (xs rest : List ℕ) → length xs ≡ n → take n (xs ++ rest) ≡ xs
+front_back n xs rest e = subst (λ (m : ℕ). take m (xs ++ rest) ≡ xs) e (take-append_seam xs rest)
+
+rest_back : (n : ℕ) (xs rest : List ℕ) → length xs ≡ n → drop n (xs ++ rest) ≡ rest
+rest_back n xs rest e = subst (λ (m : ℕ). drop m (xs ++ rest) ≡ rest) e (drop-append_seam xs rest)
+
+is_enough : (n : ℕ) (xs rest : List ℕ) → length xs ≡ n → nat_lt (length (xs ++ rest)) n ≡ false
+is_enough n xs rest e = le-ltb (length (xs ++ rest)) n (omega (arith, length-append xs rest))
+
+int_back : (xs rest : List ℕ) → length xs ≡ 8 → int_read (xs ++ rest) ≡ (Int (cast_signed w64 (from_le_bytes w64 xs)), rest)
+int_back xs rest e =
+    cond-false _ _ _ (is_enough 8 xs rest e)
+    ∙ (λ i. (Int (cast_signed w64 (from_le_bytes w64 (front_back 8 xs rest e i))), rest_back 8 xs rest e i))
+
+sized_back : (n : ℕ) (xs rest : List ℕ) → length xs ≡ n → sized_read n (xs ++ rest) ≡ (Bytes xs, rest)
+sized_back n xs rest e = cond-false _ _ _ (is_enough n xs rest e) ∙ (λ i. (Bytes (front_back n xs rest e i), rest_back n xs rest e i))
+
+bytes_back : (xs bytes rest : List ℕ) → length xs ≡ 4 → from_le_bytes w32 xs ≡ length bytes → bytes_read (xs ++ (bytes ++ rest)) ≡ (Bytes bytes, rest)
+bytes_back xs bytes rest e len =
+    cond-false _ _ _ (is_enough 4 xs (bytes ++ rest) e)
+    ∙ ((λ i. sized_read (from_le_bytes w32 (front_back 4 xs (bytes ++ rest) e i)) (rest_back 4 xs (bytes ++ rest) e i))
+    ∙ sized_back (from_le_bytes w32 xs) bytes rest (sym len))
+
+pub value_back : (v : Value) (rest : List ℕ) → IsStorable v → value_read (stored_value v ++ rest) ≡ (v, rest)
+unfolding value_read
+value_back Null rest h = refl
+value_back (BoolValue true) rest h = refl
+value_back (BoolValue false) rest h = refl
+value_back (Int z) rest h =
+    int_back (to_le_bytes w64 (cast_unsigned w64 z)) rest refl
+    ∙ ap (λ (x : ℤ). (Int x, rest)) (ap (cast_signed w64) (from_le_bytes-to_le_bytes_8 (cast_unsigned w64 z) (Fits-of_z h).fits) ∙ to_z-of_z w64 z h)
+value_back (Bytes bytes) rest h = bytes_back (to_le_bytes w32 (length bytes)) bytes rest refl (from_le_bytes-to_le_bytes_4 (length bytes) h)
+
+pub values_back : (vs : List Value) (rest : List ℕ) → All IsStorable vs → values_read (length vs) (flat_map stored_value vs ++ rest) ≡ vs
+values_back [] rest h = refl
+values_back (v ∷ vs) rest h =
+    let behind : List ℕ = flat_map stored_value vs ++ rest in
+    let here : value_read ((stored_value v ++ flat_map stored_value vs) ++ rest) ≡ (v, behind) = rw append_assoc (value_back v behind (All-head IsStorable v vs h)) in
+    (λ i. (here i).0 ∷ values_read (length vs) (here i).1) ∙ ap (λ w. v ∷ w) (values_back vs rest (All-tail IsStorable v vs h))
+
+pub next_read : (n i : ℕ) (bytes : List ℕ) → i < n → values_read (n - i) bytes ≡ (value_read bytes).0 ∷ values_read (n - (i + 1)) (value_read bytes).1
+next_read n i bytes lt =
+    let is : n - i ≡ suc (n - (i + 1)) = omega arith in ap (λ k. values_read k bytes) is
+
+pub key_back : (vs : List Value) (rest : List ℕ) → length vs ≤ 8 → All IsStorable vs → key_read (length vs ∷ (flat_map stored_value vs ++ rest)) ≡ vs
+unfolding key_read
+key_back vs rest few h =
+    let is : min (length vs) 8 ≡ length vs = omega arith in
+    ap (λ n. values_read n (flat_map stored_value vs ++ rest)) is ∙ values_back vs rest h
+
+item_back : (block : ℕ) (xs rest : List ℕ) → length xs ≡ 2 → item_read block (xs ++ rest) ≡ (record { block = block; item = from_le_bytes w16 xs }, rest)
+item_back block xs rest e =
+    cond-false _ _ _ (is_enough 2 xs rest e)
+    ∙ (λ i. (record { block = block; item = from_le_bytes w16 (front_back 2 xs rest e i) }, rest_back 2 xs rest e i))
+
+block_back : (xs ys rest : List ℕ) → length xs ≡ 4 → length ys ≡ 2 → root_read (xs ++ (ys ++ rest)) ≡ (record { block = from_le_bytes w32 xs; item = from_le_bytes w16 ys }, rest)
+unfolding root_read
+block_back xs ys rest e f =
+    cond-false _ _ _ (is_enough 4 xs (ys ++ rest) e)
+    ∙ ((λ i. item_read (from_le_bytes w32 (front_back 4 xs (ys ++ rest) e i)) (rest_back 4 xs (ys ++ rest) e i))
+    ∙ item_back (from_le_bytes w32 xs) ys rest f)
+
+pub root_back : (t : Tid) (rest : List ℕ) → t.block < 2 ^ 32 → t.item < 2 ^ 16 → root_read (to_le_bytes w32 t.block ++ (to_le_bytes w16 t.item ++ rest)) ≡ (t, rest)
+root_back t rest hb hi =
+    block_back (to_le_bytes w32 t.block) (to_le_bytes w16 t.item) rest refl refl
+    ∙ (λ i. (record { block = from_le_bytes-to_le_bytes_4 t.block hb i; item = from_le_bytes-to_le_bytes_2 t.item hi i }, rest))
+
+-- a root and a key
+stored_back : (root : Tid) (key : List Value) (rest : List ℕ) → root.block < 2 ^ 32 → root.item < 2 ^ 16 → length key ≤ 8 → All IsStorable key → root_read (stored_key root key ++ rest) ≡ (root, length key ∷ (flat_map stored_value key ++ rest))
+unfolding stored_key
+stored_back root key rest hb hi few h = root_back root (length key ∷ (flat_map stored_value key ++ rest)) hb hi
+
+-- a row that lies behind others
+row_back : (pre rest : List ℕ) (r : GatheredRow) → IsStorableRow r → row_in (pre ++ (stored_row r ++ rest)) (record { tid = r.tid; at = length pre }) ≡ r
+unfolding row_in
+row_back pre rest r h =
+    let root_is : root_read (drop (length pre) (pre ++ (stored_row r ++ rest))) ≡ (r.root, length r.key ∷ (flat_map stored_value r.key ++ rest)) =
+    ap root_read (drop-append_seam pre (stored_row r ++ rest)) ∙ stored_back r.root r.key rest h.block h.item h.few h.values in
+    let key_is : key_read (root_read (drop (length pre) (pre ++ (stored_row r ++ rest)))).1 ≡ r.key = ap (λ (p : Tid × List ℕ). key_read p.1) root_is ∙ key_back r.key rest h.few h.values in
+    λ i. record { tid = r.tid; root = (root_is i).0; key = key_is i }
+
+-- rows that lie side by side are read at their heads
+pub rows_back : (pre : List ℕ) (rows : List GatheredRow) → All IsStorableRow rows → map (row_in (pre ++ flat_map stored_row rows)) (heads_from (length pre) rows) ≡ rows
+rows_back pre [] h = refl
+rows_back pre (r ∷ rs) h =
+    let here : row_in (pre ++ (stored_row r ++ flat_map stored_row rs)) (record { tid = r.tid; at = length pre }) ≡ r = row_back pre (flat_map stored_row rs) r (All-head IsStorableRow r rs h) in
+    let later : map (row_in ((pre ++ stored_row r) ++ flat_map stored_row rs)) (heads_from (length (pre ++ stored_row r)) rs) ≡ rs = rows_back (pre ++ stored_row r) rs (All-tail IsStorableRow r rs h) in
+    let there : map (row_in (pre ++ (stored_row r ++ flat_map stored_row rs))) (heads_from (length pre + length (stored_row r)) rs) ≡ rs =
+    (λ i. map (row_in (sym (append_assoc pre (stored_row r) (flat_map stored_row rs)) i)) (heads_from (sym (length-append pre (stored_row r)) i) rs)) ∙ later in
+    λ i. here i ∷ there i
+
+-- one row more
+pub heads_from-append : (start : ℕ) (rows : List GatheredRow) (r : GatheredRow) → heads_from start (rows ++ r ∷ []) ≡ heads_from start rows ++ record { tid = r.tid; at = start + length (flat_map stored_row rows) } ∷ []
+heads_from-append start [] r = ap (λ n. record { tid = r.tid; at = n } ∷ []) (omega arith)
+heads_from-append start (x ∷ xs) r =
+    ap (λ w. record { tid = x.tid; at = start } ∷ w)
+    (heads_from-append (start + length (stored_row x)) xs r
+    ∙ ap (λ n. heads_from (start + length (stored_row x)) xs ++ record { tid = r.tid; at = n } ∷ []) (omega (arith, length-append (stored_row x) (flat_map stored_row xs))))

@@ -1,0 +1,4 @@
+pub mod OneBit
+pub mod Tuples
+pub mod Blocks
+pub mod Filled
