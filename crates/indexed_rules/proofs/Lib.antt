@@ -1,3 +1,3 @@
 mod Each
-mod Alive
+pub mod Alive
 mod Judging

@@ -1,0 +1,40 @@
+-- What is told of an index by its own numbers, and of its case.
+use Rattle.std.proofs.Common.{◌≡◌, ℕ, Bool, List, [], refl}
+use Rattle.outside.specs.Outside.{Names}
+use Rattle.rel_files.specs.Blocks.{block_of}
+use Rattle.key_orders.specs.declared.Tid.{Tid}
+use Rattle.case_file.specs.Record.{CaseRecord}
+use Rattle.reports.specs.Added.{joined, report_lists}
+use Rattle.tree_image.specs.Image.{index_image}
+use Rattle.bt_levels.specs.declared.sound.SoundTree.{SoundTree}
+use Rattle.bt_levels.specs.Files.{IsFileOf, number_of}
+use Rattle.bt_levels.specs.Index.{index_of}
+use Rattle.bt_levels.specs.Sound.{IsSoundIndexOf, block_count, file_of, held_block, specs_of}
+use Rattle.heap_check.specs.declared.rows.LiveRow.{LiveRow}
+use Rattle.heap_check.specs.Rows.{rows_of}
+use Rattle.indexed_rules.specs.Entries.{has_alive, may_be_named}
+use Rattle.indexed_rules.specs.Lists.{entries_lists, indexed_lists, leaves_lists, of_each, row_lists, rows_lists}
+use Rattle.heap_indexed.specs.Looking.{has_entry}
+use Rattle.heap_indexed.specs.Waiting.{ahead_lists}
+
+module _ (case : CaseRecord) (names : Names) (tree : SoundTree) (index : IsSoundIndexOf case (number_of (file_of tree)) tree) (file : IsFileOf case names (file_of tree)) where
+  -- its blocks
+  blocks-are : (b : ℕ) → held_block names tree b ≡ block_of names (index_of case (number_of (file_of tree))).file case.segment_blocks b
+  blocks-are b = λ i. block_of names (index.belongs.named.named i) (index.belongs.named.sized i) b
+
+  -- what its rows give
+  pub rows-are : (rows : List LiveRow) → rows ≡ rows_of case names → ahead_lists (number_of (file_of tree)) (specs_of tree) (has_entry names tree) rows ≡ rows_lists case names (number_of (file_of tree))
+  unfolding ahead_lists rows_lists
+  rows-are rows are = λ i.
+      of_each report_lists (row_lists (number_of (file_of tree)) (index.keys i) (has_alive (index.keys i) (index_image (index.keys i) [] (file.count i) (λ b. blocks-are b i)))) (are i)
+
+  -- and its entries
+  pub entries-are : (may : Tid → Bool) → ((tid : Tid) → may tid ≡ may_be_named case names tid) → leaves_lists (number_of (file_of tree)) (specs_of tree) may (block_count tree) (held_block names tree) ≡ entries_lists case names (number_of (file_of tree))
+  unfolding entries_lists
+  entries-are may same = λ i.
+      leaves_lists (number_of (file_of tree)) (index.keys i) (λ tid. same tid i) (file.count i) (λ b. blocks-are b i)
+
+-- and both
+pub both-are : (case : CaseRecord) (names : Names) (n : ℕ) → indexed_lists case names n ≡ joined (rows_lists case names n) (entries_lists case names n)
+unfolding indexed_lists
+both-are case names n = refl

@@ -1,0 +1,38 @@
+-- What look-ups say of the entries of an index.
+use Rattle.std.proofs.Common.{◌≡◌, ◌↔◌, inl, inr, true, List, sym}
+use Rattle.std.specs.Prelude.{IfSome, Option, Some, None, is_some}
+use Rattle.std.specs.Cmp.{IsTotalOrder}
+use Rattle.std.specs.declared.cmp.Ordering.TheVariants.{Equal}
+use Rattle.std.proofs.lemmas.Bool.{both_ways, cases_Bool}
+use Rattle.outside.specs.Outside.{Names}
+use Rattle.tree_search.specs.Keys.{Separator, compare_keys}
+use Rattle.key_orders.specs.declared.columns.Value.{Value}
+use Rattle.key_orders.specs.declared.Tid.{Tid}
+use Rattle.key_orders.specs.Keys.{columns_of, tid_order}
+use Rattle.bt_steps.specs.Sought.{HasAlive}
+use Rattle.bt_levels.specs.declared.sound.SoundTree.{SoundTree}
+use Rattle.bt_levels.specs.Sound.{image_of, specs_of}
+use Rattle.bt_search.specs.Lookups.{IsAtSpot, IsLookedUp}
+use Rattle.bt_search.specs.declared.spot.Spot.{Spot}
+use Rattle.indexed_rules.proofs.Alive.{counts, is-there}
+use Rattle.heap_indexed.specs.Looking.{has_entry}
+
+module _ (tree : SoundTree) (total : IsTotalOrder (compare_keys (columns_of (specs_of tree)) tid_order)) (same : (s t : Separator Value Tid) → (compare_keys (columns_of (specs_of tree)) tid_order s t ≡ Equal) ↔ (s ≡ t)) (names : Names) (key : List Value) (tid : Tid) (alive : (at : Spot) → IsAtSpot names tree key tid at → HasAlive (image_of names tree) key tid) where
+  -- where the entry stands at a spot, there is one
+  pub stands : (at : Spot) → IsAtSpot names tree key tid at → has_entry names tree key tid ≡ true
+  stands at is = counts (specs_of tree) total same key tid (image_of names tree) (alive at is)
+
+  -- and so where a look-up near another entry finds it
+  pub near-is : (found : Option Spot) → IfSome found (IsAtSpot names tree key tid) → is_some found ≡ true → has_entry names tree key tid ≡ true
+  near-is (Some at) is some = stands at is
+  near-is None is some = absurd cc
+
+  -- a look-up from the fast root says whether there is one
+  pub looked-up : (found : Option Spot) → IsLookedUp names tree key tid found → is_some found ≡ has_entry names tree key tid
+  looked-up (Some at) is = sym (stands at is)
+  looked-up None is = elim (cases_Bool (has_entry names tree key tid)) [
+    | inl yes-there ↦
+        let there = is-there (specs_of tree) total same key tid (image_of names tree) yes-there in
+        absurd (both_ways there.entry.killed there.alive (is there.entry there.among there.sought))
+    | inr none ↦ sym none
+  ]

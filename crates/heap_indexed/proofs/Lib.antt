@@ -1,0 +1,6 @@
+pub mod Settling
+pub mod Keys
+pub mod Entries
+pub mod Walks
+pub mod Pages
+pub mod Cases

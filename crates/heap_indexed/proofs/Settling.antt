@@ -1,0 +1,155 @@
+-- What steps add, and what is still owed after them.
+use Rattle.std.proofs.Common.{◌≡◌, ◌∙◌, ℕ, ◌+◌, ◌<◌, Bool, true, false, List, [], ◌∷◌, ◌++◌, length, drop, get_or, refl, sym, ap, subst, arith, add-one, append-nil, drop-cons}
+use Rattle.std.specs.Prelude.{Result, Ok, Err, IsErrAnd, Option, Some, None, map, not}
+use Rattle.std.proofs.Math.ListN.{get_or-map}
+use Rattle.std.proofs.lemmas.List.{get_or_default, length-map}
+use Rattle.outside.specs.Adds.{AddsIn, Begins}
+use Rattle.outside.proofs.Adding.{Begins-cut}
+use Rattle.page_layout.specs.declared.rules.Rule.{Rule}
+use Rattle.key_orders.specs.declared.columns.KeySpec.{KeySpec}
+use Rattle.key_orders.specs.declared.columns.Value.{Value}
+use Rattle.key_orders.specs.declared.Tid.{Tid}
+use Rattle.reports.specs.Added.{doubt_at, finding_at, joined, nothing, report_lists}
+use Rattle.reports.specs.Lists.{Lists}
+use Rattle.reports.specs.declared.places.Place.{Place}
+use Rattle.reports.specs.declared.places.Place.TheVariants.{Tuple}
+use Rattle.reports.specs.declared.places.Reason.TheVariants.{U6}
+use Rattle.key_runs.specs.Marks.{Entries, is_missing}
+use Rattle.key_runs.specs.Rows.{GatheredRow, gathered_row}
+use Rattle.heap_check.specs.declared.rows.LiveRow.{LiveRow}
+use Rattle.indexed_rules.specs.Lists.{missing_rule, of_each, row_lists, row_lists_by}
+use Rattle.indexed_rules.specs.Rows.{key_in}
+use Rattle.heap_indexed.specs.Waiting.{Settles, ahead_lists, run_lists, waiting_lists}
+
+-- Steps
+
+in_turn : (a b c : Lists) → joined (joined a b) c ≡ joined a (joined b c)
+in_turn = report_lists.in_turn
+
+-- after other steps
+pub Settles-then : {T E : Type 0} (r : Result T E) (old mid new owed rest left : Lists) → joined mid rest ≡ joined old owed → Settles r mid new rest left → Settles r old new owed left
+Settles-then (Ok x) old mid new owed rest left was now = now ∙ was
+Settles-then (Err e) old mid new owed rest left was now = record { rest = now.rest; whole = now.whole ∙ was }
+
+-- all of the first part of what is owed was added
+pub Settles-added : {T E : Type 0} (r : Result T E) (old new owed left : Lists) → AddsIn report_lists r old new owed → Settles r old new (joined owed left) left
+Settles-added (Ok x) old new owed left now = ap (λ (l : Lists). joined l left) now ∙ in_turn old owed left
+Settles-added (Err e) old new owed left now = Begins-cut report_lists left now
+
+-- what was left after other steps was added
+pub Adds-last : {T E : Type 0} (r : Result T E) (old mid new owed rest : Lists) → joined mid rest ≡ joined old owed → AddsIn report_lists r mid new rest → AddsIn report_lists r old new owed
+Adds-last (Ok x) old mid new owed rest was now = now ∙ was
+Adds-last (Err e) old mid new owed rest was now = record { rest = now.rest; whole = now.whole ∙ was }
+
+-- what a `?` hands on
+pub Settles-exit : {T E : Type 0} (r : Result T E) (Q : E → Type 0) (old new owed left : Lists) → IsErrAnd r Q → Begins report_lists old new owed → Settles r old new owed left
+Settles-exit (Ok x) Q old new owed left h begins = absurd h
+Settles-exit (Err y) Q old new owed left h begins = begins
+
+-- Rows that wait
+
+pub run-none : (n : ℕ) (has : Entries) → run_lists n has [] ≡ nothing
+unfolding run_lists
+run-none n has = refl
+
+each-append : {X : Type 0} (f : X → Lists) (xs ys : List X) → of_each report_lists f (xs ++ ys) ≡ joined (of_each report_lists f xs) (of_each report_lists f ys)
+each-append f [] ys = refl
+each-append f (x ∷ xs) ys = ap (joined (f x)) (each-append f xs ys) ∙ sym (in_turn (f x) (of_each report_lists f xs) (of_each report_lists f ys))
+
+-- one more row waits
+pub run-push : (n : ℕ) (has : Entries) (rows : List GatheredRow) (r : GatheredRow) → run_lists n has (rows ++ r ∷ []) ≡ joined (run_lists n has rows) (waiting_lists n has r)
+unfolding run_lists
+run-push n has rows r = each-append (waiting_lists n has) rows (r ∷ []) ∙ ap (joined (of_each report_lists (waiting_lists n has) rows)) (report_lists.with_none (waiting_lists n has r))
+
+no-doubt : (place : Place) (rule : Option Rule) → (finding_at place rule).unjudged ≡ []
+no-doubt place (Some rule) = refl
+no-doubt place None = refl
+
+-- rows that wait put nothing in doubt
+pub run-sure : (n : ℕ) (has : Entries) (rows : List GatheredRow) → (run_lists n has rows).unjudged ≡ []
+unfolding run_lists waiting_lists
+run-sure n has [] = refl
+run-sure n has (r ∷ rows) = (λ i. no-doubt (Tuple n r.tid) (missing_rule (has r.key r.root)) i ++ run-sure n has rows i)
+
+-- the rows that are looked up, one after another: row i, and those after it
+pub run-next : (n : ℕ) (has : Entries) (rows : List GatheredRow) (i : ℕ) (d : GatheredRow) → i < length rows → run_lists n has (drop i rows) ≡ joined (waiting_lists n has (get_or rows i d)) (run_lists n has (drop (i + 1) rows))
+unfolding run_lists
+run-next n has rows i d lt = ap (of_each report_lists (waiting_lists n has)) (drop-cons rows i d lt ∙ ap (λ k. get_or rows i d ∷ drop k rows) (sym (add-one i)))
+
+pub any-row : GatheredRow
+any-row = gathered_row (record { block = 0; item = 0 }) (record { block = 0; item = 0 }) []
+
+not-not : (b : Bool) → not (not b) ≡ b
+not-not true = refl
+not-not false = refl
+
+-- what is added for row i by its mark
+pub row-marked : (n : ℕ) (found : Entries) (rows : List GatheredRow) (missing : List Bool) (i : ℕ) (tid : Tid) (mark : Bool) (rule : Option Rule) → missing ≡ map (is_missing found) rows → i < length rows → tid ≡ (get_or rows i any-row).tid → mark ≡ get_or missing i false → rule ≡ missing_rule (not mark) → finding_at (Tuple n tid) rule ≡ waiting_lists n found (get_or rows i any-row)
+unfolding waiting_lists
+row-marked n found rows missing i tid mark rule all lt at marked is =
+    let r : GatheredRow = get_or rows i any-row in
+    let within : i < length (map (is_missing found) rows) = omega (arith, length-map rows (is_missing found)) in
+    let here : mark ≡ not (found r.key r.root) =
+    marked ∙ ap (λ ms. get_or ms i false) all ∙ get_or_default (map (is_missing found) rows) i false (is_missing found any-row) within ∙ get_or-map (is_missing found) rows i any-row in
+    let what : rule ≡ missing_rule (found r.key r.root) = is ∙ ap (λ m. missing_rule (not m)) here ∙ ap missing_rule (not-not (found r.key r.root)) in
+    λ j. finding_at (Tuple n (at j)) (what j)
+
+-- what is added for a row by what its look-up found
+pub row-probed : (n m : ℕ) (found : Entries) (r : GatheredRow) (there : Bool) (rule : Option Rule) → m ≡ n → rule ≡ missing_rule there → there ≡ found r.key r.root → finding_at (Tuple m r.tid) rule ≡ waiting_lists n found r
+unfolding waiting_lists
+row-probed n m found r there rule same is what = λ j. finding_at (Tuple (same j) r.tid) ((is ∙ ap missing_rule what) j)
+
+-- row i was looked at, and then those after it are owed
+pub owed-next : (n : ℕ) (found : Entries) (rows : List GatheredRow) (i : ℕ) (old mid new added : Lists) → i < length rows → added ≡ waiting_lists n found (get_or rows i any-row) → joined mid (run_lists n found (drop i rows)) ≡ joined old (run_lists n found rows) → new ≡ joined mid added → joined new (run_lists n found (drop (i + 1) rows)) ≡ joined old (run_lists n found rows)
+owed-next n found rows i old mid new added lt is was now =
+    let rest : Lists = run_lists n found (drop (i + 1) rows) in
+    let row : Lists = waiting_lists n found (get_or rows i any-row) in
+    ap (λ (l : Lists). joined l rest) (now ∙ ap (joined mid) is) ∙ in_turn mid row rest ∙ ap (joined mid) (sym (run-next n found rows i any-row lt)) ∙ was
+
+-- or a part of what it owed was added
+pub owed-cut : (n : ℕ) (found : Entries) (rows : List GatheredRow) (i : ℕ) (old mid new added : Lists) → i < length rows → added ≡ waiting_lists n found (get_or rows i any-row) → joined mid (run_lists n found (drop i rows)) ≡ joined old (run_lists n found rows) → Begins report_lists mid new added → Begins report_lists old new (run_lists n found rows)
+owed-cut n found rows i old mid new added lt is was now =
+    let rest : Lists = run_lists n found (drop (i + 1) rows) in
+    let row : Lists = waiting_lists n found (get_or rows i any-row) in
+    let here : Begins report_lists mid new row = subst (λ (l : Lists). Begins report_lists mid new l) is now in
+    let more : Begins report_lists mid new (joined row rest) = Begins-cut report_lists rest here in
+    record { rest = more.rest; whole = more.whole ∙ ap (joined mid) (sym (run-next n found rows i any-row lt)) ∙ was }
+
+-- and after the last none is
+pub owed-end : (n : ℕ) (found : Entries) (rows : List GatheredRow) (i : ℕ) (old new : Lists) → drop i rows ≡ [] → joined new (run_lists n found (drop i rows)) ≡ joined old (run_lists n found rows) → new ≡ joined old (run_lists n found rows)
+owed-end n found rows i old new end was =
+    sym (report_lists.with_none new) ∙ ap (joined new) (sym (run-none n found)) ∙ ap (λ (rs : List GatheredRow). joined new (run_lists n found rs)) (sym end) ∙ was
+
+-- Rows ahead
+
+-- a row with a key gives what it would if it waited
+keyed-by : (n : ℕ) (has : Entries) (row : LiveRow) (key : List Value) (o : Option (List Value)) → o ≡ Some key → row_lists_by n has row o ≡ waiting_lists n has (gathered_row row.tid row.root key)
+unfolding waiting_lists
+keyed-by n has row key o is = ap (row_lists_by n has row) is
+
+pub ahead-keyed : (n : ℕ) (specs : List KeySpec) (has : Entries) (row : LiveRow) (rows : List LiveRow) (key : List Value) → key_in specs row.cells ≡ Some key → ahead_lists n specs has (row ∷ rows) ≡ joined (waiting_lists n has (gathered_row row.tid row.root key)) (ahead_lists n specs has rows)
+unfolding ahead_lists row_lists
+ahead-keyed n specs has row rows key is = ap (λ (l : Lists). joined l (of_each report_lists (row_lists n specs has) rows)) (keyed-by n has row key (key_in specs row.cells) is)
+
+-- and one without is in doubt
+pub ahead-packed : (n : ℕ) (specs : List KeySpec) (has : Entries) (row : LiveRow) (rows : List LiveRow) → key_in specs row.cells ≡ None → ahead_lists n specs has (row ∷ rows) ≡ joined (doubt_at (Tuple n row.tid) (Some U6)) (ahead_lists n specs has rows)
+unfolding ahead_lists row_lists
+ahead-packed n specs has row rows is = ap (λ (o : Option (List Value)). joined (row_lists_by n has row o) (of_each report_lists (row_lists n specs has) rows)) is
+
+pub ahead-none : (n : ℕ) (specs : List KeySpec) (has : Entries) → ahead_lists n specs has [] ≡ nothing
+unfolding ahead_lists
+ahead-none n specs has = refl
+
+pub doubt-is : (old : Lists) (place : Place) → record { findings = old.findings; unjudged = old.unjudged ++ record { reason = U6; place = place } ∷ [] } ≡ joined old (doubt_at place (Some U6))
+doubt-is old place = λ i. record { findings = sym (append-nil old.findings) i; unjudged = old.unjudged ++ record { reason = U6; place = place } ∷ [] }
+
+-- A doubt is added before what waits: the two go to lists of their own
+
+pub doubt-first : (old waits ahead : Lists) (place : Place) → waits.unjudged ≡ [] → joined (joined old (doubt_at place (Some U6))) (joined waits ahead) ≡ joined old (joined waits (joined (doubt_at place (Some U6)) ahead))
+doubt-first old waits ahead place sure =
+    let d = doubt_at place (Some U6) in
+    let same : joined d (joined waits ahead) ≡ joined waits (joined d ahead) = λ i. record {
+      findings = waits.findings ++ ahead.findings;
+      unjudged = (ap (λ us. d.unjudged ++ (us ++ ahead.unjudged)) sure ∙ sym (ap (λ us. us ++ (d.unjudged ++ ahead.unjudged)) sure)) i;
+    } in
+    in_turn old d (joined waits ahead) ∙ ap (joined old) same

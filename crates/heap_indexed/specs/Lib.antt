@@ -1,0 +1,6 @@
+pub mod Joined
+pub mod Looking
+pub mod Probing
+pub mod ProbingLaws
+pub mod Waiting
+pub mod Targets

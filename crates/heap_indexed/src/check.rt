@@ -1,0 +1,155 @@
+//! The checks of a heap against an index of it.
+ghost use Rattle.std.specs.Prelude.{◌≡◌, ◌⊎◌, ◌≤◌, ◌+◌, ◌*◌, ◌^◌, [], IfErr, IfOk, OnOk, length};
+ghost use Rattle.outside.specs.Adds.{AddsIn};
+ghost use Rattle.outside.specs.Outside.{Asked, IfTold};
+ghost use Rattle.reports.specs.Added.{report_lists};
+ghost use Rattle.bt_levels.specs.Files.{number_of};
+ghost use Rattle.bt_levels.specs.Sound.{file_of};
+ghost use Rattle.bt_search.specs.Cached.{IsCacheOf};
+ghost use Rattle.heap_check.specs.Rows.{rows_of};
+ghost use Rattle.indexed_rules.specs.Lists.{entries_lists, indexed_lists, rows_lists};
+ghost use Rattle.heap_indexed.specs.Joined.{BelongTogether, HoldTogether};
+ghost use Rattle.heap_indexed.specs.Looking.{look_up_visits};
+
+use crate::joined::{IndexedHeap, LookUps};
+use crate::rows::{Waiting, columns_of};
+use crate::targets::targets_in;
+use bt_search::{PageCache, Visits};
+use heap_check::RowCursor;
+use index_targets::check_targets;
+use key_runs::KeyRun;
+use outside::{Files, NoMemory};
+use reports::{CheckFault, PageFault, Report};
+use root_set::set_tells_of_pages;
+use std::alloc::Global;
+
+// The rows of a heap of fewer blocks are looked up as they come.
+const RUN_BLOCKS: u32 = 64;
+
+// The bytes that the rows that wait may use: 32 MiB.
+const RUN_BYTES: u32 = 33_554_432;
+
+// How many pages of the index are kept.
+const CACHE_PAGES: usize = 64;
+
+// A run of the rows of a heap, which holds none where each is to be looked up as it comes.
+fn run_for(alloc: Global, blocks: u32) -> Result<KeyRun, NoMemory>
+    ensures { IfOk result (λ run. run.rows ≡ []) }
+{
+    let budget = if blocks < RUN_BLOCKS { 0 } else { RUN_BYTES };
+    KeyRun::new(alloc, budget)
+}
+
+// Memory for a page.
+fn new_hand(alloc: Global) -> Result<Box<[u8; 8192]>, NoMemory> {
+    let hand = Box::new(alloc, [0; 8192])?;
+    Ok(hand)
+}
+
+// Adds each entry of an index that names what no entry may name.
+fn check_entries<F: Files>(
+    alloc: Global,
+    files: &mut F,
+    at: IndexedHeap<'_>,
+    report: &mut Report,
+) -> Result<(), PageFault>
+    requires belong { BelongTogether at.case.now at.heap.now at.tree.now }
+    requires hold { IfTold F.seen files.old (λ names. HoldTogether names at.case.now at.heap.now at.tree.now) }
+    ensures lists { IfTold F.seen files.old (λ names. AddsIn report_lists result report.old report.new
+        (entries_lists at.entry.case.now names (number_of (file_of at.entry.tree.now)))) }
+    ensures asked { Asked F.seen files.old files.new result PageFault.ReadFault }
+{
+    set_tells_of_pages();
+    let mut hand = new_hand(alloc)?;
+    let targets = targets_in(alloc, files, at.heap, &mut hand)?;
+    check_targets(files, at.tree, &targets, &mut hand, report)
+}
+
+// Judges the rows of a heap one after another.
+fn probe_in_turn<F: Files>(
+    alloc: Global,
+    files: &mut F,
+    at: IndexedHeap<'_>,
+    look_ups: &mut LookUps,
+    report: &mut Report,
+) -> Result<(), PageFault>
+    requires belong { BelongTogether at.case.now at.heap.now at.tree.now }
+    requires hold { IfTold F.seen files.old (λ names. HoldTogether names at.case.now at.heap.now at.tree.now) }
+    requires of { IfTold F.seen files.old (λ names. IsCacheOf names at.tree.now look_ups.old.cache) }
+    ensures lists { IfTold F.seen files.old (λ names. AddsIn report_lists result report.old report.new
+        (rows_lists at.entry.case.now names (number_of (file_of at.entry.tree.now)))) }
+    ensures visits { IfTold F.seen files.old (λ names. OnOk result (look_ups.new.visits.count ≤
+        look_ups.old.visits.count
+        + length (rows_of at.entry.case.now names) * look_up_visits names at.entry.tree.now)) }
+    ensures of { IfTold F.seen files.old (λ names. IsCacheOf names at.entry.tree.now look_ups.new.cache) }
+    ensures asked { Asked F.seen files.old files.new result PageFault.ReadFault }
+{
+    at.case.sound();
+    let columns = columns_of(alloc, at.tree.specs())?;
+    let mut cursor = RowCursor::new(alloc, at.case, at.heap, &columns)?;
+    let run = run_for(alloc, at.heap.heap().blocks())?;
+    let mut waiting = Waiting { at, run };
+    waiting.judge_all(files, &mut cursor, look_ups, report)
+}
+
+/// Adds to the report each live row of a heap that has no entry in an index of it under its own key, with the TID of
+/// its root, that isn't killed (X1), and each whose key has a compressed value and so can't be looked up (U6), by
+/// rising TID.
+///
+/// Rows of a heap of 64 blocks or more are looked up in runs, in the order of their keys; those of a smaller one, each
+/// as it comes. Pages of the index are looked at through the cache, and each look is a visit.
+///
+/// `ReadFault` comes only where the count of the files' faults rose, and `NoFile` and `TooLarge` never. After an error
+/// the report has a first part of what it would have got.
+pub fn probe_rows<F: Files>(
+    alloc: Global,
+    files: &mut F,
+    at: IndexedHeap<'_>,
+    look_ups: &mut LookUps,
+    report: &mut Report,
+) -> Result<(), CheckFault>
+    requires belong { BelongTogether at.case.now at.heap.now at.tree.now }
+    requires hold { IfTold F.seen files.old (λ names. HoldTogether names at.case.now at.heap.now at.tree.now) }
+    requires of { IfTold F.seen files.old (λ names. IsCacheOf names at.tree.now look_ups.old.cache) }
+    requires room { look_ups.old.visits.count ≤ 2 ^ 62 }
+    ensures lists { IfTold F.seen files.old (λ names. AddsIn report_lists result report.old report.new
+        (rows_lists at.entry.case.now names (number_of (file_of at.entry.tree.now)))) }
+    ensures visits { IfTold F.seen files.old (λ names. OnOk result (look_ups.new.visits.count ≤
+        look_ups.old.visits.count
+        + length (rows_of at.entry.case.now names) * look_up_visits names at.entry.tree.now)) }
+    ensures of { IfTold F.seen files.old (λ names. IsCacheOf names at.entry.tree.now look_ups.new.cache) }
+    ensures only { IfErr result (λ e. e ≡ CheckFault.ReadFault ⊎ e ≡ CheckFault.NoMemory) }
+    ensures asked { Asked F.seen files.old files.new result CheckFault.ReadFault }
+{
+    probe_in_turn(alloc, files, at, look_ups, report)?;
+    Ok(())
+}
+
+/// Judges a heap and an index of it together, in both of which nothing was found, and adds to the report what is found:
+/// first of the live rows (X1, U6), by rising TID, and then each entry of the index, killed or not, that names what no
+/// entry may name (X2), by block, item and place in the item.
+///
+/// `ReadFault` comes only where the count of the files' faults rose, and `NoFile` and `TooLarge` never. After an error
+/// the report has a first part of what it would have got.
+pub fn check_indexed<F: Files>(
+    alloc: Global,
+    files: &mut F,
+    at: IndexedHeap<'_>,
+    report: &mut Report,
+) -> Result<(), CheckFault>
+    requires belong { BelongTogether at.case.now at.heap.now at.tree.now }
+    requires hold { IfTold F.seen files.old (λ names. HoldTogether names at.case.now at.heap.now at.tree.now) }
+    ensures lists { IfTold F.seen files.old (λ names. AddsIn report_lists result report.old report.new
+        (indexed_lists at.entry.case.now names (number_of (file_of at.entry.tree.now)))) }
+    ensures only { IfErr result (λ e. e ≡ CheckFault.ReadFault ⊎ e ≡ CheckFault.NoMemory) }
+    ensures asked { Asked F.seen files.old files.new result CheckFault.ReadFault }
+{
+    let cache = PageCache::new(alloc, CACHE_PAGES)?;
+    let mut look_ups = LookUps {
+        cache,
+        visits: Visits { count: 0 },
+    };
+    probe_rows(alloc, files, at, &mut look_ups, report)?;
+    check_entries(alloc, files, at, report)?;
+    Ok(())
+}

@@ -1,0 +1,16 @@
+//! A heap and an index of it together: each live tuple is looked up in the index under its own key (X1, U6), and
+//! each entry of the index is asked what it names in the heap (X2).
+#![tactic(auto)]
+
+mod check;
+mod joined;
+mod prober;
+mod rows;
+#[cfg(test)]
+mod tables;
+mod targets;
+#[cfg(test)]
+mod tests;
+
+pub use check::{check_indexed, probe_rows};
+pub use joined::{IndexedHeap, LookUps};
