@@ -72,6 +72,7 @@ make_logs() {
 
 # A heap of 16384 blocks with these flags and transactions (see bench/make_heap), and its case.
 make_table() {
+    # shellcheck disable=SC2154 # the bench that reads this file sets it, to the folder that both are in
     "$here/make_heap" "$1" 16384 "$2" "$3"
     cat >"$1.toml" <<CASE
 [cluster]

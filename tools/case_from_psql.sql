@@ -13,9 +13,9 @@
 --
 -- What a case can't say is left out, and a comment in the text gives the
 -- reason: an index that isn't a B-tree, that is partial or on an expression,
--- that has included columns, a key type or a collation that the checker doesn't
--- order; and a missing value whose stored bytes can't be told from SQL. Such a
--- value is read as null.
+-- that has included columns or more blocks than the checker reads, a key type
+-- or a collation that the checker doesn't order; and a missing value whose
+-- stored bytes can't be told from SQL. Such a value is read as null.
 --
 -- It needs no extension and no special right, and it changes nothing. Where a
 -- case can't describe the table it prints nothing, gives the reason on standard
@@ -23,144 +23,213 @@
 -- and no rows, so any state of the table will do; but a command that rewrites
 -- the table or changes its columns or indexes (VACUUM FULL, CLUSTER, TRUNCATE,
 -- REINDEX, ALTER TABLE) makes the text out of date.
+--
+-- tools/cases_from_server runs it with `every` in place of `tab`, for all tables
+-- of the database: with `-v every=tables` for those that users made and for
+-- large objects, with `-v every=catalogs` for the server's own too. It then
+-- prints records of three fields, each field and each record ended as psql is
+-- told to: what it is, a name, and a text.
+--
+--     case             the name of a file, SCHEMA.TABLE.toml    the case text
+--     table            a table that has no case                 the reason
+--     index            an index that its case leaves out        the reason
+--     missing value    one that its case leaves out             the reason
+--     end              the database                             how many records came before this one
+--
+-- In the names of files each byte of a name of SQL but the letters and digits of
+-- ASCII, _ and - is written as % and two hexadecimal digits of upper case. Where
+-- that is too long for a file system, both names are cut, and the table's oid
+-- follows as a third part.
 
 \set ON_ERROR_STOP on
 \set VERBOSITY terse
 \set SHOW_CONTEXT never
-\encoding UTF8
 
 \if :{?tab}
+    \set is_one true
+    \set every none
 \else
+    \set is_one false
+    \set tab none
+    \if :{?every}
+    \else
 do $$ begin raise exception 'name the table, as -v tab=SCHEMA.TABLE'; end $$;
+    \endif
 \endif
+
+-- Names of a database without an encoding are any bytes.
+select case when pg_catalog.getdatabaseencoding() = 'SQL_ASCII' then 'SQL_ASCII' else 'UTF8' end as encoding_of_names
+\gset
+\encoding :encoding_of_names
+
+do $$
+begin
+    if current_setting('block_size') <> '8192' then
+        raise exception 'the blocks of this server have % bytes, and only 8192 will do', current_setting('block_size');
+    end if;
+end
+$$;
 
 -- A name that no relation has ends the script here.
-select :'tab'::regclass::oid as table_oid
+\if :is_one
+select :'tab'::pg_catalog.regclass::pg_catalog.oid as table_oid
 \gset
-
--- Why no case can describe the table; an empty text where one can.
-select set_config('kamzudrev.reason', coalesce((
-    with columns as (
-        select attname, attlen, atttypid
-        from pg_attribute
-        where attrelid = :'table_oid'::oid and attnum > 0
-    ),
-    sizes as (
-        select
-            pg_relation_size(class.oid) / 8192 as heap_blocks,
-            pg_relation_size(nullif(class.reltoastrelid, 0)) / 8192 as toast_blocks
-        from pg_class as class
-        where class.oid = :'table_oid'::oid
-    )
-    select case
-        when current_setting('block_size') <> '8192'
-        then format('the blocks of this server have %s bytes, and only 8192 will do', current_setting('block_size'))
-        when class.relkind = 'v'
-        then 'it is a view, which has no file'
-        when class.relkind = 'p'
-        then 'it is a partitioned table, which has no file; each of its partitions is a table and has a case of its own'
-        when class.relkind = 'f'
-        then 'it is a foreign table, which has no file here'
-        when class.relkind in ('i', 'I')
-        then 'it is an index; name its table, whose case lists it'
-        when class.relkind not in ('r', 'm', 't')
-        then 'it is no table'
-        when access_method.amname is distinct from 'heap'
-        then format('its access method is %s, and only heap will do', coalesce(access_method.amname, 'not known'))
-        when class.relpersistence = 't'
-        then 'it is a temporary table, which is gone once the server is stopped'
-        when pg_relation_filepath(class.oid) is null
-        then 'it has no file'
-        when not exists (select from columns)
-        then 'it has no column, and a case lists at least one'
-        when (select count(*) from columns) > 64
-        then format(
-            'it has %s columns, dropped ones among them, and a case lists 64 at most',
-            (select count(*) from columns)
-        )
-        when exists (select from columns where attlen < -1 or attlen > 8000)
-        then format(
-            'its column %s is of a type that no case can list: its length (attlen) is %s',
-            (select to_json(attname::text) from columns where attlen < -1 or attlen > 8000 limit 1),
-            (select attlen from columns where attlen < -1 or attlen > 8000 limit 1)
-        )
-        when sizes.heap_blocks > 16384
-        then format('its heap has %s blocks, and the checker reads 16384 at most (128 MiB)', sizes.heap_blocks)
-        when sizes.toast_blocks > 16384
-        then format('its TOAST table has %s blocks, and the checker reads 16384 at most (128 MiB)', sizes.toast_blocks)
-    end
-    from pg_class as class
-    cross join sizes
-    left join pg_am as access_method on access_method.oid = class.relam
-    where class.oid = :'table_oid'::oid
-), ''), false) <> '' as is_refused
-\gset
-
-\if :is_refused
-do $$ begin raise exception 'there is no case for this table: %', current_setting('kamzudrev.reason'); end $$;
+\else
+    \set table_oid 0
 \endif
+
+-- From here on all names are those of the server itself. A table that another
+-- session keeps for itself is waited for, but not for ever.
+set search_path = '';
+set default_transaction_read_only = on;
+set lock_timeout = '60s';
+set statement_timeout = 0;
+set standard_conforming_strings = on;
+set jit = off;
 
 with recursive
 
-target as (
+-- The tables that are asked for. Of the server's own, large objects are always
+-- among them where there are any: their rows are what users stored.
+asked as (
     select
-        class.oid,
+        class.*,
+        namespace.nspname::text as schema_name,
+        class.relname::text as table_name,
         pg_relation_filepath(class.oid) as heap_path,
+        pg_relation_size(class.oid) / 8192 as heap_blocks,
         nullif(class.reltoastrelid, 0) as toast_oid,
-        pg_relation_filepath(nullif(class.reltoastrelid, 0)) as toast_path
+        pg_relation_filepath(nullif(class.reltoastrelid, 0)) as toast_path,
+        pg_relation_size(nullif(class.reltoastrelid, 0)) / 8192 as toast_blocks
     from pg_class as class
-    where class.oid = :'table_oid'::oid
+    join pg_namespace as namespace on namespace.oid = class.relnamespace
+    where case
+        when :'is_one' then class.oid = :'table_oid'::oid
+        when class.relkind not in ('r', 'm', 'p', 'f') then false
+        when namespace.nspname not in ('pg_catalog', 'information_schema') or :'every' = 'catalogs' then true
+        else class.oid in ('pg_largeobject'::regclass, 'pg_largeobject_metadata'::regclass)
+            and pg_relation_size(class.oid) > 0
+    end
+),
+
+attributes as (
+    select attribute.*, attribute.attname::text as column_name
+    from pg_attribute as attribute
+    join asked on attribute.attrelid = asked.oid
+    where attribute.attnum > 0
+),
+
+column_counts as (
+    select
+        attrelid as table_oid,
+        count(*) as column_count,
+        min(attnum) filter (where attlen < -1 or attlen > 8000) as odd_attnum
+    from attributes
+    group by attrelid
+),
+
+-- Why no case can describe a table; null where one can.
+tables as (
+    select
+        asked.*,
+        case
+            when asked.relkind = 'v'
+            then 'it is a view, which has no file'
+            when asked.relkind = 'p'
+            then 'it is a partitioned table, which has no file; '
+                'each of its partitions is a table and has a case of its own'
+            when asked.relkind = 'f'
+            then 'it is a foreign table, which has no file here'
+            when asked.relkind in ('i', 'I')
+            then 'it is an index; name its table, whose case lists it'
+            when asked.relkind not in ('r', 'm', 't')
+            then 'it is no table'
+            when access_method.amname is distinct from 'heap'
+            then format('its access method is %s, and only heap will do', coalesce(access_method.amname, 'not known'))
+            when asked.relpersistence = 't'
+            then 'it is a temporary table, which is gone once the server is stopped'
+            when asked.heap_path is null
+            then 'it has no file'
+            when column_counts.column_count is null
+            then 'it has no column, and a case lists at least one'
+            when column_counts.column_count > 64
+            then format(
+                'it has %s columns, dropped ones among them, and a case lists 64 at most', column_counts.column_count
+            )
+            when column_counts.odd_attnum is not null
+            then format(
+                'its column %s is of a type that no case can list: its length (attlen) is %s',
+                to_json(odd_column.column_name), odd_column.attlen
+            )
+            when asked.heap_blocks > 16384
+            then format('its heap has %s blocks, and the checker reads 16384 at most (128 MiB)', asked.heap_blocks)
+            when asked.toast_blocks > 16384
+            then format(
+                'its TOAST table has %s blocks, and the checker reads 16384 at most (128 MiB)', asked.toast_blocks
+            )
+        end as reason
+    from asked
+    left join pg_am as access_method on access_method.oid = asked.relam
+    left join column_counts on column_counts.table_oid = asked.oid
+    left join attributes as odd_column
+        on odd_column.attrelid = asked.oid and odd_column.attnum = column_counts.odd_attnum
+),
+
+described as (
+    select * from tables where reason is null
 ),
 
 -- A column of a domain is stored as the type below it, which can be a domain too.
-domain_steps (attnum, type_oid, depth) as (
-    select attribute.attnum, attribute.atttypid, 0
-    from pg_attribute as attribute
-    join target on attribute.attrelid = target.oid
-    where attribute.attnum > 0
+domain_steps (top_oid, type_oid, depth) as (
+    select oid, oid, 0
+    from pg_type
     union all
-    select domain_steps.attnum, domain.typbasetype, domain_steps.depth + 1
+    select domain_steps.top_oid, domain.typbasetype, domain_steps.depth + 1
     from domain_steps
     join pg_type as domain on domain.oid = domain_steps.type_oid and domain.typtype = 'd'
 ),
 
 base_types as (
-    select distinct on (domain_steps.attnum)
-        domain_steps.attnum,
+    select distinct on (domain_steps.top_oid)
+        domain_steps.top_oid,
         domain_steps.type_oid,
         base.typname::text as type_name,
         base.typtype = 'e' as is_enum,
         case when base.typnamespace = 'pg_catalog'::regnamespace then base.typname::text end as server_type,
         send.proname::text as send_name
     from domain_steps
-    left join pg_type as base on base.oid = domain_steps.type_oid
+    join pg_type as base on base.oid = domain_steps.type_oid
     left join pg_proc as send on send.oid = base.typsend and send.pronamespace = 'pg_catalog'::regnamespace
-    order by domain_steps.attnum, domain_steps.depth desc
+    order by domain_steps.top_oid, domain_steps.depth desc
 ),
 
 -- All attributes in their order. A dropped one keeps its length and alignment,
 -- has no type any more, and is listed by its storage.
 columns as (
     select
-        attribute.attnum,
-        attribute.attname::text as column_name,
-        attribute.attlen as stored_length,
-        case attribute.attalign when 'c' then 1 when 's' then 2 when 'i' then 4 else 8 end as alignment,
+        described.oid as table_oid,
+        attributes.attnum,
+        attributes.column_name,
+        attributes.attlen as stored_length,
+        case attributes.attalign when 'c' then 1 when 's' then 2 when 'i' then 4 else 8 end as alignment,
         base_types.type_oid,
         base_types.type_name,
+        base_types.is_enum,
+        base_types.server_type,
+        base_types.send_name,
         case
-            when attribute.attisdropped then null
+            when attributes.attisdropped then null
             when base_types.type_oid in (
                 'bool'::regtype, 'int2'::regtype, 'int4'::regtype, 'int8'::regtype,
                 'uuid'::regtype, 'text'::regtype, 'bytea'::regtype
             ) then base_types.type_name
             when base_types.type_oid = 'varchar'::regtype then 'text'
         end as key_type,
-        attribute.atthasmissing and not attribute.attisdropped as has_missing
-    from pg_attribute as attribute
-    join target on attribute.attrelid = target.oid
-    left join base_types on base_types.attnum = attribute.attnum
-    where attribute.attnum > 0
+        attributes.atthasmissing and not attributes.attisdropped as has_missing,
+        attributes.attmissingval as missing_array
+    from described
+    join attributes on attributes.attrelid = described.oid
+    left join base_types on base_types.top_oid = attributes.atttypid
 ),
 
 -- The types whose values are stored as one number after the other, each with its
@@ -193,22 +262,24 @@ sent_numbers (send_name, widths) as (
 -- stored as the oid of its label.
 missing_values as (
     select
-        base_types.*,
+        table_oid,
+        attnum,
+        type_oid,
+        is_enum,
+        server_type,
+        send_name,
         case
             when is_enum or server_type in ('text', 'varchar', 'bpchar', 'json', 'name')
-            then (attribute.attmissingval::text::text[])[1]
+            then (missing_array::text::text[])[1]
         end as missing_text,
         case
             when not is_enum and (
                 send_name in (select sent_numbers.send_name from sent_numbers)
                 or send_name in ('numeric_send', 'inet_send', 'cidr_send')
-            ) then substring(array_send(attribute.attmissingval) from 25)
+            ) then substring(array_send(missing_array) from 25)
         end as sent
     from columns
-    join base_types on base_types.attnum = columns.attnum
-    join target on true
-    join pg_attribute as attribute on attribute.attrelid = target.oid and attribute.attnum = columns.attnum
-    where columns.has_missing
+    where has_missing
 ),
 
 -- A numeric is sent as five numbers of two bytes and its digits, of two bytes
@@ -217,6 +288,7 @@ missing_values as (
 -- bytes where weight and places are small, or where it is no number, else four.
 numeric_parts as (
     select
+        table_oid,
         attnum,
         sent,
         get_byte(sent, 4) * 256 + get_byte(sent, 5) as sign,
@@ -228,6 +300,7 @@ numeric_parts as (
 
 numeric_headers as (
     select
+        table_oid,
         attnum,
         sent,
         case
@@ -242,25 +315,26 @@ numeric_headers as (
 
 -- What is stored, each as numbers with the highest byte first, and their widths.
 missing_numbers as (
-    select missing_values.attnum, sent as highest_first, widths
+    select table_oid, attnum, sent as highest_first, widths
     from missing_values
     join sent_numbers on sent_numbers.send_name = missing_values.send_name
     where sent is not null
 
     union all
-    select missing_values.attnum, oidsend(label.oid), array[4]
+    select table_oid, attnum, oidsend(label.oid), array[4]
     from missing_values
     join pg_enum as label on label.enumtypid = type_oid and label.enumlabel = missing_text
     where is_enum
 
     union all
-    select attnum, convert_to(missing_text, getdatabaseencoding()), array[]::int4[]
+    select table_oid, attnum, convert_to(missing_text, getdatabaseencoding()), array[]::int4[]
     from missing_values
     where server_type in ('text', 'varchar', 'bpchar', 'json')
 
     -- A name fills its 64 bytes up with zeros.
     union all
     select
+        table_oid,
         attnum,
         convert_to(missing_text, getdatabaseencoding())
             || decode(repeat('00', 64 - length(convert_to(missing_text, getdatabaseencoding()))), 'hex'),
@@ -270,12 +344,13 @@ missing_numbers as (
 
     -- An address is sent as its family, its bits, two bytes that aren't stored, and its bytes.
     union all
-    select attnum, substring(sent for 2) || substring(sent from 5), array[]::int4[]
+    select table_oid, attnum, substring(sent for 2) || substring(sent from 5), array[]::int4[]
     from missing_values
     where send_name in ('inet_send', 'cidr_send')
 
     union all
     select
+        table_oid,
         attnum,
         header || substring(sent from 9),
         array_fill(2, array[length(header || substring(sent from 9)) / 2])
@@ -285,6 +360,7 @@ missing_numbers as (
 -- The digits of each number's bytes, the lowest first, and those of the rest.
 missing_digits as (
     select
+        table_oid,
         attnum,
         coalesce((
             select string_agg(
@@ -301,14 +377,36 @@ missing_digits as (
     from missing_numbers
 ),
 
+-- Why a missing value is left out; null where its digits are listed.
+missing_reasons as (
+    select
+        columns.table_oid,
+        columns.attnum,
+        columns.column_name,
+        missing_digits.digits,
+        case
+            when missing_digits.digits is null
+            then format('the stored bytes of its type %s can''t be told from SQL', type_names.in_toml)
+            when length(missing_digits.digits) > 16000
+            then 'it has more than 8000 bytes'
+        end as reason
+    from columns
+    left join missing_digits
+        on missing_digits.table_oid = columns.table_oid and missing_digits.attnum = columns.attnum
+    join names as type_names on type_names.name = columns.type_name
+    where columns.has_missing
+),
+
 indexes as (
     select
         index.*,
+        described.oid as table_oid,
         class.relname::text as index_name,
         pg_relation_filepath(class.oid) as index_path,
+        pg_relation_size(class.oid) / 8192 as index_blocks,
         access_method.amname
     from pg_index as index
-    join target on index.indrelid = target.oid
+    join described on index.indrelid = described.oid
     join pg_class as class on class.oid = index.indexrelid
     join pg_am as access_method on access_method.oid = class.relam
 ),
@@ -323,6 +421,7 @@ index_columns as (
         place.position <= indexes.indnkeyatts as is_key,
         columns.column_name,
         columns.key_type,
+        missing_reasons.reason is not null as has_lost_value,
         indexes.indoption[place.position - 1] & 1 = 1 as is_descending,
         indexes.indoption[place.position - 1] & 2 = 2 as has_nulls_first,
         operator_class.opcname::text as class_name,
@@ -344,7 +443,9 @@ index_columns as (
         end as collation_name
     from indexes
     cross join lateral unnest(indexes.indkey::int2[]) with ordinality as place (attnum, position)
-    left join columns on columns.attnum = place.attnum
+    left join columns on columns.table_oid = indexes.table_oid and columns.attnum = place.attnum
+    left join missing_reasons
+        on missing_reasons.table_oid = indexes.table_oid and missing_reasons.attnum = place.attnum
     left join pg_opclass as operator_class
         on place.position <= indexes.indnkeyatts
         and operator_class.oid = indexes.indclass[place.position - 1]
@@ -366,10 +467,20 @@ key_columns as (
     where is_key
 ),
 
+key_faults as (
+    select
+        indexrelid,
+        bool_or(not has_known_order) as has_unknown_order,
+        bool_or(not is_ordered_by_bytes) as has_other_collation,
+        bool_or(has_lost_value) as has_lost_value
+    from key_columns
+    group by indexrelid
+),
+
 -- Why an index is left out; null where it is listed.
 index_reasons as (
     select
-        indexes.indexrelid,
+        indexes.*,
         case
             when amname <> 'btree' then 'it is no B-tree, but ' || amname
             when indpred is not null then 'it is partial'
@@ -377,40 +488,102 @@ index_reasons as (
             when not (indisvalid and indisready and indislive) then 'it is not valid'
             when indnatts > indnkeyatts then 'it has included columns'
             when indnkeyatts > 8 then 'it has more than 8 key columns'
-            when exists (
-                select from key_columns as key
-                where key.indexrelid = indexes.indexrelid and not key.has_known_order
-            ) then 'the type or operator class of a key column'
-            when exists (
-                select from key_columns as key
-                where key.indexrelid = indexes.indexrelid and not key.is_ordered_by_bytes
-            ) then 'the collation of a key column is not C'
-        end as reason
+            when has_unknown_order then 'the type or operator class of a key column'
+            when has_other_collation then 'the collation of a key column is not C'
+            when has_lost_value then 'the missing value of a key column is left out'
+            when index_path is null then 'it has no file'
+            when index_blocks > 16384
+            then format('it has %s blocks, and the checker reads 16384 at most (128 MiB)', index_blocks)
+        end as fault
     from indexes
+    left join key_faults on key_faults.indexrelid = indexes.indexrelid
 ),
 
 numbered_indexes as (
     select
-        indexes.indexrelid,
-        indexes.index_name,
-        indexes.index_path,
-        row_number() over (order by indexes.index_name) as number,
+        indexrelid,
+        table_oid,
+        index_name,
+        index_path,
+        row_number() over (partition by table_oid order by index_name) as number,
         case
-            when index_reasons.reason is not null then index_reasons.reason
-            when row_number() over (
-                partition by index_reasons.reason is null order by indexes.index_name
-            ) > 32 then 'a case lists at most 32 indexes'
+            when fault is not null then fault
+            when row_number() over (partition by table_oid, fault is null order by index_name) > 32
+            then 'a case lists at most 32 indexes'
         end as reason
-    from indexes
-    join index_reasons on index_reasons.indexrelid = indexes.indexrelid
+    from index_reasons
 ),
 
--- The lines of the text, each under its part, its number in the part, and its
--- place there. Names are printed as JSON strings, which TOML reads as they are.
-lines (part, number, place, line) as (
-    select 0, 0, 0, concat_ws(
+-- Each name as the texts have it: as a JSON string, which TOML reads as it is but
+-- for the byte 127; as SQL has it, on one line; and for the names of files.
+names (name, in_toml, in_sql, in_files) as (
+    select
+        name,
+        replace(to_json(name)::text, chr(127), '\u007F'),
+        case
+            when name ~ '[\u0001-\u001f\u007f-\u009f]' then 'U&"' || (
+                select string_agg(
+                    case
+                        when character = '\' then '\\'
+                        when character = '"' then '""'
+                        when character ~ '[\u0001-\u001f\u007f-\u009f]' then '\' || lpad(to_hex(ascii(character)), 4, '0')
+                        else character
+                    end,
+                    '' order by place
+                )
+                from unnest(string_to_array(name, null)) with ordinality as characters (character, place)
+            ) || '"'
+            else quote_ident(name)
+        end,
+        (
+            select string_agg(
+                case
+                    when byte > 127 or chr(byte) !~ '[0-9A-Za-z_-]' then '%' || upper(lpad(to_hex(byte), 2, '0'))
+                    else chr(byte)
+                end,
+                '' order by place
+            )
+            from generate_series(0, length(textsend(name)) - 1) as place
+            cross join lateral get_byte(textsend(name), place) as byte
+        )
+    from (
+        select schema_name from asked
+        union
+        select table_name from asked
+        union
+        select column_name from attributes
+        union
+        select index_name from indexes
+        union
+        select type_name from columns where has_missing
+        union
+        select current_database()
+    ) as all_names (name)
+),
+
+named_tables as (
+    select
+        tables.oid as table_oid,
+        tables.reason,
+        schemas.in_sql || '.' || own.in_sql as in_sql,
+        case
+            when length(schemas.in_files || own.in_files) <= 240 then schemas.in_files || '.' || own.in_files
+            else left(schemas.in_files, 114) || '.' || left(own.in_files, 114) || '.' || tables.oid
+        end || '.toml' as in_files
+    from tables
+    join names as schemas on schemas.name = tables.schema_name
+    join names as own on own.name = tables.table_name
+),
+
+-- The lines of the texts, each under its part, its number in the part, and its
+-- place there.
+lines (table_oid, part, number, place, line) as (
+    select table_oid, 0, 0, 0, concat_ws(
         E'\n',
-        format('# The table %s, printed on %s.', to_json(:'tab'::text), now()::date),
+        '# Table: ' || named_tables.in_sql,
+        '# Database: ' || (select in_sql from names where name = current_database()),
+        '# Cluster: ' || (select system_identifier from pg_control_system()),
+        '# Printed: ' || now()::date,
         (
             select 'segment_blocks = ' || setting
             from pg_settings
@@ -426,22 +599,24 @@ lines (part, number, place, line) as (
         'offsets = "pg_multixact/offsets"',
         'members = "pg_multixact/members"'
     )
+    from named_tables
+    where reason is null
 
     union all
-    select 1, 0, 0, concat_ws(
+    select oid, 1, 0, 0, concat_ws(
         E'\n',
         '[heap]',
         format('file = "%s"', heap_path),
         'toast_file = "' || toast_path || '"',
         'toast_oid = ' || toast_oid::int8
     )
-    from target
+    from described
 
     union all
-    select 2, columns.attnum, 0, concat_ws(
+    select columns.table_oid, 2, columns.attnum, 0, concat_ws(
         E'\n',
         '[[column]]',
-        'name = ' || to_json(columns.column_name),
+        'name = ' || names.in_toml,
         format('type = "%s"', case
             when columns.key_type is not null then columns.key_type
             when columns.stored_length = -1 then 'varlena'
@@ -453,42 +628,37 @@ lines (part, number, place, line) as (
         end,
         case when columns.key_type is null then 'align = ' || columns.alignment end,
         case
-            when not columns.has_missing then null
-            when missing_digits.digits is null
+            when missing_reasons.reason is not null
             then format(
-                '# The missing value of %s is left out and read as null: '
-                    'the stored bytes of its type %s can''t be told from SQL.',
-                to_json(columns.column_name), to_json(columns.type_name)
+                '# The missing value of %s is left out and read as null: %s.', names.in_toml, missing_reasons.reason
             )
-            when length(missing_digits.digits) > 16000
-            then format(
-                '# The missing value of %s is left out and read as null: it has more than 8000 bytes.',
-                to_json(columns.column_name)
-            )
-            else format('missing = "%s"', missing_digits.digits)
+            else 'missing = "' || missing_reasons.digits || '"'
         end
     )
     from columns
-    left join missing_digits on missing_digits.attnum = columns.attnum
+    join names on names.name = columns.column_name
+    left join missing_reasons
+        on missing_reasons.table_oid = columns.table_oid and missing_reasons.attnum = columns.attnum
 
     union all
-    select 3, number, 0, case
+    select table_oid, 3, number, 0, case
         when reason is not null
-        then format('# The index %s is left out: %s.', to_json(index_name), reason)
+        then format('# The index %s is left out: %s.', names.in_toml, reason)
         else concat_ws(
             E'\n',
             '[[index]]',
-            'name = ' || to_json(index_name),
+            'name = ' || names.in_toml,
             format('file = "%s"', index_path)
         )
     end
     from numbered_indexes
+    join names on names.name = numbered_indexes.index_name
 
     union all
-    select 3, numbered_indexes.number, key_columns.position, concat_ws(
+    select numbered_indexes.table_oid, 3, numbered_indexes.number, key_columns.position, concat_ws(
         E'\n',
         '[[index.key]]',
-        'column = ' || to_json(key_columns.column_name),
+        'column = ' || names.in_toml,
         case when key_columns.is_descending then 'desc = true' end,
         -- Without the key, nulls stand first exactly where the order is descending.
         case
@@ -498,9 +668,61 @@ lines (part, number, place, line) as (
     )
     from key_columns
     join numbered_indexes on numbered_indexes.indexrelid = key_columns.indexrelid
+    join names on names.name = key_columns.column_name
     where numbered_indexes.reason is null
+),
+
+texts as (
+    select table_oid, string_agg(line, E'\n' order by part, number, place) as case_text
+    from lines
+    group by table_oid
+),
+
+records (place, kind, name, text) as (
+    select 1, 'case', named_tables.in_files, texts.case_text
+    from texts
+    join named_tables on named_tables.table_oid = texts.table_oid
+
+    union all
+    select 2, 'table', in_sql, reason
+    from named_tables
+    where reason is not null
+
+    union all
+    select 3, 'index', format('%s of %s', names.in_sql, named_tables.in_sql), numbered_indexes.reason
+    from numbered_indexes
+    join named_tables on named_tables.table_oid = numbered_indexes.table_oid
+    join names on names.name = numbered_indexes.index_name
+    where numbered_indexes.reason is not null
+
+    union all
+    select 4, 'missing value', format('%s of %s', names.in_sql, named_tables.in_sql), missing_reasons.reason
+    from missing_reasons
+    join named_tables on named_tables.table_oid = missing_reasons.table_oid
+    join names on names.name = missing_reasons.column_name
+    where missing_reasons.reason is not null
 )
 
-select line
-from lines
-order by part, number, place;
+select kind, name, text
+from (
+    select * from records
+    where place <= 2 or not :'is_one'
+
+    union all
+    select 5, 'end', (select in_sql from names where names.name = current_database()), count(*)::text
+    from records
+    where not :'is_one'
+    having not :'is_one'
+) as printed
+order by place, name
+\if :is_one
+\gset
+select set_config('kamzudrev.reason', :'text', false) is not null and :'kind' <> 'case' as is_refused
+\gset
+\if :is_refused
+do $$ begin raise exception 'there is no case for this table: %', current_setting('kamzudrev.reason'); end $$;
+\endif
+select :'text';
+\else
+\g
+\endif

@@ -12,41 +12,38 @@ use Rattle.reports.specs.declared.places.Place.{Place}
 use Rattle.reports.specs.declared.places.Reason.{Reason}
 use Rattle.reports.proofs.Parts.{first_is_empty, second_is_empty}
 use Rattle.heap_files.specs.Broken.{Breaks as BreaksTable, Doubts as DoubtsTable}
-use Rattle.heap_files.specs.Found.{case_found}
-use Rattle.heap_files.proofs.TrueLaws.{case_is_judged, case_is_true}
-use Rattle.bt_pages.specs.Broken.{IsDoubtedAt, doubted, IsFoundAt, found as found_there}
-use Rattle.bt_levels.specs.Broken.{Breaks as BreaksTree, Doubts as DoubtsTree, IsBehind, IsJudged}
-use Rattle.bt_levels.specs.Index.{tree_lists}
-use Rattle.amcheck_cmd.specs.Index.{BreaksIndex, DoubtsIndex, HasIndex, HasTrueIndex, in_table, in_tree, index_found, index_judged, index_refusal, named_judged, numbered_judged}
-use Rattle.amcheck_cmd.proofs.CaseLaws.{HasCase, one_case, the_case, unless_is}
-
--- the lists of each index of a case tell what is broken in it
-abbrev pub AreJudged : Type 0
-AreJudged = (case : CaseRecord) (names : Names) (n : ℕ) → IsJudged case names n
+use Rattle.heap_files.specs.Found.{IsQuiet, case_found}
+use Rattle.heap_files.proofs.TrueLaws.{case_is_judged}
+use Rattle.bt_pages.specs.Broken.{AreEmpty}
+use Rattle.amcheck_cmd.specs.Index.{BreaksIndex, DoubtsIndex, HasIndex, HasTrueIndex, in_index, in_table, index_found, index_judged, index_refusal, named_judged, numbered_judged}
+use Rattle.amcheck_cmd.specs.Laws.{AreLaws}
+use Rattle.amcheck_cmd.specs.Numbered.{BreaksNumbered, DoubtsNumbered, IsBehind, numbered_found}
+use Rattle.amcheck_cmd.proofs.CaseLaws.{HasCase, one_case, sound_case, the_case, unless_is}
+use Rattle.amcheck_cmd.proofs.HeadlineLaws.{index_is_true}
+use Rattle.amcheck_cmd.proofs.NumberedLaws.{numbered_doubt_listed, numbered_doubts, numbered_joined, numbered_listed, numbered_sound, numbered_tree}
 
 -- What is listed in a part is listed in the whole
 
-listed_first : (a b : Lists) (place : Place) → IsListed a place → IsListed (joined a b) place
+pub listed_first : (a b : Lists) (place : Place) → IsListed a place → IsListed (joined a b) place
 listed_first a b place (found rule has) = found rule (Contains-append_left a.findings b.findings _ has)
 listed_first a b place (in_doubt reason has) = in_doubt reason (Contains-append_left a.unjudged b.unjudged _ has)
 
-found_second : (a b : Lists) (place : Place) → IsFoundAt b place → IsListed (joined a b) place
-found_second a b place (found_there rule has) = found rule (Contains-append_right a.findings b.findings _ has)
+pub listed_second : (a b : Lists) (place : Place) → IsListed b place → IsListed (joined a b) place
+listed_second a b place (found rule has) = found rule (Contains-append_right a.findings b.findings _ has)
+listed_second a b place (in_doubt reason has) = in_doubt reason (Contains-append_right a.unjudged b.unjudged _ has)
 
-doubted_second : (a b : Lists) (place : Place) → IsDoubtedAt b place → IsListed (joined a b) place
-doubted_second a b place (doubted reason has) = in_doubt reason (Contains-append_right a.unjudged b.unjudged _ has)
-
-behind_second : (a b : Lists) (rule : Rule) → IsBehind b rule → IsBehind (joined a b) rule
-behind_second a b rule behind = record {
+pub behind_second : (a b : Lists) (rule : Rule) (place : Place) → IsBehind b rule place → IsBehind (joined a b) rule place
+behind_second a b rule place behind = record {
   own = behind.own;
   first = behind.first;
   level = behind.level;
   found = Contains-append_right a.findings b.findings behind.first behind.found;
+  same = behind.same;
 }
 
-tree_second : (a b : Lists) (rule : Rule) (place : Place) → IsFoundAt b place ⊎ IsBehind b rule → IsListed (joined a b) place ⊎ IsBehind (joined a b) rule
-tree_second a b rule place (inl there) = inl (found_second a b place there)
-tree_second a b rule place (inr behind) = inr (behind_second a b rule behind)
+pub told_second : (a b : Lists) (rule : Rule) (place : Place) → IsListed b place ⊎ IsBehind b rule place → IsListed (joined a b) place ⊎ IsBehind (joined a b) rule place
+told_second a b rule place (inl there) = inl (listed_second a b place there)
+told_second a b rule place (inr behind) = inr (behind_second a b rule place behind)
 
 -- The index of a report
 
@@ -71,7 +68,7 @@ one_index P file name names a b holds =
     let number = one_number (index_named b.case.indexes name) a.number b.number (ap (λ (c : CaseRecord). index_named c.indexes name) (sym same) ∙ a.named) b.named in
     subst (λ (n : ℕ). P b.case n) number (subst (λ (c : CaseRecord). P c a.number) same holds)
 
-module _ (judged : AreJudged) (file name : List ℕ) (names : Names) (lists : Lists) (e : index_judged file name names ≡ Ok lists) where
+module _ (laws : AreLaws) (file name : List ℕ) (names : Names) (lists : Lists) (e : index_judged file name names ≡ Ok lists) where
   of_case : HasCase file names (named_judged name names) lists
   of_case = the_case file names (named_judged name names) lists e
 
@@ -85,51 +82,57 @@ module _ (judged : AreJudged) (file name : List ℕ) (names : Names) (lists : Li
   pub index_sound : All (λ f. BreaksIndex file name names f.rule f.place) lists.findings
   index_sound =
       subst (λ (l : Lists). All (λ f. BreaksIndex file name names f.rule f.place) l.findings) of_index.shown
-      (All-append (λ f. BreaksIndex file name names f.rule f.place) (case_found has.case names).findings (tree_lists has.case names has.number).findings
+      (All-append (λ f. BreaksIndex file name names f.rule f.place) (case_found has.case names).findings (numbered_found has.case names has.number).findings
       (All-weaker (λ f. BreaksTable has.case names f.rule f.place) (λ f. BreaksIndex file name names f.rule f.place)
       (λ f broken. in_table has broken) (case_found has.case names).findings (case_is_judged has.case names).sound)
-      (All-weaker (λ f. BreaksTree has.case names has.number f.rule f.place) (λ f. BreaksIndex file name names f.rule f.place)
-      (λ f broken. in_tree has broken) (tree_lists has.case names has.number).findings (judged has.case names has.number).sound))
+      (All-weaker (λ f. BreaksNumbered has.case names has.number f.rule f.place) (λ f. BreaksIndex file name names f.rule f.place)
+      (λ f broken. in_index has broken) (numbered_found has.case names has.number).findings (numbered_sound laws has.case names has.number)))
 
   pub index_doubts : All (λ u. DoubtsIndex file name names u.reason u.place) lists.unjudged
   index_doubts =
       subst (λ (l : Lists). All (λ u. DoubtsIndex file name names u.reason u.place) l.unjudged) of_index.shown
-      (All-append (λ u. DoubtsIndex file name names u.reason u.place) (case_found has.case names).unjudged (tree_lists has.case names has.number).unjudged
+      (All-append (λ u. DoubtsIndex file name names u.reason u.place) (case_found has.case names).unjudged (numbered_found has.case names has.number).unjudged
       (All-weaker (λ u. DoubtsTable has.case names u.reason u.place) (λ u. DoubtsIndex file name names u.reason u.place)
       (λ u doubt. in_table has doubt) (case_found has.case names).unjudged (case_is_judged has.case names).doubts)
-      (All-weaker (λ u. DoubtsTree has.case names has.number u.reason u.place) (λ u. DoubtsIndex file name names u.reason u.place)
-      (λ u doubt. in_tree has doubt) (tree_lists has.case names has.number).unjudged (judged has.case names has.number).doubts))
+      (All-weaker (λ u. DoubtsNumbered has.case names has.number u.reason u.place) (λ u. DoubtsIndex file name names u.reason u.place)
+      (λ u doubt. in_index has doubt) (numbered_found has.case names has.number).unjudged (numbered_doubts laws has.case names has.number)))
 
   -- and each place where something is stands in it
   in_report : (place : Place) → IsListed (index_found has.case names has.number) place → IsListed lists place
   in_report place listed = subst (λ (l : Lists). IsListed l place) of_index.shown listed
 
-  pub index_listed : (rule : Rule) (place : Place) → BreaksIndex file name names rule place → IsListed lists place ⊎ IsBehind lists rule
+  pub index_listed : (rule : Rule) (place : Place) → BreaksIndex file name names rule place → IsListed lists place ⊎ IsBehind lists rule place
   index_listed rule place (in_table other broken) =
-      inl (in_report place (listed_first (case_found has.case names) (tree_lists has.case names has.number) place
+      inl (in_report place (listed_first (case_found has.case names) (numbered_found has.case names has.number) place
       ((case_is_judged has.case names).listed rule place (one_index (λ c n. BreaksTable c names rule place) file name names other has broken))))
-  index_listed rule place (in_tree other broken) =
-      subst (λ (l : Lists). IsListed l place ⊎ IsBehind l rule) of_index.shown
-      (tree_second (case_found has.case names) (tree_lists has.case names has.number) rule place
-      ((judged has.case names has.number).listed rule place (one_index (λ c n. BreaksTree c names n rule place) file name names other has broken)))
+  index_listed rule place (in_index other broken) =
+      subst (λ (l : Lists). IsListed l place ⊎ IsBehind l rule place) of_index.shown
+      (told_second (case_found has.case names) (numbered_found has.case names has.number) rule place
+      (numbered_listed laws has.case names has.number rule place (one_index (λ c n. BreaksNumbered c names n rule place) file name names other has broken)))
 
   pub index_doubt_listed : (reason : Reason) (place : Place) → DoubtsIndex file name names reason place → IsListed lists place
   index_doubt_listed reason place (in_table other doubt) =
-      in_report place (listed_first (case_found has.case names) (tree_lists has.case names has.number) place
+      in_report place (listed_first (case_found has.case names) (numbered_found has.case names has.number) place
       ((case_is_judged has.case names).doubts_listed reason place (one_index (λ c n. DoubtsTable c names reason place) file name names other has doubt)))
-  index_doubt_listed reason place (in_tree other doubt) =
-      in_report place (doubted_second (case_found has.case names) (tree_lists has.case names has.number) place
-      ((judged has.case names has.number).doubted reason place (one_index (λ c n. DoubtsTree c names n reason place) file name names other has doubt)))
+  index_doubt_listed reason place (in_index other doubt) =
+      in_report place (listed_second (case_found has.case names) (numbered_found has.case names has.number) place
+      (numbered_doubt_listed laws has.case names has.number reason place (one_index (λ c n. DoubtsNumbered c names n reason place) file name names other has doubt)))
 
   -- a report without findings, and with nothing in doubt, tells what is true of the heap and of the index
   pub index_true : lists.findings ≡ [] → lists.unjudged ≡ [] → HasTrueIndex file name names
   index_true none sure =
-      let findings : (case_found has.case names).findings ++ (tree_lists has.case names has.number).findings ≡ [] =
+      let findings : (case_found has.case names).findings ++ (numbered_found has.case names has.number).findings ≡ [] =
       ap (λ (l : Lists). l.findings) of_index.shown ∙ none in
-      let doubts : (case_found has.case names).unjudged ++ (tree_lists has.case names has.number).unjudged ≡ [] =
+      let doubts : (case_found has.case names).unjudged ++ (numbered_found has.case names has.number).unjudged ≡ [] =
       ap (λ (l : Lists). l.unjudged) of_index.shown ∙ sure in
+      let quiet : IsQuiet has.case names = record { findings = first_is_empty _ _ findings; doubts = first_is_empty _ _ doubts } in
+      let empty : AreEmpty (numbered_found has.case names has.number) =
+      record { findings = second_is_empty (case_found has.case names).findings _ findings; unjudged = second_is_empty (case_found has.case names).unjudged _ doubts } in
+      let tree = numbered_tree laws has.case names has.number quiet empty in
       record {
         has = has;
-        heap = case_is_true has.case names (record { findings = first_is_empty _ _ findings; doubts = first_is_empty _ _ doubts });
-        tree = (judged has.case names has.number).kept (record { findings = second_is_empty _ _ findings; unjudged = second_is_empty _ _ doubts });
+        tree = tree;
+        index =
+            index_is_true laws has.case names has.number (sound_case file names has.case has.meant) quiet tree
+            (numbered_joined laws has.case names has.number quiet empty);
       }

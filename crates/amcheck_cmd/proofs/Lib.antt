@@ -1,7 +1,12 @@
+pub mod AllLaws
 pub mod Answers
 pub mod CaseLaws
+pub mod HeadlineLaws
 pub mod HeapLaws
 pub mod IndexLaws
+pub mod JoinLaws
 pub mod NumberLaws
+pub mod NumberedLaws
 pub mod PagesLaws
+pub mod TreesLaws
 pub mod Worth

@@ -9,60 +9,67 @@ use Rattle.reports.specs.Lists.{Lists}
 use Rattle.reports.specs.Texts.{verdict_of}
 use Rattle.reports.specs.declared.places.Finding.{Finding}
 use Rattle.reports.specs.declared.places.UnjudgedPlace.{UnjudgedPlace}
-use Rattle.bt_levels.specs.Broken.{IsBehind}
 use Rattle.page_layout.specs.declared.rules.Rule.{Rule}
 use Rattle.heap_pages.proofs.PageLaws.{none_listed}
 use Rattle.amcheck_cmd.specs.Answers.{answer_by, answer_code}
 use Rattle.amcheck_cmd.specs.Commands.{BreaksNothing, DoubtsNothing, IsComplete, IsSound, IsTrue, IsWorth, judged_by, outcome_of}
+use Rattle.amcheck_cmd.specs.Laws.{AreLaws}
+use Rattle.amcheck_cmd.specs.Numbered.{IsBehind}
 use Rattle.amcheck_cmd.specs.Outcome.{Meets, Outcome, owed_by, reported}
-use Rattle.amcheck_cmd.specs.Words.{Check, Form, Heap, Index, Judge, Pages}
+use Rattle.amcheck_cmd.specs.Words.{All as Every, Check, Form, Heap, Index, Judge, Pages}
+use Rattle.amcheck_cmd.proofs.AllLaws.{all_doubt_listed, all_doubts, all_listed, all_sound, all_true}
 use Rattle.amcheck_cmd.proofs.HeapLaws.{heap_doubt_listed, heap_doubts, heap_listed, heap_sound, heap_true}
 use Rattle.reports.specs.Added.{IsListed, found}
 use Rattle.reports.specs.declared.places.Place.{Place}
-use Rattle.amcheck_cmd.proofs.IndexLaws.{AreJudged, index_doubt_listed, index_doubts, index_listed, index_sound, index_true}
+use Rattle.amcheck_cmd.proofs.IndexLaws.{index_doubt_listed, index_doubts, index_listed, index_sound, index_true}
 use Rattle.amcheck_cmd.proofs.PagesLaws.{file_certain, file_listed, file_sound, pages_are}
 
 -- each finding of a report is a broken rule, and each place that it calls unjudged is in doubt
-sound_report : (judged : AreJudged) (check : Check) (names : Names) (lists : Lists) → judged_by check names ≡ Ok lists → IsSound check names lists
-sound_report judged (Pages name) names lists e =
+sound_report : (laws : AreLaws) (check : Check) (names : Names) (lists : Lists) → judged_by check names ≡ Ok lists → IsSound check names lists
+sound_report laws (Pages name) names lists e =
     let file = names name (Segment 0) in
     let P : Lists → Type 0 = IsSound (Pages name) names in
     subst P (pages_are name file lists e) (record { findings = file_sound file; unjudged = file_certain file })
-sound_report judged (Heap name) names lists e =
+sound_report laws (Heap name) names lists e =
     record { findings = heap_sound name names lists e; unjudged = heap_doubts name names lists e }
-sound_report judged (Index case name) names lists e =
-    record { findings = index_sound judged case name names lists e; unjudged = index_doubts judged case name names lists e }
+sound_report laws (Index case name) names lists e =
+    record { findings = index_sound laws case name names lists e; unjudged = index_doubts laws case name names lists e }
+sound_report laws (Every case) names lists e =
+    record { findings = all_sound laws case names lists e; unjudged = all_doubts laws case names lists e }
 
 -- each place where something is stands in it
-complete_report : (judged : AreJudged) (check : Check) (names : Names) (lists : Lists) → judged_by check names ≡ Ok lists → IsComplete check names lists
-complete_report judged (Pages name) names lists e =
+complete_report : (laws : AreLaws) (check : Check) (names : Names) (lists : Lists) → judged_by check names ≡ Ok lists → IsComplete check names lists
+complete_report laws (Pages name) names lists e =
     let file = names name (Segment 0) in
     let P : Lists → Type 0 = IsComplete (Pages name) names in
     subst P (pages_are name file lists e) (record { broken = λ rule place broken. inl (file_listed file rule place broken); in_doubt = λ reason place doubted. absurd doubted })
-complete_report judged (Heap name) names lists e =
+complete_report laws (Heap name) names lists e =
     record { broken = λ rule place broken. inl (heap_listed name names lists e rule place broken); in_doubt = heap_doubt_listed name names lists e }
-complete_report judged (Index case name) names lists e =
-    record { broken = index_listed judged case name names lists e; in_doubt = index_doubt_listed judged case name names lists e }
+complete_report laws (Index case name) names lists e =
+    record { broken = index_listed laws case name names lists e; in_doubt = index_doubt_listed laws case name names lists e }
+complete_report laws (Every case) names lists e =
+    record { broken = all_listed laws case names lists e; in_doubt = all_doubt_listed laws case names lists e }
 
 -- nothing is found, or behind what is found, in empty lists
-none_told : (lists : Lists) (rule : Rule) (place : Place) → lists.findings ≡ [] → lists.unjudged ≡ [] → IsListed lists place ⊎ IsBehind lists rule → ⊥
+none_told : (lists : Lists) (rule : Rule) (place : Place) → lists.findings ≡ [] → lists.unjudged ≡ [] → IsListed lists place ⊎ IsBehind lists rule place → ⊥
 none_told lists rule place none sure (inl listed) = none_listed lists place none sure listed
 none_told lists rule place none sure (inr behind) = none_listed lists behind.first.place none sure (found behind.first.rule behind.found)
 
-module _ (judged : AreJudged) (lists : Lists) (none : lists.findings ≡ []) (sure : lists.unjudged ≡ []) where
+module _ (laws : AreLaws) (lists : Lists) (none : lists.findings ≡ []) (sure : lists.unjudged ≡ []) where
   -- a report without findings, and with nothing in doubt, tells that nothing is broken,
   empty_breaks : (check : Check) (names : Names) → judged_by check names ≡ Ok lists → BreaksNothing check names
-  empty_breaks check names e rule place broken = none_told lists rule place none sure ((complete_report judged check names lists e).broken rule place broken)
+  empty_breaks check names e rule place broken = none_told lists rule place none sure ((complete_report laws check names lists e).broken rule place broken)
 
   -- that all can be judged,
   empty_doubts : (check : Check) (names : Names) → judged_by check names ≡ Ok lists → DoubtsNothing check names
-  empty_doubts check names e reason place doubted = none_listed lists place none sure ((complete_report judged check names lists e).in_doubt reason place doubted)
+  empty_doubts check names e reason place doubted = none_listed lists place none sure ((complete_report laws check names lists e).in_doubt reason place doubted)
 
   -- and that what is said of clean files is true
   empty_is_true : (check : Check) (names : Names) → judged_by check names ≡ Ok lists → IsTrue check names
   empty_is_true (Pages name) names e = tt
   empty_is_true (Heap name) names e = heap_true name names lists e none sure
-  empty_is_true (Index case name) names e = index_true judged case name names lists e none sure
+  empty_is_true (Index case name) names e = index_true laws case name names lists e none sure
+  empty_is_true (Every case) names e = all_true laws case names lists e none sure
 
 -- what never comes isn't listed
 none_of : {X : Type 0} {P : X → Type 0} (xs : List X) → All P xs → ((x : X) → P x → ⊥) → xs ≡ []
@@ -79,12 +86,12 @@ none_is_clean : (fs : List Finding) (us : List UnjudgedPlace) → fs ≡ [] → 
 unfolding verdict_of
 none_is_clean fs us e f = rw (e, f) refl
 
-module _ (judged : AreJudged) (check : Check) (names : Names) (lists : Lists) (e : judged_by check names ≡ Ok lists) where
+module _ (laws : AreLaws) (check : Check) (names : Names) (lists : Lists) (e : judged_by check names ≡ Ok lists) where
   sound : IsSound check names lists
-  sound = sound_report judged check names lists e
+  sound = sound_report laws check names lists e
 
   complete : IsComplete check names lists
-  complete = complete_report judged check names lists e
+  complete = complete_report laws check names lists e
 
   -- the code of a report of which nothing is broken and nothing in doubt
   clean : BreaksNothing check names → DoubtsNothing check names → (reported lists).code ≡ 0
@@ -107,8 +114,8 @@ module _ (judged : AreJudged) (check : Check) (names : Names) (lists : Lists) (e
         complete = complete;
         clean = λ nothing sure. elim codes [ inl same ↦ inl (same ∙ clean nothing sure) | inr eight ↦ inr (inr (inl eight)) ];
         whole = λ nought.
-            (empty_breaks judged lists (none nought).0 (none nought).1 check names e, empty_doubts judged lists (none nought).0 (none nought).1 check names e);
-        truth = λ nought. empty_is_true judged lists (none nought).0 (none nought).1 check names e;
+            (empty_breaks laws lists (none nought).0 (none nought).1 check names e, empty_doubts laws lists (none nought).0 (none nought).1 check names e);
+        truth = λ nought. empty_is_true laws lists (none nought).0 (none nought).1 check names e;
       }
 
   -- a report of a run that gave up before it wrote
@@ -137,10 +144,10 @@ report_owed form check names lists o asked e owed =
     let same : form ≡ Judge check = cc in
     owed ∙ ap (λ (f : Form). outcome_of f names) same ∙ ap owed_by e
 
-pub worth_by : (judged : AreJudged) (form : Form) (check : Check) (names : Names) (lists : Lists) (o : Outcome) → Some form ≡ Some (Judge check)
+pub worth_by : (laws : AreLaws) (form : Form) (check : Check) (names : Names) (lists : Lists) (o : Outcome) → Some form ≡ Some (Judge check)
     → judged_by check names ≡ Ok lists → o ≡ outcome_of form names → (old new : Option (List ℕ)) (code : ℕ) → Meets o old new code
     → (code ≡ o.code) ⊎ (code ≡ 8) → IsWorth check names lists old new code
-worth_by judged form check names lists o asked e owed old new code meets codes =
+worth_by laws form check names lists o asked e owed old new code meets codes =
     let is = report_owed form check names lists o asked e owed in
-    written_worth judged check names lists e old new code (subst (λ (p : Outcome). Meets p old new code) is meets)
+    written_worth laws check names lists e old new code (subst (λ (p : Outcome). Meets p old new code) is meets)
     (subst (λ (p : Outcome). (code ≡ p.code) ⊎ (code ≡ 8)) is codes)

@@ -4,24 +4,26 @@ use Rattle.std.specs.Prelude.{◌≡◌, ℕ, ◌⊎◌, List, All, Option, Some
 use Rattle.outside.specs.Outside.{Names}
 use Rattle.outside.specs.declared.files.Part.TheVariants.{Segment}
 use Rattle.page_layout.specs.declared.rules.Rule.{Rule}
-use Rattle.bt_levels.specs.Broken.{IsBehind}
 use Rattle.reports.specs.Added.{IsListed}
 use Rattle.reports.specs.Lists.{Lists}
 use Rattle.reports.specs.declared.places.Place.{Place}
 use Rattle.reports.specs.declared.places.Reason.{Reason}
+use Rattle.amcheck_cmd.specs.All.{BreaksAll, DoubtsAll, HasTrueIndexes, all_judged}
 use Rattle.amcheck_cmd.specs.Answers.{GaveUp}
 use Rattle.amcheck_cmd.specs.Heap.{BreaksHeap, DoubtsHeap, HasTrueHeap, heap_judged}
 use Rattle.amcheck_cmd.specs.Index.{BreaksIndex, DoubtsIndex, HasTrueIndex, index_judged}
+use Rattle.amcheck_cmd.specs.Numbered.{IsBehind}
 use Rattle.amcheck_cmd.specs.Outcome.{Judged, Meets, Outcome, owed_by, reported, usage}
 use Rattle.amcheck_cmd.specs.Pages.{BreaksFile, pages_judged}
 use Rattle.amcheck_cmd.specs.Show.{show_outcome}
-use Rattle.amcheck_cmd.specs.Words.{Check, Form, Heap, Index, Judge, Pages, Show, form_of}
+use Rattle.amcheck_cmd.specs.Words.{All as Every, Check, Form, Heap, Index, Judge, Pages, Show, form_of}
 
 -- what a command that judges finds
 abbrev pub judged_by : Check → Names → Judged
 judged_by (Pages name) names = pages_judged name (names name (Segment 0))
 judged_by (Heap name) names = heap_judged name names
 judged_by (Index case name) names = index_judged case name names
+judged_by (Every case) names = all_judged case names
 
 -- what a command owes
 abbrev pub outcome_of : Form → Names → Outcome
@@ -41,18 +43,21 @@ abbrev pub IsBroken : Check → Names → Rule → Place → Type 0
 IsBroken (Pages name) names rule place = BreaksFile (names name (Segment 0)) rule place
 IsBroken (Heap name) names rule place = BreaksHeap name names rule place
 IsBroken (Index case name) names rule place = BreaksIndex case name names rule place
+IsBroken (Every case) names rule place = BreaksAll case names rule place
 
 -- a place of the command's files can't be judged
 abbrev pub IsInDoubt : Check → Names → Reason → Place → Type 0
 IsInDoubt (Pages name) names reason place = ⊥
 IsInDoubt (Heap name) names reason place = DoubtsHeap name names reason place
 IsInDoubt (Index case name) names reason place = DoubtsIndex case name names reason place
+IsInDoubt (Every case) names reason place = DoubtsAll case names reason place
 
--- what is true of the command's files where they are clean
+-- what is true of the command's files where they are clean; of an index it is said in specs/Headline
 abbrev pub IsTrue : Check → Names → Type 0
 IsTrue (Pages name) names = Unit {0}
 IsTrue (Heap name) names = HasTrueHeap name names
 IsTrue (Index case name) names = HasTrueIndex case name names
+IsTrue (Every case) names = HasTrueIndexes case names
 
 abbrev pub BreaksNothing : Check → Names → Type 0
 BreaksNothing check names = (rule : Rule) (place : Place) → IsBroken check names rule place → ⊥
@@ -65,11 +70,11 @@ pub record IsSound (check : Check) (names : Names) (lists : Lists) : Type 0 wher
   pub findings : All (λ f. IsBroken check names f.rule f.place) lists.findings
   pub unjudged : All (λ u. IsInDoubt check names u.reason u.place) lists.unjudged
 
--- each place where a rule is broken, or of which something is in doubt, stands in the report; of the rules on levels,
--- the first that is broken
+-- each place where a rule is broken, or of which something is in doubt, stands in the report; of the rules on levels of
+-- an index, the first that is broken
 pub record IsComplete (check : Check) (names : Names) (lists : Lists) : Type 0 where
   pub broken : (rule : Rule) (place : Place) → IsBroken check names rule place
-      → IsListed lists place ⊎ IsBehind lists rule
+      → IsListed lists place ⊎ IsBehind lists rule place
   pub in_doubt : (reason : Reason) (place : Place) → IsInDoubt check names reason place → IsListed lists place
 
 -- what a report is worth, and the answer of the run that made it

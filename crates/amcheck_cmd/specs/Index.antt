@@ -13,11 +13,12 @@ use Rattle.reports.specs.declared.places.Reason.{Reason}
 use Rattle.heap_files.specs.Broken.{Breaks as BreaksTable, Doubts as DoubtsTable}
 use Rattle.heap_files.specs.Files.{refusal_of as table_refusal}
 use Rattle.heap_files.specs.Found.{case_found}
-use Rattle.heap_files.specs.Truth.{IsTrueHeap}
-use Rattle.bt_levels.specs.Broken.{Breaks as BreaksTree, Doubts as DoubtsTree, IsTrueTree}
+use Rattle.bt_levels.specs.Broken.{IsTrueTree}
 use Rattle.bt_levels.specs.Files.{refusal_of as tree_refusal}
-use Rattle.bt_levels.specs.Index.{tree_lists, tree_of}
+use Rattle.bt_levels.specs.Index.{tree_of}
 use Rattle.amcheck_cmd.specs.Cases.{case_in, of_read, unless_refused}
+use Rattle.amcheck_cmd.specs.Headline.{IsTrueIndex}
+use Rattle.amcheck_cmd.specs.Numbered.{BreaksNumbered, DoubtsNumbered, numbered_found}
 use Rattle.amcheck_cmd.specs.Outcome.{Judged, Outcome, case_refused}
 
 -- why the files can't be judged: the heap's cause, or else the TOAST table's, or else that of index n
@@ -26,7 +27,7 @@ index_refusal case names n = option_or (table_refusal case names) (tree_refusal 
 
 -- what is found of the table, and then of index n
 abbrev pub index_found : CaseRecord → Names → ℕ → Lists
-index_found case names n = joined (case_found case names) (tree_lists case names n)
+index_found case names n = joined (case_found case names) (numbered_found case names n)
 
 -- a name that no index of the case has
 abbrev pub unknown_index : Outcome
@@ -52,22 +53,21 @@ pub record HasIndex (file name : List ℕ) (names : Names) : Type 0 where
   pub number : ℕ
   pub named : index_named case.indexes name ≡ Some number
 
--- a rule is broken, or a place is in doubt, in the files of the case's table or in those of the index
+-- a rule is broken, or a place is in doubt, in the files of the case's table, in that of the index, or between the two
 pub data BreaksIndex (file name : List ℕ) (names : Names) (rule : Rule) (place : Place) : Type 0 where
   in_table : (has : HasIndex file name names) → BreaksTable has.case names rule place
       → BreaksIndex file name names rule place
-  in_tree : (has : HasIndex file name names) → BreaksTree has.case names has.number rule place
+  in_index : (has : HasIndex file name names) → BreaksNumbered has.case names has.number rule place
       → BreaksIndex file name names rule place
 
 pub data DoubtsIndex (file name : List ℕ) (names : Names) (reason : Reason) (place : Place) : Type 0 where
   in_table : (has : HasIndex file name names) → DoubtsTable has.case names reason place
       → DoubtsIndex file name names reason place
-  in_tree : (has : HasIndex file name names) → DoubtsTree has.case names has.number reason place
+  in_index : (has : HasIndex file name names) → DoubtsNumbered has.case names has.number reason place
       → DoubtsIndex file name names reason place
 
--- what is said of a clean heap is true of the case's heap, and the index breaks no rule on its pages or on its levels:
--- each search of it finds what it should
+-- the index breaks no rule on its pages or on its levels, and it is true to the case's table, as specs/Headline says
 pub record HasTrueIndex (file name : List ℕ) (names : Names) : Type 0 where
   pub has : HasIndex file name names
-  pub heap : IsTrueHeap has.case names
   pub tree : IsTrueTree (tree_of has.case names has.number)
+  pub index : IsTrueIndex has.case names has.number

@@ -1,12 +1,17 @@
+pub mod All
 pub mod Answers
 pub mod Cases
 pub mod Commands
 pub mod Files
+pub mod Headline
 pub mod Heap
 pub mod Index
+pub mod Laws
+pub mod Numbered
 pub mod Numbers
 pub mod Outcome
 pub mod Pages
 pub mod Seen
 pub mod Show
+pub mod Tables
 pub mod Words

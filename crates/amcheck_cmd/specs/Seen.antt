@@ -5,14 +5,15 @@ use Rattle.amcheck_cmd.specs.Answers.{answer_code}
 use Rattle.amcheck_cmd.specs.Cases.{CaseRead}
 use Rattle.amcheck_cmd.specs.Files.{lone_file_refusal}
 use Rattle.amcheck_cmd.specs.Outcome.{Outcome}
-use Rattle.amcheck_cmd.specs.Words.{Form, Heap, Index, Judge, Pages, Show}
+use Rattle.amcheck_cmd.specs.Words.{All, Form, Heap, Index, Judge, Pages, Show}
 use Rattle.amcheck_cmd.specs.declared.blocks.Opening.{Opening}
 use Rattle.amcheck_cmd.specs.declared.blocks.Opening.TheVariants.{Blocks, Refused}
 use Rattle.amcheck_cmd.specs.declared.case.CaseOpening.{CaseOpening}
 use Rattle.amcheck_cmd.specs.declared.case.CaseOpening.TheVariants.{Opened, Refused as case_refused}
 use Rattle.amcheck_cmd.specs.declared.words.Command.{Command}
 use Rattle.amcheck_cmd.specs.declared.words.Command.TheVariants.{Pages as pages_command, Heap as heap_command}
-use Rattle.amcheck_cmd.specs.declared.words.Command.TheVariants.{Index as index_command, Show as show_command}
+use Rattle.amcheck_cmd.specs.declared.words.Command.TheVariants.{Index as index_command, All as all_command}
+use Rattle.amcheck_cmd.specs.declared.words.Command.TheVariants.{Show as show_command}
 use Rattle.amcheck_cmd.specs.declared.output.Output.{Output}
 
 -- the form of a command
@@ -20,6 +21,7 @@ abbrev pub form_seen : Command → Form
 form_seen (pages_command file) = Judge (Pages file.now)
 form_seen (heap_command case) = Judge (Heap case.now)
 form_seen (index_command case name) = Judge (Index case.now name.now)
+form_seen (all_command case) = Judge (All case.now)
 form_seen (show_command kind file block) = Show kind file.now block
 
 -- the same, where there is one

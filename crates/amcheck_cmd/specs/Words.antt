@@ -14,6 +14,8 @@ pub data Check : Type 0 where
   Heap : List ℕ → Check
   -- index CASE NAME
   Index : (case name : List ℕ) → Check
+  -- all CASE
+  All : List ℕ → Check
 
 -- what the words ask for
 pub data Form : Type 0 where
@@ -68,6 +70,7 @@ command_form command words =
     if bytes_eq command (codes "pages") then option_map (λ file. Judge (Pages file)) (name_alone words)
     else if bytes_eq command (codes "heap") then option_map (λ case. Judge (Heap case)) (name_alone words)
     else if bytes_eq command (codes "index") then index_form words
+    else if bytes_eq command (codes "all") then option_map (λ case. Judge (All case)) (name_alone words)
     else if bytes_eq command (codes "show") then show_form words
     else None
 

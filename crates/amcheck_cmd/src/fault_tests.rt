@@ -1,7 +1,7 @@
 //! Runs in which one call on the files or on the sink fails, each call in turn.
 use crate::fixtures::{
-    CLEAN, CLUSTER, EXTERNAL, INT_COLUMN, Item, LIVE, SUCCESSOR, TEXT_IN_TOAST, Tuple, UPDATED,
-    case_files, chunk_page, page_of, run_words,
+    CLEAN, CLUSTER, EXTERNAL, INT_COLUMN, Item, SUCCESSOR, TEXT_IN_TOAST, THREE_ROWS, Tuple,
+    UPDATED, case_files, chunk_page, page_of, run_words,
 };
 use crate::trees::{INDEX, TWO_LEVELS, index_file};
 use outside::{MemFiles, MemSink, Part};
@@ -22,14 +22,17 @@ enum Scene {
     Toast,
     // Three live tuples, and an index of two levels.
     Index,
+    // The same, and all indexes.
+    All,
 }
 
-const SCENES: [Scene; 5] = [
+const SCENES: [Scene; 6] = [
     Scene::Pages,
     Scene::Heap,
     Scene::Multixact,
     Scene::Toast,
     Scene::Index,
+    Scene::All,
 ];
 
 fn words_of(scene: Scene) -> &'static [&'static str] {
@@ -37,20 +40,14 @@ fn words_of(scene: Scene) -> &'static [&'static str] {
         Scene::Pages => &["pages", "t"],
         Scene::Heap | Scene::Multixact | Scene::Toast => &["heap", "case.toml"],
         Scene::Index => &["index", "case.toml", "t_a"],
+        Scene::All => &["all", "case.toml"],
     }
 }
 
 // The heap of a scene.
 fn heap_of(scene: Scene) -> [u8; 8192] {
     match scene {
-        Scene::Pages | Scene::Heap | Scene::Index => {
-            let second = Tuple { item: 2, ..LIVE };
-            let third = Tuple { item: 3, ..LIVE };
-            page_of(
-                0,
-                &[Item::Tuple(LIVE), Item::Tuple(second), Item::Tuple(third)],
-            )
-        }
+        Scene::Pages | Scene::Heap | Scene::Index | Scene::All => page_of(0, &THREE_ROWS),
         Scene::Multixact => {
             let old = Tuple {
                 xmax: 5,
@@ -71,10 +68,10 @@ fn heap_of(scene: Scene) -> [u8; 8192] {
 fn files_of(alloc: Global, scene: Scene) -> Result<MemFiles, Fail> {
     let rest = match scene {
         Scene::Toast => TEXT_IN_TOAST,
-        Scene::Pages | Scene::Heap | Scene::Multixact | Scene::Index => INT_COLUMN,
+        _ => INT_COLUMN,
     };
     let index = match scene {
-        Scene::Index => INDEX,
+        Scene::Index | Scene::All => INDEX,
         _ => "",
     };
     let text = format!(in alloc; "{CLUSTER}{rest}{index}")?;

@@ -53,6 +53,20 @@ pub(crate) const LIVE: Tuple<'static> = Tuple {
     body: &[7, 0, 0, 0],
 };
 
+/// The rows 5, 7 and 9.
+pub(crate) const THREE_ROWS: [Item<'static>; 3] = [
+    Item::Tuple(Tuple {
+        body: &[5, 0, 0, 0],
+        ..LIVE
+    }),
+    Item::Tuple(Tuple { item: 2, ..LIVE }),
+    Item::Tuple(Tuple {
+        item: 3,
+        body: &[9, 0, 0, 0],
+        ..LIVE
+    }),
+];
+
 /// One that transaction 701 updated, to item 2.
 pub(crate) const UPDATED: Tuple<'static> = Tuple {
     xmax: 701,

@@ -1,5 +1,5 @@
 //! The command `heap`: judges the heap of a case, with its visibility map and its TOAST table.
-ghost use Rattle.std.specs.Prelude.{◌≡◌, OnOk};
+ghost use Rattle.std.specs.Prelude.{◌≡◌, IfOk, OnOk};
 ghost use Rattle.outside.specs.Outside.{Asked, IfTold, Tells};
 ghost use Rattle.reports.specs.Added.{joined};
 ghost use Rattle.heap_files.specs.Files.{AreFilesOf, BelongTo};
@@ -7,32 +7,36 @@ ghost use Rattle.heap_files.specs.Found.{case_found};
 ghost use Rattle.amcheck_cmd.specs.Heap.{case_judged, heap_judged};
 ghost use Rattle.amcheck_cmd.specs.Outcome.{owed_by, reported};
 ghost use Rattle.amcheck_cmd.specs.Seen.{outcome_seen};
+ghost use Rattle.amcheck_cmd.specs.Tables.{IsHeapIn, IsHeapOf};
 
 use crate::case::{CaseOpening, open_case, refuse_files};
 use crate::fault::RunFault;
 use crate::output::{Output, report_output};
 use case_file::Case;
-use heap_files::{HeapFiles, check_heap};
+use heap_files::{HeapFiles, SoundHeap, check_heap};
 use outside::Files;
 use reports::{CheckFault, Report};
 use std::alloc::Global;
 
-/// Judges the files of a case's table, and adds what is found of them to the report.
+/// Judges the files of a case's table, and adds what is found of them to the report. The heap comes back
+/// exactly where nothing is found.
 pub fn judge_heap<F: Files>(
     alloc: Global,
     files: &mut F,
     case: &Case,
     at: HeapFiles,
     report: &mut Report,
-) -> Result<(), RunFault>
+) -> Result<Option<SoundHeap>, RunFault>
     requires told { IfTold F.seen files.old (λ names. AreFilesOf case.now names at) }
     requires belong { BelongTo case.now at }
     ensures found { OnOk result (IfTold F.seen files.old (λ names.
         report.new ≡ joined report.old (case_found case.now names))) }
+    ensures heap { Tells F.seen files.old result (λ heap names. IsHeapOf case.now names heap) }
+    ensures belong { IfOk result (λ heap. IsHeapIn case.now heap) }
     ensures asked { Asked F.seen files.old files.new result RunFault.ReadFault }
 {
     match check_heap(alloc, files, case, at, report) {
-        Ok(_) => Ok(()),
+        Ok(heap) => Ok(heap),
         Err(CheckFault::ReadFault) => Err(RunFault::ReadFault),
         Err(_) => Err(RunFault::NoMemory),
     }

@@ -1,11 +1,9 @@
-//! The command `index`: judges the heap of a case, and one of its indexes.
-ghost use Rattle.std.specs.Prelude.{◌≡◌, ◌≤◌, Some, IfOk, OnOk, length};
+//! The command `index`: judges the heap of a case, and one of its indexes by itself and beside the heap.
+ghost use Rattle.std.specs.Prelude.{◌≡◌, ◌≤◌, Some, IfOk, length};
 ghost use Rattle.outside.specs.Outside.{Asked, IfTold, Tells};
-ghost use Rattle.reports.specs.Added.{joined};
 ghost use Rattle.heap_files.specs.Files.{AreFilesOf, BelongTo};
 ghost use Rattle.heap_files.specs.Files.{refusal_of as table_refusal};
 ghost use Rattle.bt_levels.specs.Files.{BelongsTo, IsFileOf, number_of, refusal_of as tree_refusal};
-ghost use Rattle.bt_levels.specs.Index.{tree_lists};
 ghost use Rattle.amcheck_cmd.specs.Cases.{unless_refused};
 ghost use Rattle.amcheck_cmd.specs.Index.{index_found, index_judged, named_judged, numbered_judged, unknown_index};
 ghost use Rattle.amcheck_cmd.specs.Outcome.{owed_by, reported};
@@ -14,13 +12,14 @@ ghost use Rattle.amcheck_cmd.specs.Seen.{outcome_seen};
 use crate::case::{CaseOpening, open_case, refuse_files};
 use crate::fault::RunFault;
 use crate::heap::judge_heap;
+use crate::indexes::{JudgedTable, judge_index};
 use crate::output::{Output, case_refused_output, report_output};
-use bt_levels::{TreeFile, check_tree};
+use bt_levels::TreeFile;
 use case_file::{Case, CaseRule};
 use heap_files::HeapFiles;
 use key_orders::Octets;
 use outside::{Files, NoMemory};
-use reports::{CheckFault, Report};
+use reports::Report;
 use std::alloc::Global;
 
 // The files of a case that are judged: those of its table, and that of an index.
@@ -38,28 +37,7 @@ fn unknown_index(alloc: Global) -> Result<Output, NoMemory>
     case_refused_output(alloc, CaseRule::C5, &place)
 }
 
-// Judges the file of an index, and adds what is found of it to the report.
-fn judge_tree<F: Files>(
-    alloc: Global,
-    files: &mut F,
-    case: &Case,
-    at: TreeFile,
-    report: &mut Report,
-) -> Result<(), RunFault>
-    requires told { IfTold F.seen files.old (λ names. IsFileOf case.now names at) }
-    requires belong { BelongsTo case.now at }
-    ensures found { OnOk result (IfTold F.seen files.old (λ names.
-        report.new ≡ joined report.old (tree_lists case.now names (number_of at)))) }
-    ensures asked { Asked F.seen files.old files.new result RunFault.ReadFault }
-{
-    match check_tree(alloc, files, case, at, report) {
-        Ok(_) => Ok(()),
-        Err(CheckFault::ReadFault) => Err(RunFault::ReadFault),
-        Err(_) => Err(RunFault::NoMemory),
-    }
-}
-
-// The report on the files of a case's table, and then on that of an index.
+// The report on a case's table and on an index of it.
 fn judged_output<F: Files>(
     alloc: Global,
     files: &mut F,
@@ -76,8 +54,9 @@ fn judged_output<F: Files>(
 {
     let IndexedFiles { table, tree } = at;
     let mut report = Report::new(alloc);
-    judge_heap(alloc, files, case, table, &mut report)?;
-    judge_tree(alloc, files, case, tree, &mut report)?;
+    let heap = judge_heap(alloc, files, case, table, &mut report)?;
+    let judged = JudgedTable::new(case, heap.as_ref());
+    judge_index(alloc, files, judged, tree, &mut report)?;
     Ok(report_output(alloc, &report)?)
 }
 

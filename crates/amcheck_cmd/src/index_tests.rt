@@ -1,12 +1,12 @@
 //! Runs of `index` on small cases: sound indexes, each rule of an index that is judged page by page broken, and what
 //! is refused.
 use crate::fixtures::{
-    CLUSTER, INT_COLUMN, Item, LIVE, NOTHING, Tuple, Want, case_files, expect, found, in_doubt,
-    page_of,
+    CLUSTER, INT_COLUMN, Item, LIVE, NOTHING, THREE_ROWS, Tuple, Want, case_files, expect, found,
+    in_doubt, page_of,
 };
 use crate::trees::{
-    FIVE, INDEX, IndexTuple, LONE_LEAF, NINE, THREE, TWO_LEVELS, TreePage, index_file, metapage,
-    put_over,
+    FIVE, INDEX, IndexTuple, LONE_LEAF, NINE, THREE, TWO_LEVELS, TreePage, expect_index,
+    index_file, indexed_files, leaf, metapage, put_over,
 };
 use outside::{MemFiles, Part};
 use std::alloc::Global;
@@ -24,40 +24,35 @@ const NULL_ENTRY: IndexTuple<'static> = IndexTuple {
     ..FIVE
 };
 
+const NINE_ENTRY: IndexTuple<'static> = IndexTuple { item: 2, ..NINE };
+
 const MINUS_NINE: IndexTuple<'static> = IndexTuple {
     body: &[0xf7, 0xff, 0xff, 0xff],
     ..NINE
 };
 
-// The files of a case with this column, whose index has this order.
-fn files_of(
-    alloc: Global,
-    column: &str,
-    order: &str,
-    heap: &[u8],
-    index: &[u8],
-) -> Result<MemFiles, Fail> {
-    let text = format!(in alloc; "{CLUSTER}{column}{INDEX}{order}")?;
-    let mut files = case_files(alloc, text.as_str(), heap)?;
-    files.add("i", Part::Segment(0), index)?;
-    Ok(files)
-}
+// The rows null, 9 and -9.
+const NULL_ROW: Tuple<'static> = Tuple {
+    infomask: 0x0901,
+    body: &[],
+    ..LIVE
+};
 
-// Runs `index` over the files of a case, and compares its report.
-fn expect_index(
-    rt: &impl Abort,
-    alloc: Global,
-    files: &mut MemFiles,
-    want: Want<'_>,
-) -> Result<(), Fail> {
-    let text = want.text(alloc)?;
-    let words = ["index", "case.toml", "t_a"];
-    expect(rt, alloc, &words, files, (want.code(), text.as_str()))
-}
+const NINE_ROW: Tuple<'static> = Tuple {
+    item: 2,
+    body: &[9, 0, 0, 0],
+    ..LIVE
+};
 
-// The same of a table of one number without rows, and of this file of the index.
+const MINUS_NINE_ROW: Tuple<'static> = Tuple {
+    item: 3,
+    body: &[0xf7, 0xff, 0xff, 0xff],
+    ..LIVE
+};
+
+// Runs `index` on a table of one number without rows and this file of the index.
 fn expect_bytes(rt: &impl Abort, alloc: Global, index: &[u8], want: Want<'_>) -> Result<(), Fail> {
-    let mut files = files_of(alloc, INT_COLUMN, "", &[], index)?;
+    let mut files = indexed_files(alloc, INT_COLUMN, "", &[], index)?;
     expect_index(rt, alloc, &mut files, want)
 }
 
@@ -70,14 +65,6 @@ fn expect_pages(
 ) -> Result<(), Fail> {
     let index = index_file(alloc, pages)?;
     expect_bytes(rt, alloc, index.as_slice(), want)
-}
-
-// A leaf that is the root, with these entries.
-fn leaf<'a>(tuples: &'a [IndexTuple<'a>]) -> TreePage<'a> {
-    TreePage {
-        tuples,
-        ..LONE_LEAF
-    }
 }
 
 // The tree of two levels with bytes that are put over a block of it.
@@ -96,22 +83,20 @@ fn expect_over(
 fn sound_indexes(rt: HostRuntime) -> Result<(), Fail> {
     let alloc = rt.alloc();
     expect_bytes(&rt, alloc, &metapage(0, 0), NOTHING)?;
-    expect_pages(&rt, alloc, &[LONE_LEAF], NOTHING)?;
-    expect_pages(&rt, alloc, &TWO_LEVELS, NOTHING)
+    expect_pages(&rt, alloc, &[LONE_LEAF], NOTHING)
 }
 
 #[test]
 fn rows_of_an_index(rt: HostRuntime) -> Result<(), Fail> {
     let alloc = rt.alloc();
-    let second = Tuple { item: 2, ..LIVE };
-    let third = Tuple { item: 3, ..LIVE };
-    let heap = page_of(
-        0,
-        &[Item::Tuple(LIVE), Item::Tuple(second), Item::Tuple(third)],
-    );
-    let index = index_file(alloc, &[THREE])?;
-    let mut files = files_of(alloc, INT_COLUMN, "", &heap, index.as_slice())?;
-    expect_index(&rt, alloc, &mut files, NOTHING)
+    let heap = page_of(0, &THREE_ROWS);
+    let pages: [&[TreePage<'_>]; 2] = [&[THREE], &TWO_LEVELS];
+    for tree in pages {
+        let index = index_file(alloc, tree)?;
+        let mut files = indexed_files(alloc, INT_COLUMN, "", &heap, index.as_slice())?;
+        expect_index(&rt, alloc, &mut files, NOTHING)?;
+    }
+    Ok(())
 }
 
 // A list of the TIDs of item 1 and of another item of block 0.
@@ -125,6 +110,9 @@ fn list_with(item: u8) -> [u8; 24] {
 
 #[test]
 fn lists_of_tids(rt: HostRuntime) -> Result<(), Fail> {
+    let alloc = rt.alloc();
+    let second = Tuple { item: 2, ..LIVE };
+    let heap = page_of(0, &[Item::Tuple(LIVE), Item::Tuple(second)]);
     let rows = [
         (2u8, NOTHING),
         (1, found(&["B9 index 1 block 1 item 1"])),
@@ -137,7 +125,9 @@ fn lists_of_tids(rt: HostRuntime) -> Result<(), Fail> {
             info: 0x2020,
             body: &list_with(item),
         };
-        expect_pages(&rt, rt.alloc(), &[leaf(&[list])], want)?;
+        let index = index_file(alloc, &[leaf(&[list])])?;
+        let mut files = indexed_files(alloc, INT_COLUMN, "", &heap, index.as_slice())?;
+        expect_index(&rt, alloc, &mut files, want)?;
     }
     Ok(())
 }
@@ -145,14 +135,22 @@ fn lists_of_tids(rt: HostRuntime) -> Result<(), Fail> {
 #[test]
 fn descending_keys(rt: HostRuntime) -> Result<(), Fail> {
     let alloc = rt.alloc();
+    let heap = page_of(
+        0,
+        &[
+            Item::Tuple(NULL_ROW),
+            Item::Tuple(NINE_ROW),
+            Item::Tuple(MINUS_NINE_ROW),
+        ],
+    );
     let turned = found(&["B10 index 1 block 1 item 3"]);
     let rows = [
-        ([NULL_ENTRY, NINE, MINUS_NINE], NOTHING),
-        ([NINE, MINUS_NINE, NULL_ENTRY], turned),
+        ([NULL_ENTRY, NINE_ENTRY, MINUS_NINE], NOTHING),
+        ([NINE_ENTRY, MINUS_NINE, NULL_ENTRY], turned),
     ];
     for (tuples, want) in rows {
         let index = index_file(alloc, &[leaf(&tuples)])?;
-        let mut files = files_of(alloc, INT_COLUMN, DESCENDING, &[], index.as_slice())?;
+        let mut files = indexed_files(alloc, INT_COLUMN, DESCENDING, &heap, index.as_slice())?;
         expect_index(&rt, alloc, &mut files, want)?;
     }
     Ok(())
@@ -174,7 +172,7 @@ fn compressed_values(rt: HostRuntime) -> Result<(), Fail> {
     };
     let index = index_file(alloc, &[leaf(&[entry])])?;
     let heap = page_of(0, &[Item::Tuple(tuple)]);
-    let mut files = files_of(alloc, TEXT_COLUMN, "", &heap, index.as_slice())?;
+    let mut files = indexed_files(alloc, TEXT_COLUMN, "", &heap, index.as_slice())?;
     expect_index(
         &rt,
         alloc,
@@ -271,7 +269,7 @@ fn the_heap_comes_first(rt: HostRuntime) -> Result<(), Fail> {
 #[test]
 fn words_and_names_are_refused(rt: HostRuntime) -> Result<(), Fail> {
     let alloc = rt.alloc();
-    let mut files = files_of(alloc, INT_COLUMN, "", &[], &metapage(0, 0))?;
+    let mut files = indexed_files(alloc, INT_COLUMN, "", &[], &metapage(0, 0))?;
     let usage = (3, "refused usage\n");
     let words = ["index", "case.toml", "t_a", "t_a"];
     expect(&rt, alloc, &words, &mut files, usage)?;
@@ -320,7 +318,7 @@ fn an_index_that_is_too_large(rt: HostRuntime) -> Result<(), Fail> {
     let alloc = rt.alloc();
     let words = ["index", "case.toml", "t_a"];
     let many = vec![in alloc; 0u8; 16385 * 8192]?;
-    let mut files = files_of(alloc, INT_COLUMN, "", &[], &many)?;
+    let mut files = indexed_files(alloc, INT_COLUMN, "", &[], &many)?;
     let too_large = "refused too large i blocks 16385 limit 16384\n";
     expect(&rt, alloc, &words, &mut files, (6, too_large))
 }

@@ -1,6 +1,7 @@
 //! Judges the files of a cleanly stopped PostgreSQL cluster, without a server.
 #![tactic(auto)]
 
+mod all;
 mod blocks;
 mod case;
 mod fault;
@@ -14,6 +15,10 @@ mod heap_tests;
 mod index;
 #[cfg(test)]
 mod index_tests;
+#[cfg(test)]
+mod indexed_tests;
+mod indexes;
+mod laws;
 #[cfg(test)]
 mod level_tests;
 #[cfg(test)]

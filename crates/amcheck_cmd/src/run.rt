@@ -6,16 +6,17 @@ ghost use Rattle.amcheck_cmd.specs.Outcome.{Meets, usage};
 ghost use Rattle.amcheck_cmd.specs.Seen.{form_seen, outcome_seen};
 ghost use Rattle.amcheck_cmd.specs.Words.{form_of};
 
+use crate::all::all_output;
 use crate::fault::RunFault;
 use crate::heap::heap_output;
 use crate::index::index_output;
+use crate::laws::reports_have_worth;
 use crate::output::Output;
 use crate::pages::pages_output;
 use crate::show::show_output;
 use crate::status::{Ending, Status};
 use crate::words::{Command, command_of};
 use crate::write::write_text;
-use bt_levels::indexes_are_judged;
 use outside::{Files, Sink};
 use std::alloc::Global;
 
@@ -33,6 +34,7 @@ fn output_of<F: Files>(
         Command::Pages(file) => pages_output(alloc, files, file),
         Command::Heap(case) => heap_output(alloc, files, case),
         Command::Index { case, name } => index_output(alloc, files, case, name),
+        Command::All(case) => all_output(alloc, files, case),
         Command::Show { of, file, block } => show_output(alloc, files, of, file, block),
     }
 }
@@ -49,7 +51,8 @@ pub fn run<F: Files, S: Sink>(
     // What is written and answered is the outcome of the words and of the bytes that are held.
     ensures told { IfTold F.seen files.old (λ names.
         Meets (outcome (map string_bytes words.now) names) (S.written sink.old) (S.written sink.new) result.code) }
-    // What a command's report is worth: see specs/Commands.
+    // What a command's report is worth: see specs/Commands. What is true of an index of which `index` or `all`
+    // finds nothing, that each search finds what it should and each live tuple is found, stands in specs/Headline.
     ensures report { IfTold F.seen files.old (λ names. ForReport (map string_bytes words.now) names (λ check lists.
         IsWorth check names lists (S.written sink.old) (S.written sink.new) result.code)) }
     // Words without a form are refused whatever the files hold, and no other words are.
@@ -66,7 +69,7 @@ pub fn run<F: Files, S: Sink>(
     ensures write_fault { result.code ≡ 8 → Rose (S.faults sink.old) (S.faults sink.new) }
     ensures codes { result.code ≤ 10 }
 {
-    indexes_are_judged();
+    reports_have_worth();
     let Some(command) = command_of(words) else {
         return write_text(sink, b"refused usage\n", Ending::Usage);
     };

@@ -1,6 +1,9 @@
-//! Index files for tests: pages of a tree that are laid tuple by tuple, and a metapage before them.
-use crate::fixtures::put;
+//! Index files for tests: pages of a tree that are laid tuple by tuple, and a metapage before them; and the runs of
+//! `index` and `all` over them.
+use crate::fixtures::{CLUSTER, Want, case_files, expect, put};
+use outside::{MemFiles, Part};
 use std::alloc::Global;
+use std::process::Abort;
 use std::test::Fail;
 
 /// An index on the column, in a case's text.
@@ -81,6 +84,14 @@ pub(crate) const THREE: TreePage<'static> = TreePage {
     tuples: &[FIVE, SEVEN, NINE],
     ..LONE_LEAF
 };
+
+/// The same with these entries.
+pub(crate) fn leaf<'a>(tuples: &'a [IndexTuple<'a>]) -> TreePage<'a> {
+    TreePage {
+        tuples,
+        ..LONE_LEAF
+    }
+}
 
 /// A tree of two levels: a leaf with 5 and 7, one with 9, and their root, block 3.
 pub(crate) const TWO_LEVELS: [TreePage<'static>; 3] = [
@@ -231,4 +242,42 @@ pub(crate) fn put_over(bytes: &mut [u8], block: u8, at: u16, piece: &[u8]) {
             bytes[place] = *byte;
         }
     }
+}
+
+/// The files of a case with these columns, whose index has this order.
+pub(crate) fn indexed_files(
+    alloc: Global,
+    columns: &str,
+    order: &str,
+    heap: &[u8],
+    index: &[u8],
+) -> Result<MemFiles, Fail> {
+    let text = format!(in alloc; "{CLUSTER}{columns}{INDEX}{order}")?;
+    let mut files = case_files(alloc, text.as_str(), heap)?;
+    files.add("i", Part::Segment(0), index)?;
+    Ok(files)
+}
+
+/// Runs `index` over the files of a case, and compares its report.
+pub(crate) fn expect_index(
+    rt: &impl Abort,
+    alloc: Global,
+    files: &mut MemFiles,
+    want: Want<'_>,
+) -> Result<(), Fail> {
+    let text = want.text(alloc)?;
+    let words = ["index", "case.toml", "t_a"];
+    expect(rt, alloc, &words, files, (want.code(), text.as_str()))
+}
+
+/// Runs `all` over the files of a case, and compares its report.
+pub(crate) fn expect_all(
+    rt: &impl Abort,
+    alloc: Global,
+    files: &mut MemFiles,
+    want: Want<'_>,
+) -> Result<(), Fail> {
+    let text = want.text(alloc)?;
+    let words = ["all", "case.toml"];
+    expect(rt, alloc, &words, files, (want.code(), text.as_str()))
 }

@@ -31,6 +31,8 @@ pub enum Command<'w> {
         /// The index's name.
         name: &'w str,
     },
+    /// `all CASE`: judge the heap of a case, and each of its indexes.
+    All(&'w str),
     /// `show heap FILE BLOCK`, `show tree FILE BLOCK`: print one page of a file.
     Show {
         /// What the page is a page of.
@@ -125,6 +127,9 @@ fn named_command<'w>(command: &str, words: &'w [String]) -> Option<Command<'w>>
     }
     if command == "index" {
         return index_command(words);
+    }
+    if command == "all" {
+        return Some(Command::All(name_alone(words)?));
     }
     if command == "show" {
         return show_command(words);

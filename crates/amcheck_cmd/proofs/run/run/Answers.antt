@@ -6,16 +6,16 @@ use Rattle.amcheck_cmd.proofs.run.run.Goals as goal
 pub returns-in-Ok-clause-report : goal.returns-in-Ok-clause-report
 returns-in-Ok-clause-report g c names told check lists asked e =
     let form = ap form_asked (sym c.in-Some.is) ∙ c.command_of.ensures ∙ asked in
-    worth_by c.indexes_are_judged.ensures (form_seen c.in-Some.command) check names lists (outcome_seen c.in-Ok.output) form e (c.in-Ok.ensures.output names told) _ _ _
+    worth_by c.reports_have_worth.ensures (form_seen c.in-Some.command) check names lists (outcome_seen c.in-Ok.output) form e (c.in-Ok.ensures.output names told) _ _ _
     (rw c.as_slice.ensures at c.write_text-in-Ok.ensures.meets) c.write_text-in-Ok.ensures.codes
 
 pub returns-in-Err-NoMemory-clause-report : goal.returns-in-Err-NoMemory-clause-report
-returns-in-Err-NoMemory-clause-report g c names told check lists asked e = given_up_worth c.indexes_are_judged.ensures check names lists e _ _ _ (inr c.status.ensures)
+returns-in-Err-NoMemory-clause-report g c names told check lists asked e = given_up_worth c.reports_have_worth.ensures check names lists e _ _ _ (inr c.status.ensures)
 
 pub returns-then-refused_memory-clause-report : goal.returns-then-refused_memory-clause-report
 returns-then-refused_memory-clause-report g c names told check lists asked e =
-    given_up_worth c.indexes_are_judged.ensures check names lists e _ _ _ (inr c.status-then-refused_memory.ensures)
+    given_up_worth c.reports_have_worth.ensures check names lists e _ _ _ (inr c.status-then-refused_memory.ensures)
 
 pub returns-else-refused_memory-clause-report : goal.returns-else-refused_memory-clause-report
 returns-else-refused_memory-clause-report g c names told check lists asked e =
-    given_up_worth c.indexes_are_judged.ensures check names lists e _ _ _ (inl c.status-else-refused_memory.ensures)
+    given_up_worth c.reports_have_worth.ensures check names lists e _ _ _ (inl c.status-else-refused_memory.ensures)
