@@ -3,5 +3,6 @@ pub mod Asked
 pub mod Arriving
 mod Caching
 mod There
+mod Here
 mod Lookups
 mod Onward

@@ -1,7 +1,7 @@
 //! Entries that are looked up in an index of six leaves: on the way from the root, near another entry, through
 //! caches of one page and of all, and over a read that fails. Places and visits are worked out by hand.
-use crate::tests::{ONE, SIX, tree_of};
-use crate::trees::{Untold, index_file};
+use crate::tests::{ENTRY, LEAF, LISTED, ONE, SIX, tree_of};
+use crate::trees::{IndexTuple, TreePage, Untold, index_file};
 use crate::{PageCache, Spot, Visits, find, find_near};
 use bt_levels::SoundTree;
 use bt_steps::Sought;
@@ -36,17 +36,19 @@ fn looked_up(
     Some((found.map(|at| at.block), visits.count))
 }
 
-// The same near a spot, with the TID that the value has in the index.
+// The same near a spot; nothing after a fault.
 fn near(
     tree: &SoundTree,
     files: &mut Untold<'_>,
     cache: &mut PageCache,
-    value: i64,
+    entry: (i64, u16),
     at: Spot,
 ) -> Option<Spot> {
-    let key = key_of(value);
-    let item = (value.clamp(10, 60) / 10) as u16;
-    let tid = Tid { block: 0, item };
+    let key = key_of(entry.0);
+    let tid = Tid {
+        block: 0,
+        item: entry.1,
+    };
     if !fits_columns(tree.specs(), &key) || key.as_slice().len() != tree.specs().len() {
         return None;
     }
@@ -94,19 +96,78 @@ fn finds_entries_near_others(rt: HostRuntime) -> Result<(), Fail> {
     let tree = tree_of(alloc, ONE, &mut files)?;
     let mut cache = PageCache::new(alloc, 4)?;
     let rows = [
-        // at the item after the spot's, at its own, and wherever it is
-        (20, at(2, 1), Some(at(2, 2))),
+        // at the spot's item
         (20, at(2, 2), Some(at(2, 2))),
-        (20, at(2, 9), Some(at(2, 2))),
-        (20, at(2, 0), Some(at(2, 2))),
-        // of another leaf, of no leaf, of no block
-        (20, at(1, 1), None),
+        // of no data item, of another leaf, of no leaf, of no block
+        (20, at(2, 1), None),
+        (20, at(2, 9), None),
+        (20, at(2, 0), None),
+        (20, at(1, 2), None),
         (20, at(4, 1), None),
         (20, at(0, 1), None),
         (20, at(8, 1), None),
     ];
     for (value, spot, want) in rows {
-        assert_eq!(rt; near(&tree, &mut files, &mut cache, value, spot), want);
+        let found = near(&tree, &mut files, &mut cache, (value, 2), spot);
+        assert_eq!(rt; found, want);
+    }
+    Ok(())
+}
+
+// From each entry of a leaf of twelve each one from there on is found, and none before it.
+#[test]
+fn finds_entries_onward(rt: HostRuntime) -> Result<(), Fail> {
+    let alloc = rt.alloc();
+    let mut bodies = [[0u8; 4]; 12];
+    let mut tuples = [ENTRY; 12];
+    for k in 0..12u8 {
+        bodies[k as usize] = [k + 1, 0, 0, 0];
+    }
+    for (k, body) in bodies.iter().enumerate() {
+        tuples[k] = IndexTuple {
+            item: k as u16 + 1,
+            body,
+            ..ENTRY
+        };
+    }
+    let leaf = TreePage {
+        tuples: &tuples,
+        flags: 3,
+        ..LEAF
+    };
+    let bytes = index_file(alloc, 1, 0, &[leaf])?;
+    let mut files = Untold::new(bytes.as_slice());
+    let tree = tree_of(alloc, ONE, &mut files)?;
+    let mut cache = PageCache::new(alloc, 1)?;
+    for from in 1..13u16 {
+        for to in 1..13u16 {
+            let entry = (i64::from(to), to);
+            let found = near(&tree, &mut files, &mut cache, entry, at(1, from));
+            assert_eq!(rt; found, if from <= to { Some(at(1, to)) } else { None });
+        }
+    }
+    Ok(())
+}
+
+// 5 is killed, and 7 has two TIDs.
+#[test]
+fn finds_entries_of_a_list_onward(rt: HostRuntime) -> Result<(), Fail> {
+    let alloc = rt.alloc();
+    let bytes = index_file(alloc, 1, 0, &LISTED)?;
+    let mut files = Untold::new(bytes.as_slice());
+    let tree = tree_of(alloc, ONE, &mut files)?;
+    let mut cache = PageCache::new(alloc, 1)?;
+    let second = Spot { nth: 1, ..at(1, 2) };
+    let rows = [
+        ((5, 1), at(1, 1), None),
+        ((7, 2), at(1, 1), Some(at(1, 2))),
+        ((7, 3), at(1, 1), Some(second)),
+        ((7, 3), at(1, 2), Some(second)),
+        ((7, 4), at(1, 2), None),
+        ((9, 4), at(1, 2), Some(at(1, 3))),
+    ];
+    for (entry, spot, want) in rows {
+        assert_eq!(rt; near(&tree, &mut files, &mut cache, entry, spot), want);
     }
     Ok(())
 }

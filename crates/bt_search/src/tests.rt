@@ -61,7 +61,7 @@ column = \"b\"
 ";
 
 // An entry, for an item of block 0.
-const ENTRY: IndexTuple<'static> = IndexTuple {
+pub const ENTRY: IndexTuple<'static> = IndexTuple {
     block: 0,
     item: 0,
     info: 0x0010,
@@ -87,7 +87,7 @@ const FIRST: IndexTuple<'static> = IndexTuple {
     killed: false,
 };
 
-const LEAF: TreePage<'static> = TreePage {
+pub const LEAF: TreePage<'static> = TreePage {
     prev: 0,
     next: 0,
     level: 0,
@@ -296,7 +296,7 @@ const DEAD_BETWEEN: [TreePage<'static>; 4] = [
 ];
 
 // A leaf alone: 5, which is killed, 7 with two TIDs, and 9.
-const LISTED: [TreePage<'static>; 1] = [TreePage {
+pub const LISTED: [TreePage<'static>; 1] = [TreePage {
     prev: 0,
     next: 0,
     flags: 3,

@@ -26,8 +26,8 @@ use std::alloc::Global;
 // The rows of a heap of fewer blocks are looked up as they come.
 const RUN_BLOCKS: u32 = 64;
 
-// The bytes that the rows that wait may use: 32 MiB.
-const RUN_BYTES: u32 = 33_554_432;
+// The bytes that the rows that wait may use: 48 MiB.
+const RUN_BYTES: u32 = 50_331_648;
 
 // How many pages of the index are kept.
 const CACHE_PAGES: usize = 64;

@@ -1,17 +1,26 @@
 -- What one entry gives, and an item that can be read.
-use Rattle.std.proofs.Common.{◌≡◌, ◌∙◌, ◌<◌, ◌≤◌, ℕ, Bool, true, false, List, [], ◌∷◌, refl, ap}
+use Rattle.std.proofs.Common.{◌≡◌, ◌∙◌, ◌<◌, ◌≤◌, ℕ, Bool, true, false, List, [], ◌∷◌, length, refl, ap, sym}
 use Rattle.std.specs.Prelude.{if◌then◌else◌, map, Some, None}
 use Rattle.std.proofs.lemmas.Bool.{le-ltb, lt-ltb}
 use Rattle.outside.specs.Adds.{each_below}
 use Rattle.key_orders.specs.declared.columns.KeySpec.{KeySpec}
 use Rattle.key_orders.specs.declared.columns.Value.{Value}
 use Rattle.key_orders.specs.declared.Tid.{Tid}
+use Rattle.page_layout.specs.Page.{item_of}
 use Rattle.page_layout.specs.declared.rules.Rule.TheVariants.{X2}
+use Rattle.bt_meta.specs.Heads.{tree_head_of}
+use Rattle.bt_meta.specs.declared.records.HeadKind.{HeadKind}
+use Rattle.bt_meta.specs.declared.records.HeadKind.TheVariants as head
 use Rattle.tree_image.specs.Image.{first_data, keys_in}
 use Rattle.tree_search.specs.Keys.{Entry}
-use Rattle.bt_steps.specs.Entries.{keys_at}
+use Rattle.bt_steps.specs.Entries.{IsRead, keys_at}
+use Rattle.bt_steps.proofs.Items.{keys-are}
 use Rattle.bt_steps.specs.Pages.{is_live_leaf}
-use Rattle.bt_tuples.specs.Items.{Item, Plain, Posting}
+use Rattle.bt_tuples.specs.declared.items.Spot3.TheVariants.{LeafItem}
+use Rattle.bt_tuples.specs.Items.{Item, Plain, Posting, is_dead, meaning_by, meaning_of, values_or_none}
+use Rattle.bt_tuples.specs.Rules.{tuple_of}
+use Rattle.bt_tuples.specs.Tuples.{plain_tid, values_in}
+use Rattle.bt_tuples.proofs.Outcomes.{kept_means}
 use Rattle.reports.specs.Added.{nothing}
 use Rattle.indexed_rules.specs.Lists.{entry_lists, item_lists, items_lists, leaf_lists, stray_rule, tids_at, tids_lists}
 
@@ -58,3 +67,12 @@ no-leaf number specs may b page none = ap (λ (live : Bool). if live then items_
 pub a-leaf : (number : ℕ) (specs : List KeySpec) (may : Tid → Bool) (b : ℕ) (page : List ℕ) → is_live_leaf page ≡ true → leaf_lists number specs may b page ≡ items_lists number specs may b page
 unfolding leaf_lists
 a-leaf number specs may b page live = ap (λ (l : Bool). if l then items_lists number specs may b page else nothing) live
+
+-- the TID of an item that is one entry stands in its tuple's head
+pub plain-item : (specs : List KeySpec) (page : List ℕ) (i : ℕ) → IsRead specs page i → (tree_head_of (tuple_of page i)).kind ≡ head.Plain → tids_at specs page i ≡ plain_tid (tree_head_of (tuple_of page i)) ∷ []
+unfolding meaning_of
+plain-item specs page i read plain =
+    let tuple = tuple_of page i in
+    let killed = is_dead (item_of page i).flag in
+    tids-of specs page i (meaning_of specs [] tuple killed) (keys-are specs page i (meaning_of specs [] tuple killed) (sym (kept_means specs [] LeafItem page i false read.rules read.plain)))
+    ∙ ap (λ (kind : HeadKind). tids_in (meaning_by kind (length specs) tuple killed (values_or_none (values_in specs [] tuple)))) plain

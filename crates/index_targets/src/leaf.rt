@@ -1,8 +1,9 @@
 //! The entries of a leaf, against what they may name.
-ghost use Rattle.std.specs.Prelude.{◌≡◌, ◌≤◌, None, true, All, length};
+ghost use Rattle.std.specs.Prelude.{◌≡◌, ◌≤◌, ◌∷◌, [], List, None, IfSome, true, All, length};
 ghost use Rattle.outside.specs.Adds.{AddsIn};
 ghost use Rattle.page_layout.specs.Page.{count_of, page_rule_of};
 ghost use Rattle.page_layout.specs.View.{page_bytes};
+ghost use Rattle.key_orders.specs.declared.columns.KeySpec.{KeySpec as Spec};
 ghost use Rattle.key_orders.specs.Types.{HasAlignment};
 ghost use Rattle.varlena_attrs.specs.Keyed.{key_types};
 ghost use Rattle.tree_image.specs.Image.{first_data};
@@ -10,8 +11,9 @@ ghost use Rattle.bt_steps.specs.Entries.{IsRead};
 ghost use Rattle.bt_steps.specs.Pages.{IsReadable, is_live_leaf};
 ghost use Rattle.root_set.specs.Targets.{is_in};
 ghost use Rattle.reports.specs.Added.{report_lists};
-ghost use Rattle.indexed_rules.specs.Lists.{entry_lists, item_lists, items_lists, leaf_lists, tids_lists};
+ghost use Rattle.indexed_rules.specs.Lists.{entry_lists, item_lists, items_lists, leaf_lists, tids_at, tids_lists};
 
+use bt_meta::{HeadKind, tree_head};
 use bt_steps::is_live_leaf;
 use bt_tuples::{Spot3, TidList, TreeItem, tree_item};
 use key_orders::{KeySpec, Tid};
@@ -20,6 +22,9 @@ use page_layout::{PageKind, PageView, Rule};
 use reports::{Place, Report};
 use root_set::RootSet;
 use tree_image::first_data;
+
+// Where a page says at which byte its items begin (storage/bufpage.h).
+const PD_UPPER: usize = 14;
 
 /// An index, by its number in the case, from 1, and the columns of its key; and the set of what its entries
 /// may name.
@@ -35,6 +40,29 @@ pub struct Named<'a> {
 struct ItemAt {
     block: u32,
     item: u16,
+}
+
+// The TID of a data item of a leaf that is one entry. It stands in the tuple's head, so that the key isn't read.
+#[inline]
+fn only_tid(page: PageView<'_>, i: u16) -> Option<Tid>
+    requires page { page_rule_of PageKind.Tree (page_bytes page) ≡ None }
+    requires first { 1 ≤ i }
+    requires last { i ≤ count_of (page_bytes page) }
+    ensures { IfSome result (λ tid. (specs : List Spec) → IsRead specs (page_bytes page.entry) i
+        → tids_at specs (page_bytes page.entry) i ≡ tid ∷ []) }
+{
+    let item = page.item(i);
+    if item.is_misplaced_tree_item(page.u16_at(PD_UPPER)) {
+        return None;
+    }
+    let head = tree_head(page.piece(item.off, item.len));
+    match head.kind {
+        HeadKind::Plain => Some(Tid {
+            block: head.block,
+            item: head.item,
+        }),
+        HeadKind::Pivot | HeadKind::Posting => None,
+    }
 }
 
 impl Named<'_> {
@@ -76,6 +104,9 @@ impl Named<'_> {
     {
         if at.item < first_data(page) {
             return Ok(());
+        }
+        if let Some(tid) = only_tid(page, at.item) {
+            return self.judge_tid(at, tid, report);
         }
         match tree_item(page, at.item, self.specs, &[], Spot3::LeafItem) {
             Ok(TreeItem::Plain { tid, .. }) => self.judge_tid(at, tid, report),

@@ -1,6 +1,7 @@
-use Rattle.std.proofs.Common.{◌∙◌, [], ◌∷◌, ap, arith, subst, sym}
+use Rattle.std.proofs.Common.{◌∙◌, ◌≤◌, [], ◌∷◌, ap, arith, subst, sym}
 use Rattle.outside.specs.Adds.{AddsIn}
 use Rattle.page_layout.specs.View.{page_bytes}
+use Rattle.tree_image.specs.Image.{first_data}
 use Rattle.tree_image.proofs.Rises.{IsGood}
 use Rattle.bt_tuples.specs.declared.items.TreeItem.{TreeItem}
 use Rattle.bt_tuples.specs.Shown.{item_shown}
@@ -24,8 +25,8 @@ returns-in-Ok-Plain c read =
     let item = c.in-Ok-Plain in
     let tids = tids-of self.specs.now page c.args.at.item (item_shown item.field-0) (keys-are self.specs.now page c.args.at.item (item_shown item.field-0) item.ensures.outcome) ∙ ap (λ (it : TreeItem). tids_in (item_shown it)) item.field-0-is in
     let is = data-item self.number self.specs.now (is_in self.targets.now) c.args.at.block page c.args.at.item (omega (arith, c.if-at-first_data.false, c.first_data.ensures)) (item.tid ∷ []) tids in
-    subst (λ (l : Lists). AddsIn report_lists c.judge_tid.result c.args.report.now c.judge_tid.new.report l)
-    (sym (is ∙ one-tid self.number (is_in self.targets.now) c.args.at.block c.args.at.item item.tid)) c.judge_tid.ensures
+    subst (λ (l : Lists). AddsIn report_lists c.judge_tid-in-Ok-Plain.result c.args.report.now c.judge_tid-in-Ok-Plain.new.report l)
+    (sym (is ∙ one-tid self.number (is_in self.targets.now) c.args.at.block c.args.at.item item.tid)) c.judge_tid-in-Ok-Plain.ensures
 
 pub returns-in-Ok-Posting : goal.returns-in-Ok-Posting
 returns-in-Ok-Posting c read =
@@ -44,3 +45,12 @@ returns-in-Ok-Pivot c read =
 pub returns-in-Err : goal.returns-in-Err
 returns-in-Err c read =
     absurd (item-unread c.args.self.specs.now (page_bytes c.args.page) c.args.at.item c.in-Err.field-0 c.in-Err.ensures.outcome (read (omega (arith, c.if-at-first_data.false, c.first_data.ensures))))
+
+pub returns-in-Some : goal.returns-in-Some
+returns-in-Some c read =
+    let self = c.args.self in
+    let page = page_bytes c.args.page in
+    let from : first_data page ≤ c.args.at.item = omega (arith, c.if-at-first_data.false, c.first_data.ensures) in
+    let is = data-item self.number self.specs.now (is_in self.targets.now) c.args.at.block page c.args.at.item from (c.in-Some.tid ∷ []) (c.in-Some.ensures self.specs.now (read from)) in
+    subst (λ (l : Lists). AddsIn report_lists c.judge_tid.result c.args.report.now c.judge_tid.new.report l)
+    (sym (is ∙ one-tid self.number (is_in self.targets.now) c.args.at.block c.args.at.item c.in-Some.tid)) c.judge_tid.ensures
