@@ -1,12 +1,14 @@
 //! Values of columns, and the orders of index keys.
 #![tactic(auto)]
 
+mod bytewise;
 mod columns;
 mod compare;
 mod laws;
 mod more;
 mod octets;
 mod orders;
+mod prefixes;
 mod refs;
 mod scans;
 mod separators;
@@ -19,6 +21,7 @@ pub use laws::{goes_right_has_the_laws, key_orders_are_total, keys_are_searchabl
 pub use more::{MAX_MORE_COLUMNS, MoreRefs, MoreSpec};
 pub use octets::Octets;
 pub use orders::{BoolOrder, BytesOrder, IntOrder, KeyOrder, NullPlace, Reversed};
+pub use prefixes::key_prefix;
 pub use refs::{KeyRefs, MAX_KEY_COLUMNS};
 pub use scans::{Scan, ScanFault, goes_right, matches, past_high};
 pub use separators::{SepRef, Separator};

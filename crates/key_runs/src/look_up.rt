@@ -71,13 +71,14 @@ pub fn look_up_places<L: LookUp>(
     ensures later { L.leads_to (length order.now) look_up.old look_up.new }
     ensures cause { IfErr result (L.explains look_up.old look_up.new) }
 {
+    let mut key = KeyRefs::new();
     for i in 0..order.len() {
         if i % AHEAD == 0 {
             *touched = touch(arena, order, i);
         }
         let place = order[i];
         let (root, rest) = read_root(bytes_from(arena, place.at));
-        let key = read_key(rest);
+        read_key(rest, &mut key);
         let found = look_up.find(&key, root)?;
         if !found {
             marks[place.number as usize] = true;

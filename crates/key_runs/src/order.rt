@@ -5,43 +5,18 @@ ghost use Rattle.key_runs.specs.Tables.{SameSpots, spot_of};
 
 use crate::places::Place;
 use crate::stored::{bytes_from, read_root, read_value};
-use key_orders::{KeySpec, ValueRef};
+use key_orders::{KeySpec, ValueRef, key_prefix};
 use std::cmp::Ordering;
 
-/// A number that doesn't fall where the first value of a key rises.
-pub fn prefix_of(specs: &[KeySpec], values: &[ValueRef<'_>]) -> u64 {
-    match (specs.first(), values.first()) {
-        (Some(spec), Some(value)) => prefix_in(spec, *value, 0),
-        _ => 0,
-    }
-}
-
-// The same, where the first bytes of the values, which they share, are passed over.
-fn prefix_in(spec: &KeySpec, value: ValueRef<'_>, shared: usize) -> u64 {
+// The prefix of a key whose first value is this one, where the first bytes of the values, which they share, are
+// passed over.
+fn prefix_behind(specs: &[KeySpec], value: ValueRef<'_>, shared: usize) -> u64 {
     match value {
-        ValueRef::Null => { if spec.nulls_first { 0 } else { u64::MAX } }
-        ValueRef::Bool(b) => directed(spec, u64::from(b)),
-        ValueRef::Int(n) => directed(spec, n.cast_unsigned() ^ 0x8000_0000_0000_0000),
-        ValueRef::Bytes(bytes) => directed(spec, eight_from(bytes, shared)),
-    }
-}
-
-fn directed(spec: &KeySpec, number: u64) -> u64 {
-    if spec.desc { !number } else { number }
-}
-
-// Eight bytes from a place on, the first one highest; zeros stand for those that are missing.
-fn eight_from(bytes: &[u8], from: usize) -> u64 {
-    let rest = bytes.get(from..).unwrap_or(&[]);
-    match rest.first_chunk::<8>() {
-        Some(first) => u64::from_be_bytes(*first),
-        None => {
-            let mut padded = [0u8; 8];
-            for i in 0..rest.len().min(8) {
-                padded[i] = rest[i];
-            }
-            u64::from_be_bytes(padded)
+        ValueRef::Bytes(bytes) => {
+            let others = bytes.get(shared..).unwrap_or(&[]);
+            key_prefix(specs, &[ValueRef::Bytes(others)])
         }
+        ValueRef::Null | ValueRef::Bool(_) | ValueRef::Int(_) => key_prefix(specs, &[value]),
     }
 }
 
@@ -91,10 +66,8 @@ fn tell_apart(places: &mut [Place], specs: &[KeySpec], arena: &[u8])
     if shared == 0 {
         return;
     }
-    if let Some(spec) = specs.first() {
-        for i in 0..places.len() {
-            places[i].prefix = prefix_in(spec, first_value(arena, places[i].at), shared);
-        }
+    for i in 0..places.len() {
+        places[i].prefix = prefix_behind(specs, first_value(arena, places[i].at), shared);
     }
 }
 
@@ -122,6 +95,9 @@ fn shared_len(places: &[Place], arena: &[u8]) -> usize {
 
 // The bytes with which both begin.
 fn shared_by<'a>(a: &'a [u8], b: &[u8]) -> &'a [u8] {
+    if b.starts_with(a) {
+        return a;
+    }
     let most = a.len().min(b.len());
     for i in 0..most {
         if a[i] != b[i] {

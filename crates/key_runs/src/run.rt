@@ -8,10 +8,10 @@ ghost use Rattle.key_runs.specs.Rows.{GatheredRow, KeepsRows, gathered_row, no_r
 ghost use Rattle.key_runs.specs.Stored.{shown_bytes};
 
 use crate::look_up::{LookUp, look_up_places};
-use crate::order::{prefix_of, sort_places};
+use crate::order::sort_places;
 use crate::places::{Head, Place};
 use crate::stored::{fit_in, write_row};
-use key_orders::{KeyRefs, KeySpec, Tid, ValueRef};
+use key_orders::{KeyRefs, KeySpec, Tid, ValueRef, key_prefix};
 use outside::NoMemory;
 use std::alloc::Global;
 use std::marker::Model;
@@ -112,7 +112,7 @@ impl KeyRun {
         }
         let at = self.arena.len() as u32;
         let number = self.heads.len() as u32;
-        let prefix = prefix_of(specs, values);
+        let prefix = key_prefix(specs, values);
         write_row(&mut self.arena, root, values);
         push_in_room(&mut self.heads, Head { tid, at });
         push_in_room(&mut self.order, Place { prefix, at, number });

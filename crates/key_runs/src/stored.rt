@@ -98,29 +98,28 @@ fn read_item(block: u32, bytes: &[u8]) -> (Tid, &[u8])
     }
 }
 
-/// The key at the beginning.
+/// Reads the key at the beginning into a place that is at hand.
 #[tactic(auto, unfolding(crate::specs::Stored::key_read))]
-pub fn read_key(bytes: &[u8]) -> KeyRefs<'_>
-    ensures { result ≡ key_read bytes.now }
+pub fn read_key<'p>(bytes: &'p [u8], key: &mut KeyRefs<'p>)
+    ensures { key.new ≡ key_read bytes.now }
 {
-    match bytes.split_first() {
-        Some((count, rest)) => read_values((*count as usize).min(MAX_KEY_COLUMNS), rest),
-        None => KeyRefs::new(),
+    key.clear();
+    if let Some((count, rest)) = bytes.split_first() {
+        read_values((*count as usize).min(MAX_KEY_COLUMNS), rest, key);
     }
 }
 
-fn read_values(count: usize, bytes: &[u8]) -> KeyRefs<'_>
-    requires { count ≤ MAX_KEY_COLUMNS }
-    ensures { result ≡ values_read count bytes.now }
+fn read_values<'p>(count: usize, bytes: &'p [u8], key: &mut KeyRefs<'p>)
+    requires few { count ≤ MAX_KEY_COLUMNS }
+    requires none { key.old ≡ [] }
+    ensures { key.new ≡ values_read count bytes.now }
 {
-    let mut key = KeyRefs::new();
     let mut left = bytes;
     for i in 0..count {
         let (value, rest) = read_value(left);
         key.push(value);
         left = rest;
     }
-    key
 }
 
 /// The bytes from a place on.
