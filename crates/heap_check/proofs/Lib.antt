@@ -7,6 +7,7 @@ pub mod RowFits
 pub mod RowLaws
 pub mod RowPages
 pub mod RowSources
+pub mod RowStates
 pub mod RowSteps
 pub mod RowValues
 pub mod Stand

@@ -1,5 +1,5 @@
 -- What a quiet case says of the page that was read, and what is left of the rows.
-use Rattle.std.proofs.Common.{◌≡◌, inl, inr, ℕ, ◌+◌, ◌-◌, ◌<◌, ◌≤◌, true, false, List, [], ◌++◌, All, length, get_or, map, refl, ap, sym, subst, ◌∙◌, arith}
+use Rattle.std.proofs.Common.{◌≡◌, inl, inr, ℕ, ◌+◌, ◌-◌, ◌<◌, ◌≤◌, true, false, List, [], ◌++◌, All, get_or, map, refl, ap, sym, subst, ◌∙◌, arith}
 use Rattle.std.specs.Prelude.{Option, Some, None, Contains}
 use Rattle.std.proofs.lemmas.List.Elements.{All-from_get_or, All-nil, Contains-get_or}
 use Rattle.outside.specs.Adds.{one_list}
@@ -19,7 +19,7 @@ use Rattle.varlena_attrs.specs.declared.places.ToastPointer.{ToastPointer}
 use Rattle.heap_tuples.specs.Places.{tuple_at}
 use Rattle.heap_tuples.specs.Tuples.{IsReadAs, attributes_in}
 use Rattle.liveness.specs.declared.states.ItemState.{ItemState}
-use Rattle.hot_chains.specs.Chains.{item_at}
+use Rattle.hot_chains.specs.Chains.{is_live_tuple, item_at}
 use Rattle.toast_chunks.specs.Chunks.{is_whole}
 use Rattle.toast_chunks.specs.declared.map.Chunk.{Chunk}
 use Rattle.toast_chunks.proofs.Finding.{is_whole-from}
@@ -41,8 +41,7 @@ use Rattle.heap_check.specs.declared.row_page.RowPage.{RowPage}
 use Rattle.heap_check.specs.declared.rows.LiveRow.{LiveRow}
 use Rattle.heap_check.specs.declared.row_cursor.RowCursor.{RowCursor}
 use Rattle.heap_check.specs.RowCursor.{IsCursorOf, IsPageDone, case_at, heap_at, rows_ahead}
-use Rattle.heap_check.specs.RowPages.{AreStates, IsInHand, rows_in_hand}
-use Rattle.heap_check.specs.RowRoots.{AreRoots}
+use Rattle.heap_check.specs.RowPages.{AreKnown, IsInHand, TellsOf, is_live_in, rows_in_hand}
 use Rattle.heap_check.specs.RowValues.{IsThere}
 use Rattle.heap_check.specs.Rows.{block_rows, each_from, heap_page, item_rows, page_rows, rows_by_rule}
 use Rattle.heap_check.proofs.FromFiles.{heap_has_nothing, value_has_table, values_are_whole}
@@ -107,11 +106,11 @@ pub record IsLoaded (case : CaseRecord) (names : Names) (toast : Option Relation
   pub hand : IsInHand case names toast chunks page
   pub rows : rows_in_hand case names page ≡ block_rows case names block
 
-in_hand_all : (case : CaseRecord) (names : Names) (page : RowPage) (block n : ℕ) → page.block ≡ block → page.done ≡ 0 → length page.work.states.items ≡ n → rows_in_hand case names page ≡ each_upto one_list (item_rows case names block page.bytes) n
+in_hand_all : (case : CaseRecord) (names : Names) (page : RowPage) (block n : ℕ) → page.block ≡ block → page.done ≡ 0 → page.count ≡ n → rows_in_hand case names page ≡ each_upto one_list (item_rows case names block page.bytes) n
 unfolding rows_in_hand
 in_hand_all case names page block n at done long =
-    ap (λ (b : ℕ). each_from (item_rows case names b page.bytes) (page.done + 1) (length page.work.states.items - page.done)) at
-    ∙ ap (λ (d : ℕ). each_from (item_rows case names block page.bytes) (d + 1) (length page.work.states.items - d)) done
+    ap (λ (b : ℕ). each_from (item_rows case names b page.bytes) (page.done + 1) (page.count - page.done)) at
+    ∙ ap (λ (d : ℕ). each_from (item_rows case names block page.bytes) (d + 1) (page.count - d)) done
     ∙ ap (λ (m : ℕ). each_from (item_rows case names block page.bytes) 1 m) (omega (arith, long))
     ∙ all_upto (item_rows case names block page.bytes) n
 
@@ -123,29 +122,29 @@ block_is : (case : CaseRecord) (names : Names) (block : ℕ) → page_rows case 
 unfolding block_rows
 block_is case names block = refl
 
-pub loaded : (case : CaseRecord) (names : Names) (toast : Option Relation) (chunks : List Chunk) (page : RowPage) (block : ℕ) → IsQuiet case names → block < heap_blocks case names → IsToastNamed case.segment_blocks case.toast toast → chunks ≡ chunks_of case names → page.block ≡ block → page.done ≡ 0 → page.bytes ≡ heap_page case names block → AreStates (table_of case names) block page.bytes page.work.states.items → AreRoots block page.work.states.items page.roots → IsLoaded case names toast chunks page block
-loaded case names toast chunks page block quiet below named are at done bytes says roots =
+pub loaded : (case : CaseRecord) (names : Names) (toast : Option Relation) (chunks : List Chunk) (page : RowPage) (block : ℕ) → IsQuiet case names → block < heap_blocks case names → IsToastNamed case.segment_blocks case.toast toast → chunks ≡ chunks_of case names → page.block ≡ block → page.done ≡ 0 → page.bytes ≡ heap_page case names block → AreKnown (table_of case names) block page → IsLoaded case names toast chunks page block
+loaded case names toast chunks page block quiet below named are at done bytes says =
     let table : Table = table_of case names in
     let pass : AllPass table block page.bytes = subst (λ (p : List ℕ). AllPass table block p) (sym bytes) (page_passes case names quiet block below) in
-    let states : page.work.states.items ≡ states_of table page.bytes = says pass in
+    let tells : TellsOf (states_of table page.bytes) page = says pass in
     let each = each_passes table block page.bytes pass in
-    let long : length page.work.states.items ≡ count_of page.bytes = ap length states ∙ (states_are_there table page.bytes each).count in
+    let long : page.count ≡ count_of page.bytes = tells.count ∙ (states_are_there table page.bytes each).count in
     record {
       hand = λ i first last.
           let within : i ≤ count_of page.bytes = omega (arith, last, long) in
-          let state : ItemState = item_at page.work.states.items i in
+          let state : ItemState = item_at (states_of table page.bytes) i in
           let list : List Attribute = live_attributes table page.bytes i in
-          let verdict : item_verdict table page.bytes i ≡ Passes state = passes_there table page.bytes each i first within ∙ ap (λ (s : List ItemState). Passes (item_at s i)) (sym states) in
+          let verdict : item_verdict table page.bytes i ≡ Passes state = passes_there table page.bytes each i first within in
+          let told : is_live_in page i ≡ is_live_tuple state = tells.live i first (omega (arith, last, tells.count)) in
           record {
-            states = states;
-            roots = subst (λ (b : ℕ). AreRoots b page.work.states.items page.roots) (sym at) roots;
+            tells = tells;
             verdict = verdict;
             attributes = λ live.
-                let sound = sound_tuple table page.bytes i state verdict live in
+                let sound = sound_tuple table page.bytes i state verdict (sym told ∙ live) in
                 record {
                   tuple = record { rules = pass.header; first = first; last = within; normal = sound.normal; placed = sound.placed };
                   header = header_place table page.bytes i sound;
-                  read = subst (λ (cs : List ColType). IsReadAs (attributes_in cs (tuple_at page.bytes i)) list) (heap_types case names) (live_are_read table page.bytes i state verdict live);
+                  read = subst (λ (cs : List ColType). IsReadAs (attributes_in cs (tuple_at page.bytes i)) list) (heap_types case names) (live_are_read table page.bytes i state verdict (sym told ∙ live));
                 };
             values = λ live.
                 subst (λ (p : List ℕ). All (IsThere toast chunks) (live_attributes table p i)) (sym bytes)
@@ -175,18 +174,18 @@ unread_next names old new done case next below rows =
     ∙ sym (ahead_is names old)
 
 -- none is
-pub unread_same : (names : Names) (old new : RowCursor) → IsPageDone names old → case_at new ≡ case_at old → new.next ≡ old.next → new.page.work.states.items ≡ [] → rows_ahead names new ≡ rows_ahead names old
+pub unread_same : (names : Names) (old new : RowCursor) → IsPageDone names old → case_at new ≡ case_at old → new.next ≡ old.next → new.page.count ≡ 0 → rows_ahead names new ≡ rows_ahead names old
 unread_same names old new done case next none =
     let f = block_rows (case_at old) names in
     let n = heap_blocks (case_at old) names in
     ahead_is names new
     ∙ ap (λ (c : CaseRecord). rows_in_hand c names new.page ++ each_from (block_rows c names) new.next (heap_blocks c names - new.next)) case
-    ∙ ap (λ (xs : List LiveRow). xs ++ each_from f new.next (n - new.next)) (in_hand_done (case_at old) names new.page (omega (arith, ap length none)) ∙ sym done)
+    ∙ ap (λ (xs : List LiveRow). xs ++ each_from f new.next (n - new.next)) (in_hand_done (case_at old) names new.page (omega (arith, none)) ∙ sym done)
     ∙ ap (λ (k : ℕ). rows_in_hand (case_at old) names old.page ++ each_from f k (n - k)) next
     ∙ sym (ahead_is names old)
 
-pub nothing_in_hand : (case : CaseRecord) (names : Names) (toast : Option Relation) (chunks : List Chunk) (page : RowPage) → page.work.states.items ≡ [] → IsInHand case names toast chunks page
-nothing_in_hand case names toast chunks page none = λ i first last. absurd (omega (arith, first, last, ap length none))
+pub nothing_in_hand : (case : CaseRecord) (names : Names) (toast : Option Relation) (chunks : List Chunk) (page : RowPage) → page.count ≡ 0 → IsInHand case names toast chunks page
+nothing_in_hand case names toast chunks page none = λ i first last. absurd (omega (arith, first, last, none))
 
 pub heap_count : (case : CaseRecord) (names : Names) (n : ℕ) (r : Relation) → IsRelationOf names case.heap_file case.segment_blocks block_limit r → n < blocks_in_relation r → n < heap_blocks case names
 unfolding heap_blocks

@@ -37,7 +37,7 @@ fits_stored c body place a next (fixed len start f aligned ends within is) =
     subst (λ (x : Attribute). FitsType c x) (sym is) (fits_fixed c len (bytes_between body start next) f (between_length body start next len ends within))
 fits_stored c body place a next (varlena start f begins v) = fits_varlena c a f
 
-fits_attribute : (p : Presence) (c : ColType) (body : List ℕ) (place : ℕ) (a : Attribute) (next : ℕ) → IsAttribute p c body place a next → FitsType c a
+pub fits_attribute : (p : Presence) (c : ColType) (body : List ℕ) (place : ℕ) (a : Attribute) (next : ℕ) → IsAttribute p c body place a next → FitsType c a
 fits_attribute Absent c body place a next h = subst (λ (x : Attribute). FitsType c x) (sym h.0) tt
 fits_attribute As_null c body place a next h = subst (λ (x : Attribute). FitsType c x) (sym h.0) tt
 fits_attribute Stored c body place a next h = fits_stored c body place a next h

@@ -23,7 +23,7 @@ use Rattle.heap_check.proofs.RowValues.{column_is}
 
 -- the page with the next item done
 abbrev pub past : RowPage → RowPage
-past page = record { block = page.block; bytes = page.bytes; work = page.work; roots = page.roots; done = page.done + 1; values = page.values; found = false; alloc = page.alloc }
+past page = record page { done = page.done + 1; found = false }
 
 abbrev pub gone : RowCursor → RowCursor
 gone cursor = record { case = cursor.case; heap = cursor.heap; asked = cursor.asked; logs = cursor.logs; page = past cursor.page; next = cursor.next }
@@ -34,7 +34,7 @@ next_of names cursor = row_at (case_at cursor) names cursor.page.block cursor.pa
 
 in_hand_first : (case : CaseRecord) (names : Names) (asked : AskedColumns) (page : RowPage) → IsNext case names asked page → rows_in_hand case names page ≡ row_at case names page.block page.bytes (page.done + 1) ∷ rows_in_hand case names (past page)
 in_hand_first case names asked page next =
-    in_hand_next case names page (past page) (row_at case names page.block page.bytes (page.done + 1) ∷ []) (record { block = refl; bytes = refl; states = refl; roots = refl }) refl next.inside next.row.one
+    in_hand_next case names page (past page) (row_at case names page.block page.bytes (page.done + 1) ∷ []) (record { block = refl; bytes = refl; count = refl; plain = refl; states = refl; roots = refl }) refl next.inside next.row.one
 
 -- the rows that are ahead are that row and those after it
 pub ahead_first : (names : Names) (cursor : RowCursor) → IsNext (case_at cursor) names cursor.asked cursor.page → rows_ahead names cursor ≡ next_of names cursor ∷ rows_ahead names (gone cursor)

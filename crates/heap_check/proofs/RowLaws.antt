@@ -206,13 +206,13 @@ no_memory_fault columns body nulls natts f =
       ]
     ]
 
-never_in : (columns : List ColType) (tuple : List ℕ) → All HasAlignment columns → attributes_in columns tuple ≡ Err fault.NoMemory → ⊥
+pub never_in : (columns : List ColType) (tuple : List ℕ) → All HasAlignment columns → attributes_in columns tuple ≡ Err fault.NoMemory → ⊥
 unfolding attributes_in
 never_in columns tuple aligned e =
     no_memory_fault columns (body_of tuple) (nulls_of tuple) (natts_of (tuple_head_of tuple))
     (fails_first columns (body_of tuple) (nulls_of tuple) (natts_of (tuple_head_of tuple)) aligned fault.NoMemory (ap failure_in e))
 
-read_or_not : (outcome : Outcome) (list : List Attribute) → IsReadAs outcome list → (outcome ≡ Err fault.NoMemory → ⊥) → outcome ≡ Ok list
+pub read_or_not : (outcome : Outcome) (list : List Attribute) → IsReadAs outcome list → (outcome ≡ Err fault.NoMemory → ⊥) → outcome ≡ Ok list
 read_or_not (Ok found) list is never = ap Ok is
 read_or_not (Err (fault.PastEnd column)) list is never = absurd is
 read_or_not (Err (fault.BadHeader column)) list is never = absurd is

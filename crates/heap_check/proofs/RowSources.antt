@@ -100,7 +100,7 @@ unfolding rows_ahead rows_unread
 ahead_is names cursor = refl
 
 -- the cursor with another page in hand
-pub moved : (names : Names) (cursor : RowCursor) (page : RowPage) (next : ℕ) → IsCursorOf names cursor → length page.work.states.items ≤ 2042 → IsInHand (case_at cursor) names (toast_in (heap_at cursor)) (chunks_in (heap_at cursor)) page → (page.found ≡ true → IsNext (case_at cursor) names cursor.asked page) → IsCursorOf names (record { case = cursor.case; heap = cursor.heap; asked = cursor.asked; logs = cursor.logs; page = page; next = next })
+pub moved : (names : Names) (cursor : RowCursor) (page : RowPage) (next : ℕ) → IsCursorOf names cursor → page.count ≤ 2042 → IsInHand (case_at cursor) names (toast_in (heap_at cursor)) (chunks_in (heap_at cursor)) page → (page.found ≡ true → IsNext (case_at cursor) names cursor.asked page) → IsCursorOf names (record { case = cursor.case; heap = cursor.heap; asked = cursor.asked; logs = cursor.logs; page = page; next = next })
 moved names cursor page next are few hand found = record {
   heap = are.heap;
   belong = are.belong;
@@ -124,7 +124,7 @@ ahead_same names old new case next rows =
 -- What was told of a look at the page, for a cursor
 
 module _ {S E : Type 0} (seen : S → Seen) (files : S) (old : RowCursor) (page : RowPage) (told : IfTold seen files (λ names. IsCursorOf names old)) where
-  pub done_by : (result : Result Bool E) → IfOk result (λ found. IfTold seen files (λ names. (case : CaseRecord) → found ≡ false → length old.page.work.states.items ≤ 2042 → rows_in_hand case names page ≡ []))
+  pub done_by : (result : Result Bool E) → IfOk result (λ found. IfTold seen files (λ names. (case : CaseRecord) → found ≡ false → old.page.count ≤ 2042 → rows_in_hand case names page ≡ []))
       → IfOk result (λ found. IfTold seen files (λ names. found ≡ false → rows_in_hand (case_at old) names page ≡ []))
   done_by (Ok found) none = λ names held not. none names held (case_at old) not (told names held).few
   done_by (Err e) none = tt

@@ -1,5 +1,5 @@
 -- The values of a row's cells.
-use Rattle.std.proofs.Common.{◌≡◌, ◌⊎◌, inl, inr, ℕ, zero, suc, ◌+◌, ◌<◌, ◌≤◌, Bor, List, [], ◌∷◌, ◌++◌, length, get_or, All, refl, ap, sym, subst, ◌∙◌, arith}
+use Rattle.std.proofs.Common.{◌≡◌, ◌⊎◌, inl, inr, ℕ, ◌+◌, ◌<◌, ◌≤◌, Bor, List, [], ◌∷◌, ◌++◌, length, get_or, All, refl, ap, sym, subst, ◌∙◌, arith}
 use Rattle.std.specs.Prelude.{IfSome, map, slice_get, Option, Some, None}
 use Rattle.std.specs.Option.{IsSomeAnd, option_copied}
 use Rattle.outside.specs.Outside.{Names}
@@ -8,11 +8,11 @@ use Rattle.rel_files.specs.declared.relation.Relation.{Relation}
 use Rattle.key_orders.specs.declared.columns.Value.TheVariants as value
 use Rattle.std.proofs.lemmas.List.{get_or-map, get_or_append_left, get_or_push, length-map}
 use Rattle.std.proofs.lemmas.List.Elements.{All-get_or}
-use Rattle.std.proofs.lemmas.Option.{slice_get-get_or}
+use Rattle.std.proofs.lemmas.Option.{get_or_from_slice_get, slice_get-get_or, slice_get_within}
 use Rattle.key_orders.specs.declared.columns.ColType.{ColType}
 use Rattle.case_file.specs.declared.case.Column.{Column}
 use Rattle.varlena_attrs.specs.Forms.{Attribute}
-use Rattle.varlena_attrs.specs.Shown.{shown_at, shown_in}
+use Rattle.varlena_attrs.specs.InTurn.{IsAttributeOf}
 use Rattle.varlena_attrs.specs.declared.places.AttrPlace.{AttrPlace}
 use Rattle.varlena_attrs.specs.declared.places.ToastPointer.{ToastPointer}
 use Rattle.toast_chunks.specs.Stored.{AllStand}
@@ -23,8 +23,9 @@ use Rattle.heap_check.specs.declared.row_values.AskedColumns.{AskedColumns}
 use Rattle.heap_check.specs.declared.row_values.ValuePlace.{ValuePlace}
 use Rattle.heap_check.specs.declared.row_values.ValuePlace.TheVariants as place
 use Rattle.heap_check.specs.Rows.{cell_at, cell_by, cell_of}
-use Rattle.heap_check.specs.RowValues.{AreCellsAsked, FitAsked, FitTypes, FitsColumnAt, FitsPlace, FitsType, IsReadable, asked_cell, cell_shown, column_asked, shown_by}
+use Rattle.heap_check.specs.RowValues.{AreCellsAsked, FitAsked, FitsColumnAt, FitsPlace, FitsType, IsReadable, asked_cell, cell_shown, column_asked, shown_by}
 use Rattle.heap_check.proofs.RowBodies.{piece_grown}
+use Rattle.heap_check.proofs.RowFits.{fits_attribute}
 
 -- Values in the TOAST table
 
@@ -33,48 +34,27 @@ readable_in names toast r chunks e h = subst (λ (t : Option (Bor Relation)). Is
 
 -- Each column
 
-fit_length : (cs : List ColType) (list : List Attribute) → FitTypes cs list → length list ≡ length cs
-fit_length [] [] fit = refl
-fit_length (c ∷ cs) (a ∷ list) fit = ap (λ (n : ℕ). suc n) (fit_length cs list fit.1)
-fit_length [] (a ∷ list) fit = absurd fit
-fit_length (c ∷ cs) [] fit = absurd fit
+-- what a column may have fits its type
+pub attribute_fits : (columns : List Column) (types : List ColType) (body : List ℕ) (k : ℕ) (d : Column) (a : Attribute) → types ≡ map (λ c. c.ctype) columns → k < length columns → ((ctype : ColType) → slice_get types k ≡ Some ctype → IsAttributeOf ctype body a) → FitsType (get_or columns k d).ctype a
+attribute_fits columns types body k d a are lt says =
+    let long : length (map (λ (c : Column). c.ctype) columns) ≡ length columns = length-map columns (λ (c : Column). c.ctype) in
+    let at : slice_get types k ≡ Some (get_or columns k d).ctype =
+    ap (λ (ts : List ColType). slice_get ts k) are
+    ∙ slice_get-get_or (map (λ (c : Column). c.ctype) columns) k d.ctype (omega (arith, lt, long))
+    ∙ ap (λ (t : ColType). Some t) (get_or-map (λ (c : Column). c.ctype) columns k d d.ctype lt) in
+    let is = says (get_or columns k d).ctype at in
+    fits_attribute is.presence (get_or columns k d).ctype body is.place a is.next is.is
 
-fit_at : (cs : List ColType) (list : List Attribute) (k : ℕ) (d : ColType) (e : Attribute) → FitTypes cs list → k < length cs → FitsType (get_or cs k d) (get_or list k e)
-fit_at [] list k d e fit lt = absurd (omega arith)
-fit_at (c ∷ cs) (a ∷ list) zero d e fit lt = fit.0
-fit_at (c ∷ cs) (a ∷ list) (suc k) d e fit lt = fit_at cs list k d e fit.1 (omega arith)
-fit_at (c ∷ cs) [] k d e fit lt = absurd fit
+-- what holds of all attributes holds of the one of a column
+pub there_at : (P : Attribute → Type 0) (list : List Attribute) (k : ℕ) (a : Attribute) → slice_get list k ≡ Some a → All P list → P a
+there_at P list k a is all =
+    subst P (get_or_from_slice_get list k a a is) (All-get_or P list k a (slice_get_within list k a is) all)
 
--- there is a place for each column
-pub place_for : (columns : List Column) (body : List ℕ) (places : List AttrPlace) → FitTypes (map (λ c. c.ctype) columns) (shown_in body places) → length places ≡ length columns
-place_for columns body places fit =
-    sym (length-map places (shown_at body)) ∙ fit_length (map (λ c. c.ctype) columns) (shown_in body places) fit ∙ length-map columns (λ (c : Column). c.ctype)
-
--- and it fits the column's type
-pub place_fits : (columns : List Column) (body : List ℕ) (places : List AttrPlace) (k : ℕ) (d : Column) (e : AttrPlace) → FitTypes (map (λ c. c.ctype) columns) (shown_in body places) → k < length columns → FitsType (get_or columns k d).ctype (shown_at body (get_or places k e))
-place_fits columns body places k d e fit lt =
-    let long : length places ≡ length columns = place_for columns body places fit in
-    let same : length (map (λ (c : Column). c.ctype) columns) ≡ length columns = length-map columns (λ (c : Column). c.ctype) in
-    let at = fit_at (map (λ c. c.ctype) columns) (shown_in body places) k d.ctype (shown_at body e) fit (omega (arith, lt, same)) in
-    let t : get_or (map (λ (c : Column). c.ctype) columns) k d.ctype ≡ (get_or columns k d).ctype = get_or-map (λ (c : Column). c.ctype) columns k d d.ctype lt in
-    let a : get_or (shown_in body places) k (shown_at body e) ≡ shown_at body (get_or places k e) = get_or-map (shown_at body) places k e (shown_at body e) (omega (arith, lt, long)) in
-    subst (λ (x : Attribute). FitsType (get_or columns k d).ctype x) a (subst (λ (c : ColType). FitsType c (get_or (shown_in body places) k (shown_at body e))) t at)
-
--- what holds of all attributes holds of the one at a place
-pub there_at : (P : Attribute → Type 0) (body : List ℕ) (places : List AttrPlace) (k : ℕ) (e : AttrPlace) → k < length places → All P (shown_in body places) → P (shown_at body (get_or places k e))
-there_at P body places k e lt all =
-    let long : length (shown_in body places) ≡ length places = length-map places (shown_at body) in
-    subst P (get_or-map (shown_at body) places k e (shown_at body e) lt) (All-get_or P (shown_in body places) k (shown_at body e) (omega (arith, lt, long)) all)
-
-pub cell_is : (bytes : ToastPointer → List ℕ) (columns : List Column) (body : List ℕ) (places : List AttrPlace) (k : ℕ) (d : Column) (e : AttrPlace) → k < length columns → k < length places → cell_at bytes columns (shown_in body places) k ≡ cell_of bytes (get_or columns k d) (shown_at body (get_or places k e)) ∷ []
+pub cell_is : (bytes : ToastPointer → List ℕ) (columns : List Column) (list : List Attribute) (k : ℕ) (d : Column) (a : Attribute) → k < length columns → slice_get list k ≡ Some a → cell_at bytes columns list k ≡ cell_of bytes (get_or columns k d) a ∷ []
 unfolding cell_at
-cell_is bytes columns body places k d e lt within =
-    let long : length (shown_in body places) ≡ length places = length-map places (shown_at body) in
-    let column : slice_get columns k ≡ Some (get_or columns k d) = slice_get-get_or columns k d lt in
-    let at : slice_get (shown_in body places) k ≡ Some (get_or (shown_in body places) k (shown_at body e)) = slice_get-get_or (shown_in body places) k (shown_at body e) (omega (arith, within, long)) in
-    let a : get_or (shown_in body places) k (shown_at body e) ≡ shown_at body (get_or places k e) = get_or-map (shown_at body) places k e (shown_at body e) within in
-    ap (λ (c : Option Column). cell_by bytes c (slice_get (shown_in body places) k)) column
-    ∙ ap (λ (o : Option Attribute). cell_by bytes (Some (get_or columns k d)) o) (at ∙ ap (λ (x : Attribute). Some x) a)
+cell_is bytes columns list k d a lt is =
+    ap (λ (c : Option Column). cell_by bytes c (slice_get list k)) (slice_get-get_or columns k d lt)
+    ∙ ap (λ (o : Option Attribute). cell_by bytes (Some (get_or columns k d)) o) is
 
 -- The columns that are asked for
 
@@ -153,12 +133,23 @@ pub column_is : (columns : List Column) (a : ℕ) (d : Column) → a < length co
 column_is columns a d lt = slice_get-get_or columns a d lt
 
 -- the cell of a column whose value was found at a place is the cell of its attribute
-pub shown_is : (bytes : ToastPointer → List ℕ) (page joined : List ℕ) (columns : List Column) (body : List ℕ) (attrs : List AttrPlace) (a : ℕ) (d : Column) (e : AttrPlace) (found : Option ValuePlace) (p : ValuePlace) → a < length columns → a < length attrs → found ≡ Some p
-    → IsSomeAnd found (λ at. cell_shown page joined (get_or columns a d) at ≡ cell_of bytes (get_or columns a d) (shown_at body (get_or attrs a e))) → shown_by page joined (slice_get columns a) p ≡ cell_at bytes columns (shown_in body attrs) a
-shown_is bytes page joined columns body attrs a d e found p lt within is has =
+pub shown_is : (bytes : ToastPointer → List ℕ) (page joined : List ℕ) (columns : List Column) (list : List Attribute) (a : ℕ) (d : Column) (e : Attribute) (found : Option ValuePlace) (p : ValuePlace) → a < length columns → slice_get list a ≡ Some e → found ≡ Some p
+    → IsSomeAnd found (λ at. cell_shown page joined (get_or columns a d) at ≡ cell_of bytes (get_or columns a d) e) → shown_by page joined (slice_get columns a) p ≡ cell_at bytes columns list a
+shown_is bytes page joined columns list a d e found p lt there is has =
     ap (λ (o : Option Column). shown_by page joined o p) (column_is columns a d lt)
-    ∙ ap (λ (c : Cell). c ∷ []) (found_is found p (λ at. cell_shown page joined (get_or columns a d) at ≡ cell_of bytes (get_or columns a d) (shown_at body (get_or attrs a e))) is has)
-    ∙ sym (cell_is bytes columns body attrs a d e lt within)
+    ∙ ap (λ (c : Cell). c ∷ []) (found_is found p (λ at. cell_shown page joined (get_or columns a d) at ≡ cell_of bytes (get_or columns a d) e) is has)
+    ∙ sym (cell_is bytes columns list a d e lt there)
+
+-- the attribute that was read of a column
+pub attr_is : (found : Option AttrPlace) (at : AttrPlace) (P : AttrPlace → Type 0) → found ≡ Some at → IsSomeAnd found P → P at
+attr_is found at P is has = subst (λ (o : Option AttrPlace). IsSomeAnd o P) is has
+
+pub attr_has : (found : Option AttrPlace) (at : AttrPlace) (P : AttrPlace → Type 0) → found ≡ Some at → IfSome found P → P at
+attr_has found at P is has = subst (λ (o : Option AttrPlace). IfSome o P) is has
+
+pub no_attr : (found : Option AttrPlace) (P : AttrPlace → Type 0) → IsSomeAnd found P → ((at : AttrPlace) → found ≡ Some at → ⊥) → ⊥
+no_attr None P has none = absurd has
+no_attr (Some at) P has none = none at refl
 
 pub fits_is : (joined : ℕ) (columns : List Column) (a : ℕ) (d : Column) (found : Option ValuePlace) (p : ValuePlace) → a < length columns → found ≡ Some p → IfSome found (λ at. FitsPlace joined (get_or columns a d).ctype at) → FitsColumnAt joined (slice_get columns a) p
 fits_is joined columns a d found p lt is has =

@@ -39,7 +39,7 @@ pub record IsCursorOf (names : Names) (cursor : RowCursor) : Type 0 where
   pub quiet : IsQuiet (case_at cursor) names
   pub logs : log_files_kept cursor.logs ≡ log_files_in (case_at cursor)
   pub asked : AsksColumns (length (case_at cursor).columns) cursor.asked
-  pub few : length cursor.page.work.states.items ≤ 2042
+  pub few : cursor.page.count ≤ 2042
   pub hand : IsInHand (case_at cursor) names (toast_in (heap_at cursor)) (chunks_in (heap_at cursor)) cursor.page
   pub next : cursor.page.found ≡ true → IsNext (case_at cursor) names cursor.asked cursor.page
 

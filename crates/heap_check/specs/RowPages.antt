@@ -1,16 +1,17 @@
 -- The page of a heap from which rows are taken.
-use Rattle.std.specs.Prelude.{◌≡◌, ℕ, ◌+◌, ◌-◌, ◌<◌, ◌≤◌, true, false, List, [], ◌∷◌, All, drop, length, map, take}
-use Rattle.std.specs.Prelude.{slice_get, Option, Some, None}
+use Rattle.std.specs.Prelude.{◌≡◌, ℕ, ◌+◌, ◌-◌, ◌<◌, ◌≤◌, Bool, true, false, List, [], ◌∷◌, All, drop, length, map}
+use Rattle.std.specs.Prelude.{slice_get, take, Option, Some, None}
 use Rattle.outside.specs.Outside.{Names}
+use Rattle.page_layout.specs.Items.{is_normal}
 use Rattle.page_layout.specs.Page.{item_of}
+use Rattle.page_layout.specs.declared.page.LineFlag.{LineFlag}
+use Rattle.page_layout.specs.declared.page.LinePtr.{LinePtr}
 use Rattle.rel_files.specs.declared.relation.Relation.{Relation}
 use Rattle.key_orders.specs.declared.columns.ColType.{ColType}
 use Rattle.case_file.specs.Record.{CaseRecord}
 use Rattle.case_file.specs.declared.case.Column.{Column}
 use Rattle.tuple_head.specs.Head.{has_misplaced_attributes}
 use Rattle.varlena_attrs.specs.Forms.{Attribute}
-use Rattle.varlena_attrs.specs.Shown.{IsWithin, shown_in}
-use Rattle.varlena_attrs.specs.declared.places.AttrPlace.{AttrPlace}
 use Rattle.heap_tuples.specs.Places.{IsTupleAt, tuple_at}
 use Rattle.heap_tuples.specs.Tuples.{IsReadAs, attributes_in}
 use Rattle.liveness.specs.declared.states.ItemState.{ItemState}
@@ -23,13 +24,12 @@ use Rattle.heap_pages.specs.Table.{Table}
 use Rattle.heap_pages.specs.Verdicts.{head_at, item_verdict}
 use Rattle.heap_files.specs.Case.{table_of}
 use Rattle.heap_check.specs.declared.row_cells.Cell.{Cell}
-use Rattle.heap_check.specs.declared.row_page.BodyPlace.{BodyPlace}
 use Rattle.heap_check.specs.declared.row_page.RowPage.{RowPage}
 use Rattle.heap_check.specs.declared.row_values.AskedColumns.{AskedColumns}
 use Rattle.heap_check.specs.declared.rows.LiveRow.{LiveRow}
 use Rattle.heap_check.specs.RowFits.{FitColumns}
 use Rattle.heap_check.specs.RowRoots.{AreRoots}
-use Rattle.heap_check.specs.RowValues.{FitAsked, FitTypes, IsThere, asked_cell, column_asked, count_asked}
+use Rattle.heap_check.specs.RowValues.{FitAsked, IsThere, asked_cell, column_asked, count_asked}
 use Rattle.heap_check.specs.Rows.{each_from, item_rows, row_at}
 
 -- Attributes
@@ -40,46 +40,55 @@ pub record HasAttributes (columns : List ColType) (page : List ℕ) (i : ℕ) (l
   pub header : has_misplaced_attributes (item_of page i).len (head_at page i) ≡ false
   pub read : IsReadAs (attributes_in columns (tuple_at page i)) list
 
--- the body of a tuple that lies at this place
-abbrev pub body_at : List ℕ → BodyPlace → List ℕ
-body_at page at = take at.len (drop at.start page)
-
--- a body on the page, whose attributes lie at these places in it and fit the columns
-pub record IsBody (columns : List ColType) (page : List ℕ) (attrs : List AttrPlace) (at : BodyPlace) : Type 0 where
-  pub inside : at.start + at.len ≤ 8192
-  pub within : All (IsWithin at.len) attrs
-  pub fit : FitTypes columns (shown_in (body_at page at) attrs)
-
--- States
-
--- where a page and its items break no rule, and none is in doubt, these are the items' states
-abbrev pub AreStates : Table → ℕ → List ℕ → List ItemState → Type 0
-AreStates table block page states = AllPass table block page → states ≡ states_of table page
+-- the body of the tuple that a line pointer of a page points to: it ends where the item does
+pub record IsBodyOf (page : List ℕ) (pointer : LinePtr) (body : List ℕ) : Type 0 where
+  pub inside : pointer.off + pointer.len ≤ 8192
+  pub part : length body ≤ pointer.len
+  pub piece : body ≡ take (length body) (drop (pointer.off + (pointer.len - length body)) page)
 
 -- The page in hand
+
+-- an item is a live tuple: by its line pointer on a plain page, and else by its state
+abbrev pub is_live_by : (plain : Bool) → LineFlag → ItemState → Bool
+is_live_by true flag state = is_normal flag
+is_live_by false flag state = is_live_tuple state
+
+-- item i of the page is, as far as is kept of it
+abbrev pub is_live_in : RowPage → ℕ → Bool
+is_live_in page i = is_live_by page.plain (item_of page.bytes i).flag (item_at page.states.items i)
+
+-- what is kept of the items of the page is so, where these are their states
+pub record TellsOf (states : List ItemState) (page : RowPage) : Type 0 where
+  pub count : page.count ≡ length states
+  pub live : (i : ℕ) → 1 ≤ i → i ≤ length states → is_live_in page i ≡ is_live_tuple (item_at states i)
+  pub roots : AreRoots page.block states page.roots
+
+-- where a page and its items break no rule, and none is in doubt, what is kept of its items is so
+abbrev pub AreKnown : Table → ℕ → RowPage → Type 0
+AreKnown table block page = AllPass table block page.bytes → TellsOf (states_of table page.bytes) page
 
 -- what is known of item i of the page in hand: its state, its root, and if it is live its values
 pub record IsKnown
     (case : CaseRecord) (names : Names) (toast : Option Relation) (chunks : List Chunk) (page : RowPage) (i : ℕ)
     : Type 0 where
-  pub states : page.work.states.items ≡ states_of (table_of case names) page.bytes
-  pub roots : AreRoots page.block page.work.states.items page.roots
-  pub verdict : item_verdict (table_of case names) page.bytes i ≡ Passes (item_at page.work.states.items i)
-  pub attributes : is_live_tuple (item_at page.work.states.items i) ≡ true
+  pub tells : TellsOf (states_of (table_of case names) page.bytes) page
+  pub verdict : item_verdict (table_of case names) page.bytes i
+      ≡ Passes (item_at (states_of (table_of case names) page.bytes) i)
+  pub attributes : is_live_in page i ≡ true
       → HasAttributes (map (λ c. c.ctype) case.columns) page.bytes i
       (live_attributes (table_of case names) page.bytes i)
-  pub values : is_live_tuple (item_at page.work.states.items i) ≡ true
+  pub values : is_live_in page i ≡ true
       → All (IsThere toast chunks) (live_attributes (table_of case names) page.bytes i)
 
 -- the page is a case's, and all its items are known
 abbrev pub IsInHand : CaseRecord → Names → Option Relation → List Chunk → RowPage → Type 0
 IsInHand case names toast chunks page =
-    (i : ℕ) → 1 ≤ i → i ≤ length page.work.states.items → IsKnown case names toast chunks page i
+    (i : ℕ) → 1 ≤ i → i ≤ page.count → IsKnown case names toast chunks page i
 
 -- the rows of its items that aren't done yet
 unfoldable pub rows_in_hand : CaseRecord → Names → RowPage → List LiveRow
 rows_in_hand case names page =
-    each_from (item_rows case names page.block page.bytes) (page.done + 1) (length page.work.states.items - page.done)
+    each_from (item_rows case names page.block page.bytes) (page.done + 1) (page.count - page.done)
 
 -- A row that was found
 
@@ -109,7 +118,7 @@ pub record IsRowFound (case : CaseRecord) (names : Names) (asked : AskedColumns)
 
 -- the next item that isn't done is that of the row that was found
 pub record IsNext (case : CaseRecord) (names : Names) (asked : AskedColumns) (page : RowPage) : Type 0 where
-  pub inside : page.done < length page.work.states.items
+  pub inside : page.done < page.count
   pub row : IsRowFound case names asked page (page.done + 1)
 
 -- Rows
@@ -125,9 +134,18 @@ pub record IsRow (columns : List Column) (row : LiveRow) : Type 0 where
   pub root : 1 ≤ row.root.item
   pub cells : FitColumns columns row.cells
 
--- the page after a look at its tuples: only the memory for attributes and values and how many items are done may differ
+-- the same page, in which other items may be known
+pub record IsSameBlock (old new : RowPage) : Type 0 where
+  pub block : new.block ≡ old.block
+  pub bytes : new.bytes ≡ old.bytes
+  pub done : new.done ≡ old.done
+  pub found : new.found ≡ old.found
+
+-- the page after a look at its tuples: only the memory for values and how many items are done may differ
 pub record IsSamePage (old new : RowPage) : Type 0 where
   pub block : new.block ≡ old.block
   pub bytes : new.bytes ≡ old.bytes
-  pub states : new.work.states.items ≡ old.work.states.items
+  pub count : new.count ≡ old.count
+  pub plain : new.plain ≡ old.plain
+  pub states : new.states ≡ old.states
   pub roots : new.roots ≡ old.roots

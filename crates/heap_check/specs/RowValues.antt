@@ -12,7 +12,6 @@ use Rattle.key_orders.specs.Values.{value_in, value_shown}
 use Rattle.case_file.specs.Record.{CaseRecord}
 use Rattle.case_file.specs.declared.case.Column.{Column}
 use Rattle.varlena_attrs.specs.Forms.{Attribute, Null, Missing, Plain, Packed, External}
-use Rattle.varlena_attrs.specs.Shown.{shown_in}
 use Rattle.varlena_attrs.specs.declared.places.ToastPointer.{ToastPointer}
 use Rattle.toast_chunks.specs.Chunks.{is_whole}
 use Rattle.toast_chunks.specs.Stored.{AllStand}
@@ -77,10 +76,6 @@ FitTypes (c ∷ cs) [] = ⊥
 -- its body
 abbrev pub body_in : RowTuple → List ℕ
 body_in tuple = take tuple.len (drop tuple.start tuple.page.now)
-
--- its attributes
-abbrev pub attributes_seen : RowTuple → List Attribute
-attributes_seen tuple = shown_in (body_in tuple) tuple.attrs.now
 
 -- Places of values
 

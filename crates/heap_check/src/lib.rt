@@ -6,6 +6,7 @@ mod row_cursor;
 mod row_laws;
 mod row_page;
 mod row_roots;
+mod row_states;
 mod row_values;
 mod rows;
 #[cfg(test)]

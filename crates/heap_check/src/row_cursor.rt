@@ -42,8 +42,9 @@ pub struct RowPlace {
 
 /// A cursor over the live rows of a heap in which nothing was found, by rising TID, which lends of each the
 /// values of the columns that are asked for as they lie on its page. It stores one page of the heap, and the
-/// bytes of those values of a row that stand in the TOAST table: each block is read and judged once, and no
-/// row takes memory of its own. It is used with the files and the case that the heap was made with.
+/// bytes of those values of a row that stand in the TOAST table: each block is read once, nothing of it is
+/// judged again, and no row takes memory of its own. It is used with the files and the case that the heap was
+/// made with.
 #[derive(Drop)]
 pub struct RowCursor<'a> {
     pub(crate) case: &'a Case,
@@ -135,7 +136,7 @@ impl<'a> RowCursor<'a> {
         ensures asked { IfOk result (λ cursor. asked_at cursor ≡ asked) }
     {
         let logs = CaseLogs::new(alloc, case)?;
-        let page = RowPage::new(alloc)?;
+        let page = RowPage::new(alloc);
         Ok(RowCursor {
             case,
             heap,

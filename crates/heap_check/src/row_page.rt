@@ -1,82 +1,70 @@
 //! The page of a heap from which rows are taken.
-ghost use Rattle.std.specs.Prelude.{◌≡◌, ◌+◌, ◌<◌, ◌≤◌, [], List, ℕ, All, false, true, length, map, take, drop, None};
-ghost use Rattle.std.specs.Prelude.{Ok, Some};
-ghost use Rattle.std.specs.Prelude.{IfOk, IfSome, OnErr, OnOk, IsSome};
-ghost use Rattle.std.specs.Option.{IsSomeAnd, is_some, option_copied};
+ghost use Rattle.std.specs.Prelude.{◌≡◌, ◌<◌, ◌≤◌, [], List, ℕ, All, false, true, map};
+ghost use Rattle.std.specs.Prelude.{IfOk, IfSome, OnErr, OnOk};
+ghost use Rattle.std.specs.Option.{IsSomeAnd, option_copied};
 ghost use Rattle.outside.specs.Outside.{Asked, IfTold, Tells};
 ghost use Rattle.rel_files.specs.Relation.{IsAttached, base_of, count_of, size_of};
 ghost use Rattle.rel_files.specs.Blocks.{block_of};
-ghost use Rattle.page_layout.specs.View.{page_bytes};
+ghost use Rattle.page_layout.specs.Page.{item_of};
 ghost use Rattle.varlena_attrs.specs.Forms.{Attribute};
-ghost use Rattle.varlena_attrs.specs.Shown.{shown_in};
+ghost use Rattle.varlena_attrs.specs.InTurn.{AreRead};
 ghost use Rattle.key_orders.specs.Types.{HasAlignment};
-ghost use Rattle.hot_chains.specs.Chains.{is_live_tuple};
+ghost use Rattle.hot_chains.specs.Chains.{is_live_tuple, item_at};
 ghost use Rattle.case_file.specs.Record.{CaseRecord};
-ghost use Rattle.heap_pages.specs.Table.{AreReadable, table_seen};
-ghost use Rattle.heap_check.specs.RowPages.{AreStates, HasAttributes, IsBody, body_at};
+ghost use Rattle.heap_pages.specs.Table.{table_seen};
+ghost use Rattle.heap_check.specs.RowPages.{HasAttributes, IsBodyOf};
 ghost use Rattle.heap_check.specs.RowValues.{AreValuesOf, IsReadable};
-ghost use Rattle.heap_check.specs.RowRoots.{AreRoots};
 ghost use Rattle.heap_check.specs.Rows.{item_rows};
 
 use crate::row_roots::Roots;
+use crate::row_states::{are_plain, find_states, line_pointer, tuple_in};
 use crate::row_values::{RowTuple, RowValues, ValueSources};
-use heap_pages::{PageInHand, TableRules, Work, judge_items};
-use heap_tuples::{try_read_tuple, tuple_at};
+use heap_pages::TableRules;
+use heap_tuples::tuple_columns;
 use key_orders::ColType;
-use liveness::{ItemState, Life, Memory, Remembering};
-use outside::{Files, NoMemory};
-use page_layout::{PageKind, PageView};
+use liveness::{ItemState, Life};
+use outside::Files;
+use page_layout::{LinePtr, PageKind, PageView};
 use rel_files::Relation;
 use reports::PageFault;
 use std::alloc::Global;
-use varlena_attrs::AttrBuffer;
-use vis_map::MapBits;
+use varlena_attrs::TupleColumns;
 
 // How many items a page may have.
-const MAX_ITEMS: usize = 2042;
+const MAX_ITEMS: u16 = 2042;
 
-/// Where the body of a tuple lies on its page.
-#[derive(Clone, Copy)]
-pub(crate) struct BodyPlace {
-    pub(crate) start: usize,
-    pub(crate) len: usize,
-}
-
-// Reads the attributes of the tuple at an item of a page; none where they can't be read, which can't be of a
-// live tuple of a sound heap.
-fn read_attributes(
-    page: &[u8; 8192],
-    item: u16,
-    columns: &[ColType],
-    attrs: &mut AttrBuffer,
-) -> Result<Option<BodyPlace>, NoMemory>
+// The attributes of the tuple that a line pointer of a page points to, to be read one after the other; none
+// where they can't be read, which can't be of a live tuple of a sound heap.
+fn tuple_attributes<'p>(
+    page: &'p [u8; 8192],
+    pointer: LinePtr,
+    columns: &'p [ColType],
+) -> Option<TupleColumns<'p>>
     requires aligned { All HasAlignment columns.now }
-    ensures read { IfOk result (λ found. (list : List Attribute) → HasAttributes columns.now page.now item list
-        → IsSomeAnd found (λ at. shown_in (body_at page.now at) attrs.new ≡ list)) }
-    ensures body { IfOk result (λ found. IfSome found (IsBody columns.now page.now attrs.new)) }
+    ensures read { (item : ℕ) (list : List Attribute) → pointer ≡ item_of page.now item
+        → HasAttributes columns.now page.now item list → IsSomeAnd result (λ attrs. AreRead attrs list) }
+    ensures columns { IfSome result (λ attrs. attrs.columns ≡ columns.now) }
+    ensures body { IfSome result (λ attrs. IsBodyOf page.now pointer attrs.body) }
 {
-    let Some(tuple) = tuple_at(page, item) else {
-        return Ok(None);
-    };
-    let Some(body) = try_read_tuple(attrs, columns, tuple)? else {
-        return Ok(None);
-    };
-    let start = PageView::new(page).item(item).off as usize;
-    Ok(Some(BodyPlace {
-        start: start + (tuple.len() - body.len()),
-        len: body.len(),
-    }))
+    match tuple_in(PageView::new(page), pointer) {
+        Some(tuple) => tuple_columns(columns, tuple),
+        None => None,
+    }
 }
 
-/// The page of a heap that is in hand, with what is known of its items: one state for each, or none at
-/// all where no page is in hand or something is found of the page.
+/// The page of a heap that is in hand, with what is known of its items; none where no page is in hand or
+/// it breaks a rule of its own.
 #[derive(Drop)]
 pub(crate) struct RowPage {
     /// Its block.
     pub(crate) block: u32,
     pub(crate) bytes: [u8; 8192],
-    /// The states of its items.
-    pub(crate) work: Work,
+    /// How many items are known.
+    pub(crate) count: u16,
+    /// Whether each of its tuples is live and its own root, as on most pages: their states aren't kept then.
+    pub(crate) plain: bool,
+    /// The states of its items, where it isn't plain.
+    pub(crate) states: Vec<ItemState>,
     /// The roots from which they are found.
     pub(crate) roots: Roots,
     /// How many of its items are done.
@@ -97,94 +85,71 @@ fn is_live(state: ItemState) -> bool
     }
 }
 
-// Finds the states of the items of a page; none at all where something is found of the page, which
-// can't be in a sound heap.
-fn find_states<F: Files>(
-    alloc: Global,
-    files: &mut F,
-    table: &TableRules<'_>,
-    at: PageInHand<'_>,
-    work: &mut Work,
-) -> Result<(), PageFault>
-    requires columns { AreReadable table.now.columns.now }
-    ensures states { OnOk result (IfTold F.seen files.old (λ names.
-        AreStates (table_seen names table.now) at.entry.block (page_bytes at.entry.view) work.new.states.items)) }
-    ensures most { OnOk result (length work.new.states.items ≤ 2042) }
-    ensures asked { Asked F.seen files.old files.new result PageFault.ReadFault }
+// The state of an item, counted from 1; an unused one where there is none of this number.
+#[tactic(auto, unfolding(hot_chains::specs::Chains::item_at))]
+fn state_at(states: &[ItemState], item: u16) -> ItemState
+    ensures { result ≡ item_at states.now item }
 {
-    work.clear();
-    if at.view.page_rule(PageKind::Heap).is_some() {
-        return Ok(());
+    if item != 0 && item as usize <= states.len() {
+        states[item as usize - 1]
+    } else {
+        ItemState::Unused
     }
-    let before = work.found.counts();
-    let mut memory = Memory::new(alloc, &table.logs)?;
-    let mut files = Remembering::new(files, &mut memory);
-    judge_items(&mut files, table, at, work)?;
-    if work.found.counts() != before || work.states.len() != at.view.item_count() as usize {
-        work.states.clear();
-    }
-    Ok(())
 }
 
 impl RowPage {
-    ghost use Rattle.heap_check.specs.RowPages.{HasPlaces, IsInHand, IsKnown, IsNext, IsRowFound, IsSamePage};
-    ghost use Rattle.heap_check.specs.RowPages.{rows_in_hand};
+    ghost use Rattle.heap_check.specs.RowPages.{AreKnown, HasPlaces, IsInHand, IsKnown, IsNext, IsRowFound};
+    ghost use Rattle.heap_check.specs.RowPages.{IsSameBlock, IsSamePage, is_live_in, rows_in_hand};
 
     /// No page is in hand.
-    pub(crate) fn new(alloc: Global) -> Result<RowPage, NoMemory>
-        ensures states { IfOk result (λ page. page.work.states.items ≡ []) }
-        ensures found { IfOk result (λ page. page.found ≡ false) }
+    pub(crate) fn new(alloc: Global) -> RowPage
+        ensures count { result.count ≡ 0 }
+        ensures found { result.found ≡ false }
     {
-        Ok(RowPage {
+        RowPage {
             block: 0,
             bytes: [0u8; 8192],
-            work: Work::new(alloc)?,
+            count: 0,
+            plain: false,
+            states: Vec::new(alloc),
             roots: Roots::new(alloc),
             done: 0,
             values: RowValues::new(alloc),
             found: false,
             alloc,
-        })
+        }
     }
 
-    // Reads a block of the heap, and finds the states and the roots of its items.
-    fn read<F: Files>(
-        &mut self,
-        files: &mut F,
-        table: &TableRules<'_>,
-        heap: &Relation,
-        block: u32,
-    ) -> Result<(), PageFault>
-        requires columns { AreReadable table.now.columns.now }
-        requires attached { IfTold F.seen files.old (λ names. IsAttached names heap.now) }
-        requires inside { block < count_of heap.now }
-        ensures block { OnOk result (self.new.block ≡ block) }
-        ensures done { OnOk result (self.new.done ≡ 0) }
-        ensures found { self.new.found ≡ false }
-        ensures bytes { OnOk result (IfTold F.seen files.old (λ names.
-            self.new.bytes ≡ block_of names (base_of heap.now) (size_of heap.now) block)) }
-        ensures states { OnOk result (IfTold F.seen files.old (λ names.
-            AreStates (table_seen names table.now) block self.new.bytes self.new.work.states.items)) }
-        ensures roots { OnOk result (AreRoots block self.new.work.states.items self.new.roots) }
-        ensures few { OnOk result (length self.new.work.states.items ≤ 2042) }
+    // Finds what is known of the items of the page in hand, of which nothing is known.
+    fn know<F: Files>(&mut self, files: &mut F, table: &TableRules<'_>) -> Result<(), PageFault>
+        requires none { self.old.count ≡ 0 }
+        ensures known { OnOk result (IfTold F.seen files.old (λ names.
+            AreKnown (table_seen names table.now) self.old.block self.new)) }
+        ensures few { self.new.count ≤ 2042 }
+        ensures empty { OnErr result (self.new.count ≡ 0) }
+        ensures page { IsSameBlock self.old self.new }
         ensures asked { Asked F.seen files.old files.new result PageFault.ReadFault }
     {
-        self.block = block;
-        self.done = 0;
-        self.found = false;
-        heap.read_block(files, block, &mut self.bytes)?;
-        let at = PageInHand {
-            view: PageView::new(&self.bytes),
-            block,
-            bits: MapBits::NONE,
-        };
-        find_states(self.alloc, files, table, at, &mut self.work)?;
-        self.roots.find(block, &self.work.states)?;
+        let page = PageView::new(&self.bytes);
+        if page.page_rule(PageKind::Heap).is_some() {
+            return Ok(());
+        }
+        let count = page.item_count();
+        if are_plain(page) {
+            self.plain = true;
+            self.roots.clear();
+            self.count = count;
+            return Ok(());
+        }
+        self.plain = false;
+        find_states(self.alloc, files, &table.logs, page, &mut self.states)?;
+        self.roots.find(self.block, &self.states)?;
+        self.count = count;
         Ok(())
     }
 
-    /// Takes a block of the heap in hand: reads it, and judges its items. After an error no page is in
-    /// hand.
+    /// Takes a block of the heap in hand: reads it, and finds what its items are. After an error no page is
+    /// in hand.
     pub(crate) fn take<F: Files>(
         &mut self,
         files: &mut F,
@@ -192,7 +157,6 @@ impl RowPage {
         heap: &Relation,
         block: u32,
     ) -> Result<(), PageFault>
-        requires columns { AreReadable table.now.columns.now }
         requires attached { IfTold F.seen files.old (λ names. IsAttached names heap.now) }
         requires inside { block < count_of heap.now }
         ensures block { OnOk result (self.new.block ≡ block) }
@@ -200,18 +164,30 @@ impl RowPage {
         ensures found { self.new.found ≡ false }
         ensures bytes { OnOk result (IfTold F.seen files.old (λ names.
             self.new.bytes ≡ block_of names (base_of heap.now) (size_of heap.now) block)) }
-        ensures states { OnOk result (IfTold F.seen files.old (λ names.
-            AreStates (table_seen names table.now) block self.new.bytes self.new.work.states.items)) }
-        ensures roots { OnOk result (AreRoots block self.new.work.states.items self.new.roots) }
-        ensures few { length self.new.work.states.items ≤ 2042 }
-        ensures empty { OnErr result (self.new.work.states.items ≡ []) }
+        ensures known { OnOk result (IfTold F.seen files.old (λ names.
+            AreKnown (table_seen names table.now) block self.new)) }
+        ensures few { self.new.count ≤ 2042 }
+        ensures empty { OnErr result (self.new.count ≡ 0) }
         ensures asked { Asked F.seen files.old files.new result PageFault.ReadFault }
     {
-        let outcome = self.read(files, table, heap, block);
-        if outcome.is_err() {
-            self.work.states.clear();
+        self.block = block;
+        self.count = 0;
+        self.done = 0;
+        self.found = false;
+        heap.read_block(files, block, &mut self.bytes)?;
+        self.know(files, table)
+    }
+
+    // Whether an item of the page in hand is a live tuple, by its line pointer where the page is plain, and
+    // else by its state.
+    fn is_live_item(&self, pointer: LinePtr, item: u16) -> bool
+        requires { pointer ≡ item_of self.now.bytes item }
+        ensures { result ≡ is_live_in self.now item }
+    {
+        if self.plain {
+            return pointer.flag.is_normal();
         }
-        outcome
+        is_live(state_at(&self.states, item))
     }
 
     // Finds the values of the tuple at an item of the page in hand that are asked for; whether it is a live
@@ -228,7 +204,8 @@ impl RowPage {
         requires columns { columns.now ≡ map (λ c. c.ctype) from.now.columns.now }
         requires aligned { All HasAlignment columns.now }
         requires first { 1 ≤ item }
-        requires last { item ≤ length self.old.work.states.items }
+        requires last { item ≤ self.old.count }
+        requires few { item ≤ 2042 }
         ensures none { Tells F.seen files.old result (λ found names. (case : CaseRecord) → found ≡ false
             → IsKnown case names (option_copied from.now.toast) from.now.chunks.now self.old item
             → AreValuesOf case names from.now → item_rows case names self.old.block self.old.bytes item ≡ []) }
@@ -244,20 +221,20 @@ impl RowPage {
         ensures asked { Asked F.seen files.old files.new result PageFault.ReadFault }
     {
         self.found = false;
-        if !is_live(self.work.states[item as usize - 1]) {
+        let pointer = line_pointer(&self.bytes, item);
+        if !self.is_live_item(pointer, item) {
             return Ok(false);
         }
-        let attrs = &mut self.work.attrs;
-        let Some(body) = read_attributes(&self.bytes, item, columns, attrs)? else {
+        let Some(mut attrs) = tuple_attributes(&self.bytes, pointer, columns) else {
             return Ok(false);
         };
+        let len = attrs.body().len();
         let tuple = RowTuple {
             page: &self.bytes,
-            start: body.start,
-            len: body.len,
-            attrs: self.work.attrs.as_slice(),
+            start: pointer.off as usize + (pointer.len as usize - len),
+            len,
         };
-        let found = self.values.find(files, from, &tuple)?;
+        let found = self.values.find(files, from, &tuple, &mut attrs)?;
         self.found = found;
         Ok(found)
     }
@@ -281,7 +258,7 @@ impl RowPage {
             → IsInHand case names (option_copied from.now.toast) from.now.chunks.now self.old
             → AreValuesOf case names from.now → IsNext case names from.now.asked.now self.new) }
         ensures none { Tells F.seen files.old result (λ found names. (case : CaseRecord) → found ≡ false
-            → length self.old.work.states.items ≤ 2042 → rows_in_hand case names self.new ≡ []) }
+            → self.old.count ≤ 2042 → rows_in_hand case names self.new ≡ []) }
         ensures places { IfOk result (λ found. found ≡ true
             → HasPlaces from.now.columns.now from.now.asked.now self.new) }
         ensures few { IfOk result (λ found. found ≡ true → self.new.done < 2042) }
@@ -290,7 +267,7 @@ impl RowPage {
         ensures page { IsSamePage self.old self.new }
         ensures asked { Asked F.seen files.old files.new result PageFault.ReadFault }
     {
-        let count = self.work.states.len().min(MAX_ITEMS) as u16;
+        let count = self.count.min(MAX_ITEMS);
         for k in self.done..count {
             if self.find_at(files, from, columns, k + 1)? {
                 return Ok(true);

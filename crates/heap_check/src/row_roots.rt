@@ -1,6 +1,7 @@
 //! The roots of the items of a page.
 ghost use Rattle.std.specs.Prelude.{◌≡◌, ℕ, ◌≤◌, List, length, OnOk};
 ghost use Rattle.liveness.specs.declared.states.ItemState.{ItemState as State};
+ghost use Rattle.hot_chains.specs.Quiet.{HasNoChains};
 ghost use Rattle.heap_check.specs.Rows.{root_item};
 
 use hot_chains::{Chains, has_no_chains, pages_without_chains};
@@ -27,6 +28,13 @@ impl Roots {
             chains: Chains::new(alloc),
             has_chains: false,
         }
+    }
+
+    /// For a page without chains.
+    pub(crate) fn clear(&mut self)
+        ensures { (block : ℕ) (items : List State) → HasNoChains items → AreRoots block items self.new }
+    {
+        self.has_chains = false;
     }
 
     /// Finds the roots of a page, by its block and the states of its items.

@@ -6,13 +6,15 @@ ghost use Rattle.outside.specs.Outside.{Asked, IfTold, Tells};
 ghost use Rattle.key_orders.specs.Types.{fixed_length};
 ghost use Rattle.key_orders.specs.declared.columns.ColType.{ColType as ColumnType};
 ghost use Rattle.case_file.specs.declared.case.Column.{Column as TableColumn};
+ghost use Rattle.varlena_attrs.specs.Forms.{Attribute};
+ghost use Rattle.varlena_attrs.specs.InTurn.{AreRead};
 ghost use Rattle.varlena_attrs.specs.Shown.{IsWithin, shown_at};
 ghost use Rattle.toast_chunks.specs.InHand.{Grows};
 ghost use Rattle.heap_check.specs.declared.row_values.AskedColumns.TheVariants as asked;
 ghost use Rattle.heap_check.specs.Rows.{cell_at, cell_of, external_cell};
-ghost use Rattle.heap_check.specs.RowValues.{AreCellsAsked, FitAsked, FitTypes, FitsPlace, FitsType, IsReadable};
+ghost use Rattle.heap_check.specs.RowValues.{AreCellsAsked, FitAsked, FitsPlace, FitsType, IsReadable};
 ghost use Rattle.heap_check.specs.RowValues.{IsThere};
-ghost use Rattle.heap_check.specs.RowValues.{AsksColumns, IsWholeIn, attributes_seen, body_in, bytes_seen};
+ghost use Rattle.heap_check.specs.RowValues.{AsksColumns, IsWholeIn, body_in, bytes_seen};
 ghost use Rattle.heap_check.specs.RowValues.{cell_shown, count_asked};
 
 use case_file::Column;
@@ -21,7 +23,7 @@ use rel_files::Relation;
 use reports::PageFault;
 use std::alloc::Global;
 use toast_chunks::{ChunkReader, ToastFault, ToastMap, is_compressed, push_value};
-use varlena_attrs::{AttrPlace, ToastPointer, pointer_at};
+use varlena_attrs::{AttrPlace, ToastPointer, TupleColumns, pointer_at};
 
 /// Which columns of a table are asked for: all, or those of these numbers, counted from 0.
 #[derive(Drop)]
@@ -77,13 +79,12 @@ pub(crate) struct ValueSources<'a> {
     pub(crate) asked: &'a AskedColumns,
 }
 
-/// A tuple whose attributes were read: its page, where its body lies there, and where they lie in the body.
+/// A tuple: its page, and where its body lies there.
 #[derive(Clone, Copy)]
 pub(crate) struct RowTuple<'p> {
     pub(crate) page: &'p [u8; 8192],
     pub(crate) start: usize,
     pub(crate) len: usize,
-    pub(crate) attrs: &'p [AttrPlace],
 }
 
 impl<'p> RowTuple<'p> {
@@ -229,29 +230,29 @@ impl RowValues {
         Ok(())
     }
 
-    /// Finds the values of a tuple that are asked for; whether all were found, which all are in a sound
-    /// heap.
+    /// Finds the values of a tuple that are asked for, whose attributes are read one after the other; whether
+    /// all were found, which all are in a sound heap.
     pub(crate) fn find<F: Files>(
         &mut self,
         files: &mut F,
         from: &ValueSources<'_>,
         tuple: &RowTuple<'_>,
+        attrs: &mut TupleColumns<'_>,
     ) -> Result<bool, PageFault>
         requires readable { IfTold F.seen files.old (λ names.
             IsReadable names (option_copied from.now.toast) from.now.chunks.now) }
         requires inside { tuple.now.start + tuple.now.len ≤ 8192 }
-        requires within { All (IsWithin tuple.now.len) tuple.now.attrs.now }
-        requires fit { FitTypes (map (λ c. c.ctype) from.now.columns.now) (attributes_seen tuple.now) }
-        ensures told { Tells F.seen files.old result (λ found names.
-            AsksColumns (length from.now.columns.now) from.now.asked.now
-            → All (IsThere (option_copied from.now.toast) from.now.chunks.now) (attributes_seen tuple.now)
-            → found ≡ true) }
-        ensures cells { Tells F.seen files.old result (λ found names.
-            found ≡ true → All (IsThere (option_copied from.now.toast) from.now.chunks.now) (attributes_seen tuple.now)
+        requires body { attrs.old.body ≡ body_in tuple.now }
+        requires long { length attrs.old.body ≡ tuple.now.len }
+        requires types { attrs.old.columns ≡ map (λ c. c.ctype) from.now.columns.now }
+        ensures told { Tells F.seen files.old result (λ found names. (list : List Attribute) → AreRead attrs.old list
+            → AsksColumns (length from.now.columns.now) from.now.asked.now
+            → All (IsThere (option_copied from.now.toast) from.now.chunks.now) list → found ≡ true) }
+        ensures cells { Tells F.seen files.old result (λ found names. (list : List Attribute) → AreRead attrs.old list
+            → found ≡ true → All (IsThere (option_copied from.now.toast) from.now.chunks.now) list
             → AreCellsAsked tuple.now.page.now self.new.joined.items from.now.columns.now from.now.asked.now
             self.new.places.items (cell_at (bytes_seen names (option_copied from.now.toast) from.now.chunks.now)
-            from.now.columns.now (attributes_seen tuple.now))
-            (count_asked (length from.now.columns.now) from.now.asked.now)) }
+            from.now.columns.now list) (count_asked (length from.now.columns.now) from.now.asked.now)) }
         ensures fits { IfOk result (λ found. found ≡ true → FitAsked (length self.new.joined.items) from.now.columns.now
             from.now.asked.now self.new.places.items (count_asked (length from.now.columns.now) from.now.asked.now)) }
         ensures count { IfOk result (λ found. found ≡ true →
@@ -266,9 +267,12 @@ impl RowValues {
             if columns <= a {
                 return Ok(false);
             }
+            let Some(attr) = attrs.attribute(a) else {
+                return Ok(false);
+            };
             let at = TupleColumn {
                 column: &from.columns[a],
-                attr: tuple.attrs[a],
+                attr,
             };
             match self.place_of(files, from, tuple, at)? {
                 Some(place) => self.keep(place)?,

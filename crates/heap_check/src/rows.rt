@@ -32,7 +32,7 @@ pub struct LiveRow {
 }
 
 /// The live rows of a heap in which nothing was found, by rising TID: a cursor that is asked for all columns,
-/// whose values are copied. It stores one page of the heap: each block is read and judged once. It is used
+/// whose values are copied. It stores one page of the heap: each block is read once. It is used
 /// with the files and the case that the heap was made with.
 #[derive(Drop)]
 pub struct LiveRows<'a> {

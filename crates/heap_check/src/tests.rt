@@ -52,11 +52,12 @@ fn page(off: u16, infomask: u16, natts: u8, body: &[u8]) -> [u8; 8192]
     page
 }
 
-// One row, whose value of 1996 zero bytes stands in the TOAST table as one chunk.
-fn files(alloc: Global) -> Result<MemFiles, Fail> {
+// One row, whose value of 1996 zero bytes stands in the TOAST table as one chunk; the row's header has
+// these bits.
+fn files(alloc: Global, infomask: u16) -> Result<MemFiles, Fail> {
     let mut files = MemFiles::new(alloc);
     let pointer = b"\x01\x12\xd0\x07\0\0\xcc\x07\0\0\x74\x40\0\0\x10\x40\0\0";
-    files.add("t", Part::Segment(0), &page(8144, 0x0906, 1, pointer))?;
+    files.add("t", Part::Segment(0), &page(8144, infomask, 1, pointer))?;
     let mut chunk = [0u8; 2008];
     chunk[0..12].copy_from_slice(b"\x74\x40\0\0\0\0\0\0\x40\x1f\0\0");
     files.add("tt", Part::Segment(0), &page(6160, 0x0902, 3, &chunk))?;
@@ -115,13 +116,24 @@ fn is_one_row<F: Files>(
     }
 }
 
-#[test]
-fn a_value_in_the_toast_table_is_joined(rt: HostRuntime) -> Result<(), Fail> {
-    let alloc = rt.alloc();
-    let mut files = files(alloc)?;
+// Whether the row is found whose header has these bits.
+fn is_found(alloc: Global, infomask: u16) -> Result<bool, Fail> {
+    let mut files = files(alloc, infomask)?;
     let case: Case = read_case(alloc, CASE).ok().ok_or("refused")?;
     let sound = sound_heap(alloc, &mut files, &case)?.ok_or("not sound")?;
     let tid = Tid { block: 0, item: 1 };
-    assert!(rt; is_one_row(alloc, &mut files, &case, &sound, tid, 1996)?);
+    is_one_row(alloc, &mut files, &case, &sound, tid, 1996)
+}
+
+#[test]
+fn a_value_in_the_toast_table_is_joined(rt: HostRuntime) -> Result<(), Fail> {
+    assert!(rt; is_found(rt.alloc(), 0x0906)?);
+    Ok(())
+}
+
+// No hint says that the row's inserter committed: pg_xact does.
+#[test]
+fn a_row_without_hint_bits_is_found(rt: HostRuntime) -> Result<(), Fail> {
+    assert!(rt; is_found(rt.alloc(), 0x0806)?);
     Ok(())
 }

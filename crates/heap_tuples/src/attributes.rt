@@ -1,16 +1,17 @@
 //! The attributes of a heap tuple, whose header is given.
-ghost use Rattle.std.specs.Prelude.{◌≡◌, ◌-◌, ◌≤◌, false, Ok, [], drop, length, OnOk, OnErr, IfOk, IfErr, IfSome, All};
-ghost use Rattle.std.specs.Option.{option_copied};
+ghost use Rattle.std.specs.Prelude.{◌≡◌, ◌-◌, ◌≤◌, false, true, Ok, [], drop, length};
+ghost use Rattle.std.specs.Prelude.{OnOk, OnErr, IfOk, IfErr, IfSome, All};
+ghost use Rattle.std.specs.Option.{is_some, option_copied};
 ghost use Rattle.key_orders.specs.Types.{HasAlignment};
 ghost use Rattle.tuple_head.specs.Head.{has_misplaced_attributes, tuple_head_of};
 ghost use Rattle.varlena_attrs.specs.Inline.{are_inline};
 ghost use Rattle.varlena_attrs.specs.Shown.{FaultIn, IsWithin, shown_in};
-ghost use Rattle.heap_tuples.specs.Tuples.{IsRead, attributes_in, body_of, nulls_of};
+ghost use Rattle.heap_tuples.specs.Tuples.{IsRead, attributes_in, body_of, nulls_of, parts_of};
 
 use key_orders::ColType;
 use outside::NoMemory;
 use tuple_head::{HeapHead, heap_head};
-use varlena_attrs::{AttrBuffer, AttrFault, ColumnLayout};
+use varlena_attrs::{AttrBuffer, AttrFault, ColumnLayout, TupleColumns};
 
 // The null bits, where there are some: from byte 23 up to the header's end.
 #[inline]
@@ -91,6 +92,28 @@ pub fn try_read_tuple<'p>(
         Err(AttrFault::NoMemory) => Err(NoMemory),
         Err(_) => Ok(None),
     }
+}
+
+/// The attributes of a heap tuple of 24 bytes or more, to be read one after the other; `None` where its
+/// header doesn't end within it. It reads none yet, and takes no memory.
+#[inline]
+pub fn tuple_columns<'p>(columns: &'p [ColType], tuple: &'p [u8]) -> Option<TupleColumns<'p>>
+    requires long { 24 ≤ length tuple.now }
+    requires aligned { All HasAlignment columns.now }
+    ensures parts { IfSome result (λ t. t ≡ parts_of columns.now tuple.now) }
+    ensures end { IfSome result (λ t. t.body ≡ drop (length tuple.now - length t.body) tuple.now) }
+    ensures part { IfSome result (λ t. length t.body ≤ length tuple.now) }
+    ensures some { has_misplaced_attributes (length tuple.now) (tuple_head_of tuple.now) ≡ false
+        → is_some result ≡ true }
+{
+    let head = heap_head(tuple);
+    let hoff = head.hoff as usize;
+    if tuple.len() < hoff || hoff < 23 {
+        return None;
+    }
+    let body = body_of(tuple, head);
+    let nulls = nulls_of(tuple, head);
+    Some(TupleColumns::new(columns, body, nulls, head.natts()))
 }
 
 /// Whether the attributes of a heap tuple, whose header is given and ends within the tuple, can be

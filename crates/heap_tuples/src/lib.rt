@@ -10,5 +10,5 @@ mod places;
 #[cfg(test)]
 mod tests;
 
-pub use attributes::{are_inline, read_tuple, try_read_tuple};
+pub use attributes::{are_inline, read_tuple, try_read_tuple, tuple_columns};
 pub use places::tuple_at;

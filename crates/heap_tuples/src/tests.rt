@@ -72,6 +72,25 @@ fn tuples_with_and_without_nulls(rt: HostRuntime) -> Result<(), Fail> {
     Ok(())
 }
 
+#[test]
+fn attributes_one_after_the_other(rt: HostRuntime) -> Result<(), Fail> {
+    let tuple = tuple_of(rt.alloc(), 3, Some(0b101), b"abcdabcd")?;
+    if tuple.len() < 24 {
+        return Err(Fail::from("no header"));
+    }
+    match tuple_columns(&COLUMNS, &tuple) {
+        Some(mut attrs) => {
+            assert_eq!(rt; attrs.attribute(1), Some(AttrPlace::Null));
+            assert_eq!(rt;
+                attrs.attribute(2),
+                Some(AttrPlace::Plain { start: 4, len: 4 })
+            );
+        }
+        None => assert!(rt; false),
+    }
+    Ok(())
+}
+
 // A page with an item of 32 bytes at its end, whose line pointer is this.
 fn page_with(pointer: u32) -> [u8; 8192] {
     let mut page = [0u8; 8192];

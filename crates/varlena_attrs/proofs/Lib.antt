@@ -7,3 +7,4 @@ pub mod First
 pub mod Ends
 pub mod Keying
 pub mod KeyAttributes
+pub mod InTurn

@@ -8,3 +8,4 @@ pub mod Laws
 pub mod Keyed
 pub mod KeyedShown
 pub mod KeyLaws
+pub mod InTurn

@@ -9,6 +9,7 @@
 mod buffer;
 mod fault;
 mod forms;
+mod in_turn;
 mod inline;
 mod keyed;
 mod places;
@@ -19,6 +20,7 @@ mod tests;
 
 pub use buffer::AttrBuffer;
 pub use fault::AttrFault;
+pub use in_turn::TupleColumns;
 pub use inline::ColumnLayout;
 pub use key_orders::value_of;
 pub use keyed::{

@@ -3,4 +3,4 @@ use Rattle.heap_check.proofs.RowSteps.{first_rows}
 use Rattle.heap_check.proofs.row_cursor.RowCursor.asking.Goals as goal
 
 pub returns-clause-all : goal.returns-clause-all
-returns-clause-all c = λ names. first_rows names _ c.in_ok-page.ensures.states refl
+returns-clause-all c = λ names. first_rows names _ c.new-page.ensures.count refl

@@ -1,5 +1,4 @@
-use Rattle.std.proofs.Common.{◌≤◌, List, length, refl, sym, subst}
-use Rattle.liveness.specs.declared.states.ItemState.{ItemState}
+use Rattle.std.proofs.Common.{ℕ, ◌≤◌, refl, sym, subst}
 use Rattle.heap_files.specs.Files.{chunks_in, toast_in}
 use Rattle.heap_check.specs.declared.row_values.ValueSources.{ValueSources}
 use Rattle.heap_check.specs.RowCursor.{heap_at}
@@ -30,6 +29,6 @@ returns-clause-told g c = λ names told.
     let here = c.requires.told names told in
     let from : ValueSources = record { columns = c.columns.result; toast = c.toast.result; chunks = c.chunks.result; asked = _ } in
     moved names c.args.self.now c.find.new.self c.args.self.now.next here
-    (subst (λ (s : List ItemState). length s ≤ 2042) (sym c.find.ensures.page.states) here.few)
+    (subst (λ (n : ℕ). n ≤ 2042) (sym c.find.ensures.page.count) here.few)
     (known_same c.args.self.now.case.now names (toast_in (heap_at c.args.self.now)) (chunks_in (heap_at c.args.self.now)) c.args.self.now.page c.find.new.self c.find.ensures.page here.hand)
     (next_by g.F.Files.seen c.args.files.now c.args.self.now c.find.new.self c.requires.told c.find.result from c.toast.ensures c.chunks.ensures c.columns.ensures refl c.find.ensures.found c.find.ensures.err c.find.ensures.next names told)

@@ -1,0 +1,226 @@
+//! The items of a page of a heap in which nothing is found: where they lie, and their states.
+ghost use Rattle.std.specs.Prelude.{◌≡◌, ◌∷◌, ◌++◌, ◌≤◌, [], Some, false, true, length, IfSome, OnOk};
+ghost use Rattle.std.specs.Option.{option_copied};
+ghost use Rattle.outside.specs.Outside.{Asked, IfTold, Tells};
+ghost use Rattle.page_layout.specs.Items.{is_misplaced_heap_item, is_normal};
+ghost use Rattle.page_layout.specs.Page.{HasItems, count_of, item_of, piece_of, upper_of};
+ghost use Rattle.page_layout.specs.View.{page_bytes};
+ghost use Rattle.tuple_head.specs.Head.{tuple_head_of};
+ghost use Rattle.liveness.specs.Life.{judged_of};
+ghost use Rattle.liveness.specs.LogFiles.{log_files_of, logs_of};
+ghost use Rattle.liveness.specs.declared.states.ItemState.TheVariants.{Tuple};
+ghost use Rattle.heap_pages.specs.States.{AreStatesOf, IsStateOf};
+ghost use Rattle.heap_pages.specs.Table.{Table, logs_in};
+ghost use Rattle.heap_check.specs.RowStates.{AreInPlace, ArePlain, is_plain, is_plain_head};
+
+use liveness::{ItemState, Memory, Remembering, Status3, Transactions, life_in};
+use outside::{Files, NoMemory};
+use page_layout::{LineFlag, LinePtr, PageView};
+use reports::PageFault;
+use std::alloc::Global;
+use tuple_head::{HeapHead, heap_head};
+
+// Where the upper place of a page stands in its header, in bytes from the page's start.
+const UPPER: usize = 14;
+
+/// The line pointer of an item, counted from 1, of whatever page: it asks nothing of the page's header.
+#[tactic(auto, unfolding(page_layout::specs::Page::item_of))]
+pub(crate) fn line_pointer(page: &[u8; 8192], item: u16) -> LinePtr
+    requires first { 1 ≤ item }
+    requires last { item ≤ 2042 }
+    ensures { result ≡ item_of page.now item }
+{
+    let number = PageView::new(page).u32_at(24 + 4 * (item as usize - 1));
+    let flag = match number / 32768 % 4 {
+        0 => LineFlag::Unused,
+        1 => LineFlag::Normal,
+        2 => LineFlag::Redirect,
+        _ => LineFlag::Dead,
+    };
+    LinePtr {
+        flag,
+        off: (number % 32768) as u16,
+        len: (number / 131072) as u16,
+    }
+}
+
+/// The bytes that a line pointer of a page points to, where they can be those of a tuple: it is normal, and
+/// points to where items may lie. They are 24 bytes or more.
+pub(crate) fn tuple_in<'p>(page: PageView<'p>, pointer: LinePtr) -> Option<&'p [u8]>
+    ensures tuple { is_normal pointer.flag ≡ true
+        → is_misplaced_heap_item (upper_of (page_bytes page.entry)) pointer ≡ false
+        → option_copied result ≡ Some (piece_of (page_bytes page.entry) pointer.off pointer.len) }
+    ensures bytes { IfSome result (λ tuple. tuple.now ≡ piece_of (page_bytes page.entry) pointer.off pointer.len) }
+    ensures long { IfSome result (λ tuple. 24 ≤ length tuple.now) }
+    ensures len { IfSome result (λ tuple. length tuple.now ≡ pointer.len) }
+{
+    if !pointer.flag.is_normal() || pointer.is_misplaced_heap_item(page.u16_at(UPPER)) {
+        return None;
+    }
+    Some(page.piece(pointer.off, pointer.len))
+}
+
+// Whether hint bits alone say that a tuple is live, and it is its own root: its inserter committed, what stands
+// in its xmax doesn't count or only locks, and index entries name it.
+fn is_plain_head(head: HeapHead) -> bool
+    ensures { result ≡ is_plain_head head }
+{
+    head.xmin_seen() != 0
+        && head.is_xmin_committed()
+        && (head.is_xmax_invalid() || head.locked_only())
+        && !head.heap_only()
+}
+
+// Whether the tuple that a line pointer points to is such a one.
+fn is_plain_tuple(page: PageView<'_>, pointer: LinePtr) -> bool
+    ensures { result ≡ true
+        → is_plain_head (tuple_head_of (piece_of (page_bytes page.entry) pointer.off pointer.len)) ≡ true }
+{
+    match tuple_in(page, pointer) {
+        Some(tuple) => is_plain_head(heap_head(tuple)),
+        None => false,
+    }
+}
+
+// Whether an item needs no look at the logs or at other items: it is no redirect, and if it is a tuple, it is
+// a live one that is its own root.
+#[tactic(auto, unfolding(crate::specs::RowStates::is_plain))]
+fn is_plain(page: PageView<'_>, item: u16) -> bool
+    requires page { HasItems (page_bytes page) }
+    requires first { 1 ≤ item }
+    requires last { item ≤ count_of (page_bytes page) }
+    ensures { result ≡ true → is_plain (page_bytes page.entry) item ≡ true }
+{
+    let pointer = page.item(item);
+    match pointer.flag {
+        LineFlag::Normal => is_plain_tuple(page, pointer),
+        LineFlag::Unused => true,
+        LineFlag::Dead => true,
+        LineFlag::Redirect => false,
+    }
+}
+
+/// Whether all items of a page are plain, as on most pages: each tuple is then live by its hint bits, and its
+/// own root, and no other item is a redirect. It reads no log.
+pub(crate) fn are_plain(page: PageView<'_>) -> bool
+    requires { HasItems (page_bytes page) }
+    ensures { result ≡ true → ArePlain (page_bytes page.entry) }
+{
+    for k in 0..page.item_count() {
+        if !is_plain(page, k + 1) {
+            return false;
+        }
+    }
+    true
+}
+
+// The state of a tuple, by its header and the logs.
+fn tuple_state<F: Transactions>(
+    files: &mut F,
+    logs: &Status3<'_>,
+    tuple: &[u8],
+) -> Result<ItemState, PageFault>
+    requires { 24 ≤ length tuple.now }
+    ensures told { Tells F.seen files.old result (λ state names. state ≡ Tuple (tuple_head_of tuple.now)
+        (judged_of (logs_of names (log_files_of logs.now)) (tuple_head_of tuple.now))) }
+    ensures asked { Asked F.seen files.old files.new result PageFault.ReadFault }
+{
+    let head = heap_head(tuple);
+    let judged = life_in(files, logs, &head)?;
+    Ok(ItemState::Tuple { head, judged })
+}
+
+// The state of a normal item; that of an unused one where no tuple can lie where it does.
+fn normal_state<F: Transactions>(
+    files: &mut F,
+    logs: &Status3<'_>,
+    page: PageView<'_>,
+    pointer: LinePtr,
+) -> Result<ItemState, PageFault>
+    ensures told { Tells F.seen files.old result (λ state names. is_normal pointer.flag ≡ true
+        → is_misplaced_heap_item (upper_of (page_bytes page.entry)) pointer ≡ false
+        → state ≡ Tuple (tuple_head_of (piece_of (page_bytes page.entry) pointer.off pointer.len))
+        (judged_of (logs_of names (log_files_of logs.now))
+        (tuple_head_of (piece_of (page_bytes page.entry) pointer.off pointer.len)))) }
+    ensures asked { Asked F.seen files.old files.new result PageFault.ReadFault }
+{
+    match tuple_in(page, pointer) {
+        Some(tuple) => tuple_state(files, logs, tuple),
+        None => Ok(ItemState::Unused),
+    }
+}
+
+// The state of an item.
+fn state_of<F: Transactions>(
+    files: &mut F,
+    logs: &Status3<'_>,
+    page: PageView<'_>,
+    item: u16,
+) -> Result<ItemState, PageFault>
+    requires page { HasItems (page_bytes page) }
+    requires first { 1 ≤ item }
+    requires last { item ≤ count_of (page_bytes page) }
+    ensures told { Tells F.seen files.old result (λ state names. (table : Table)
+        → logs_in table ≡ logs_of names (log_files_of logs.now) → AreInPlace (page_bytes page.entry)
+        → IsStateOf table (page_bytes page.entry) item state) }
+    ensures asked { Asked F.seen files.old files.new result PageFault.ReadFault }
+{
+    let pointer = page.item(item);
+    match pointer.flag {
+        LineFlag::Normal => normal_state(files, logs, page, pointer),
+        LineFlag::Unused => Ok(ItemState::Unused),
+        LineFlag::Redirect => Ok(ItemState::Redirect(pointer.off)),
+        LineFlag::Dead => Ok(ItemState::Dead),
+    }
+}
+
+// Adds a state.
+fn push_state(states: &mut Vec<ItemState>, state: ItemState) -> Result<(), NoMemory>
+    ensures { OnOk result (states.new.items ≡ states.old.items ++ state ∷ []) }
+{
+    states.push(state)?;
+    Ok(())
+}
+
+// Puts the states of the items of a page in place of others.
+fn fill_states<F: Transactions>(
+    files: &mut F,
+    logs: &Status3<'_>,
+    page: PageView<'_>,
+    states: &mut Vec<ItemState>,
+) -> Result<(), PageFault>
+    requires page { HasItems (page_bytes page) }
+    ensures told { OnOk result (IfTold F.seen files.old (λ names. (table : Table)
+        → logs_in table ≡ logs_of names (log_files_of logs.now) → AreInPlace (page_bytes page.entry)
+        → AreStatesOf table (page_bytes page.entry) states.new.items)) }
+    ensures count { OnOk result (length states.new.items ≡ count_of (page_bytes page.entry)) }
+    ensures asked { Asked F.seen files.old files.new result PageFault.ReadFault }
+{
+    states.clear();
+    for k in 0..page.item_count() {
+        let state = state_of(files, logs, page, k + 1)?;
+        push_state(states, state)?;
+    }
+    Ok(())
+}
+
+/// Finds the states of the items of a page, by their line pointers, headers and the logs, in place of others.
+/// It judges nothing else: they are those of the page's items where each tuple lies where it may.
+pub(crate) fn find_states<F: Files>(
+    alloc: Global,
+    files: &mut F,
+    logs: &Status3<'_>,
+    page: PageView<'_>,
+    states: &mut Vec<ItemState>,
+) -> Result<(), PageFault>
+    requires page { HasItems (page_bytes page) }
+    ensures told { OnOk result (IfTold F.seen files.old (λ names. (table : Table)
+        → logs_in table ≡ logs_of names (log_files_of logs.now) → AreInPlace (page_bytes page.entry)
+        → AreStatesOf table (page_bytes page.entry) states.new.items)) }
+    ensures count { OnOk result (length states.new.items ≡ count_of (page_bytes page.entry)) }
+    ensures asked { Asked F.seen files.old files.new result PageFault.ReadFault }
+{
+    let mut memory = Memory::new(alloc, logs)?;
+    let mut files = Remembering::new(files, &mut memory);
+    fill_states(&mut files, logs, page, states)
+}
