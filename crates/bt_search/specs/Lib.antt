@@ -6,3 +6,4 @@ pub mod Steps
 pub mod Cached
 pub mod Lending
 pub mod Lookups
+pub mod InHand

@@ -1,4 +1,4 @@
-//! Looks one entry up, through a cache of pages: on its way from the fast root, or near another entry.
+//! Looks one entry up, through a cache of pages, on its way from the fast root.
 ghost use Rattle.std.specs.Prelude.{◌≡◌, ◌≢◌, ◌<◌, ◌≤◌, ◌+◌, ◌-◌, ◌^◌, ◌↔◌, List, None, Some, true, option_map};
 ghost use Rattle.outside.specs.Outside.{AskedAtMost, IfTold, Names as Held, Tells};
 ghost use Rattle.rel_files.specs.Faults.{read_fault};

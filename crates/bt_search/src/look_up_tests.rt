@@ -1,11 +1,12 @@
-//! Entries that are looked up in an index of six leaves: on the way from the root, near another entry, through
+//! Entries that are looked up in an index of six leaves: on the way from the root, onward on a leaf in hand, through
 //! caches of one page and of all, and over a read that fails. Places and visits are worked out by hand.
 use crate::tests::{ENTRY, LEAF, LISTED, ONE, SIX, tree_of};
 use crate::trees::{IndexTuple, TreePage, Untold, index_file};
-use crate::{PageCache, Spot, Visits, find, find_near};
+use crate::{LeafInHand, PageCache, Spot, Visits, find};
 use bt_levels::SoundTree;
 use bt_steps::Sought;
 use key_orders::{KeyRefs, Tid, ValueRef, fits_columns};
+use outside::NoMemory;
 use std::alloc::Global;
 use std::test::Fail;
 
@@ -36,11 +37,24 @@ fn looked_up(
     Some((found.map(|at| at.block), visits.count))
 }
 
-// The same near a spot; nothing after a fault.
+// Through what entries are looked up: a cache and a leaf in hand.
+#[derive(Drop)]
+struct Through {
+    cache: PageCache,
+    hand: LeafInHand,
+}
+
+fn new_through(alloc: Global) -> Result<Through, NoMemory> {
+    let cache = PageCache::new(alloc, 4)?;
+    let hand = LeafInHand::new(alloc)?;
+    Ok(Through { cache, hand })
+}
+
+// Looks for an entry with the leaf of a spot in hand, from the spot's item on.
 fn near(
     tree: &SoundTree,
     files: &mut Untold<'_>,
-    cache: &mut PageCache,
+    mut through: Through,
     entry: (i64, u16),
     at: Spot,
 ) -> Option<Spot> {
@@ -52,7 +66,11 @@ fn near(
     if !fits_columns(tree.specs(), &key) || key.as_slice().len() != tree.specs().len() {
         return None;
     }
-    find_near(tree, files, Sought { key: &key, tid }, cache, at).ok()?
+    if at.block < tree.blocks() {
+        through.cache.page(tree, files, at.block).ok()?;
+    }
+    through.hand.take(&through.cache, at);
+    through.hand.find(tree, Sought { key: &key, tid })
 }
 
 #[test]
@@ -94,7 +112,6 @@ fn finds_entries_near_others(rt: HostRuntime) -> Result<(), Fail> {
     let bytes = index_file(alloc, 4, 1, &SIX)?;
     let mut files = Untold::new(bytes.as_slice());
     let tree = tree_of(alloc, ONE, &mut files)?;
-    let mut cache = PageCache::new(alloc, 4)?;
     let rows = [
         // at the spot's item
         (20, at(2, 2), Some(at(2, 2))),
@@ -108,7 +125,7 @@ fn finds_entries_near_others(rt: HostRuntime) -> Result<(), Fail> {
         (20, at(8, 1), None),
     ];
     for (value, spot, want) in rows {
-        let found = near(&tree, &mut files, &mut cache, (value, 2), spot);
+        let found = near(&tree, &mut files, new_through(alloc)?, (value, 2), spot);
         assert_eq!(rt; found, want);
     }
     Ok(())
@@ -138,11 +155,10 @@ fn finds_entries_onward(rt: HostRuntime) -> Result<(), Fail> {
     let bytes = index_file(alloc, 1, 0, &[leaf])?;
     let mut files = Untold::new(bytes.as_slice());
     let tree = tree_of(alloc, ONE, &mut files)?;
-    let mut cache = PageCache::new(alloc, 1)?;
     for from in 1..13u16 {
         for to in 1..13u16 {
             let entry = (i64::from(to), to);
-            let found = near(&tree, &mut files, &mut cache, entry, at(1, from));
+            let found = near(&tree, &mut files, new_through(alloc)?, entry, at(1, from));
             assert_eq!(rt; found, if from <= to { Some(at(1, to)) } else { None });
         }
     }
@@ -156,7 +172,6 @@ fn finds_entries_of_a_list_onward(rt: HostRuntime) -> Result<(), Fail> {
     let bytes = index_file(alloc, 1, 0, &LISTED)?;
     let mut files = Untold::new(bytes.as_slice());
     let tree = tree_of(alloc, ONE, &mut files)?;
-    let mut cache = PageCache::new(alloc, 1)?;
     let second = Spot { nth: 1, ..at(1, 2) };
     let rows = [
         ((5, 1), at(1, 1), None),
@@ -167,7 +182,8 @@ fn finds_entries_of_a_list_onward(rt: HostRuntime) -> Result<(), Fail> {
         ((9, 4), at(1, 2), Some(at(1, 3))),
     ];
     for (entry, spot, want) in rows {
-        assert_eq!(rt; near(&tree, &mut files, &mut cache, entry, spot), want);
+        let found = near(&tree, &mut files, new_through(alloc)?, entry, spot);
+        assert_eq!(rt; found, want);
     }
     Ok(())
 }

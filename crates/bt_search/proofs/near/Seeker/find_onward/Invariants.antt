@@ -2,7 +2,7 @@ use Rattle.std.proofs.Common.{◌+◌, ◌-◌, ◌<◌, ◌≤◌}
 use Rattle.page_layout.specs.Page.{count_of}
 use Rattle.page_layout.specs.View.{page_bytes}
 use Rattle.tree_image.specs.Image.{first_data}
-use Rattle.bt_search.proofs.near.find_onward.Given as goal
+use Rattle.bt_search.proofs.near.Seeker.find_onward.Given as goal
 
 -- both are data items of the leaf, but for the higher one at its end
 abbrev pub invariant-loop-high : goal.invariant-loop-high

@@ -1,0 +1,116 @@
+//! A leaf in hand, for look-ups that go on along it.
+ghost use Rattle.std.specs.Prelude.{◌≡◌, ◌<◌, IfOk, IfSome};
+ghost use Rattle.std.specs.Bool.{OnTrue};
+ghost use Rattle.outside.specs.Outside.{Names as Held};
+ghost use Rattle.page_layout.specs.View.{page_bytes};
+ghost use Rattle.key_orders.specs.Keys.{IsKey};
+ghost use Rattle.bt_levels.specs.declared.sound.SoundTree.{SoundTree as Sound};
+ghost use Rattle.bt_levels.specs.Sound.{block_count, specs_of};
+ghost use Rattle.bt_search.specs.Cached.{IsCacheOf};
+ghost use Rattle.bt_search.specs.InHand.{IsHandOf, IsLeafWith};
+ghost use Rattle.bt_search.specs.Lookups.{IsAtSpot};
+
+use crate::cache::PageCache;
+use crate::near::Seeker;
+use crate::spot::Spot;
+use bt_levels::SoundTree;
+use bt_steps::{Sought, is_live_leaf};
+use outside::NoMemory;
+use page_layout::{PageKind, PageView};
+use std::alloc::Global;
+use std::marker::Model;
+use tree_image::first_data;
+
+/// A leaf of an index, copied into memory of its own, and the item of it from which look-ups go on. The next key in
+/// order mostly stands there, and is then found without a look at any other page.
+///
+/// A clause sees its block, 0 where no leaf is in hand, its item and its bytes.
+#[derive(Drop)]
+pub struct LeafInHand {
+    block: u32,
+    item: u16,
+    bytes: Box<[u8; 8192]>,
+}
+
+impl Model for LeafInHand {
+    ghost use Rattle.bt_search.specs.InHand.{InHand, IsLeaf, in_hand};
+
+    ghost Value = { InHand };
+
+    ghost view = { λ h. in_hand h.block h.item h.bytes.value };
+
+    ghost invariant = { λ h. IsLeaf (in_hand h.block h.item h.bytes.value) };
+}
+
+// Whether a page is a leaf on which look-ups may go on from an item.
+fn is_leaf_with(page: PageView<'_>, item: u16) -> bool
+    ensures { OnTrue result (IsLeafWith (page_bytes page.entry) item) }
+{
+    page.page_rule(PageKind::Tree).is_none()
+        && is_live_leaf(page)
+        && first_data(page) <= item
+        && item <= page.item_count()
+}
+
+impl LeafInHand {
+    /// No leaf is in hand yet.
+    pub fn new(alloc: Global) -> Result<LeafInHand, NoMemory>
+        ensures { IfOk result (λ hand. hand.block ≡ 0) }
+    {
+        let bytes = Box::new(alloc, [0; 8192])?;
+        Ok(LeafInHand {
+            block: 0,
+            item: 0,
+            bytes,
+        })
+    }
+
+    /// The block of the leaf, 0 where none is in hand.
+    #[inline]
+    pub fn block(&self) -> u32
+        ensures { result ≡ self.now.block }
+    {
+        self.block
+    }
+
+    /// Looks for an entry on the leaf, from the item on from which look-ups go on: at the next one, where the next key
+    /// stands, by steps that double, and then by halves. Look-ups go on from its item then. `None` says nothing: the
+    /// entry may stand elsewhere.
+    pub fn find(&mut self, tree: &SoundTree, sought: Sought<'_>) -> Option<Spot>
+        requires key { IsKey (specs_of tree.now) sought.key.now }
+        ensures found { IfSome result (λ at. (names : Held) → IsHandOf names tree.now self.old
+            → IsAtSpot names tree.now sought.entry.key.now sought.entry.tid at) }
+        ensures block { self.new.block ≡ self.old.block }
+        ensures bytes { self.new.bytes ≡ self.old.bytes }
+    {
+        if self.block == 0 {
+            return None;
+        }
+        tree.keyed();
+        let seeker = Seeker::new(tree.specs(), sought);
+        let place = seeker.find_onward(PageView::new(&self.bytes), self.item)?;
+        self.item = place.item;
+        Some(Spot {
+            block: self.block,
+            item: place.item,
+            nth: place.nth,
+        })
+    }
+
+    /// Takes the leaf of an entry in hand, where the page that was used last in a cache is that leaf: look-ups go on
+    /// from the entry's item. Else all is as it was.
+    pub fn take(&mut self, cache: &PageCache, at: Spot)
+        ensures of { (names : Held) (tree : Sound) → IsCacheOf names tree cache.now → at.block < block_count tree
+            → IsHandOf names tree self.old → IsHandOf names tree self.new }
+    {
+        let Some((block, page)) = cache.last() else {
+            return;
+        };
+        if block != at.block || !is_leaf_with(PageView::new(page), at.item) {
+            return;
+        }
+        *self.bytes = *page;
+        self.block = block;
+        self.item = at.item;
+    }
+}
