@@ -108,6 +108,28 @@ impl Named<'_> {
         if let Some(tid) = only_tid(page, at.item) {
             return self.judge_tid(at, tid, report);
         }
+        self.judge_any_item(page, at, report)
+    }
+
+    // Judges a data item of any form. It stays a call: in line, the places of a key's values would be set to zero for
+    // each item, and nearly all items are one entry.
+    #[inline(never)]
+    fn judge_any_item(
+        self,
+        page: PageView<'_>,
+        at: ItemAt,
+        report: &mut Report,
+    ) -> Result<(), NoMemory>
+        requires page { page_rule_of PageKind.Tree (page_bytes page) ≡ None }
+        requires first { 1 ≤ at.item }
+        requires from { first_data (page_bytes page) ≤ at.item }
+        requires last { at.item ≤ count_of (page_bytes page) }
+        requires few { length self.specs.now ≤ 8 }
+        requires aligned { All HasAlignment (key_types self.specs.now) }
+        ensures { IsRead self.entry.specs.now (page_bytes page.entry) at.item
+            → AddsIn report_lists result report.old report.new (item_lists self.entry.number self.entry.specs.now
+            (is_in self.entry.targets.now) at.block (page_bytes page.entry) at.item) }
+    {
         match tree_item(page, at.item, self.specs, &[], Spot3::LeafItem) {
             Ok(TreeItem::Plain { tid, .. }) => self.judge_tid(at, tid, report),
             Ok(TreeItem::Posting { tids, .. }) => self.judge_list(at, &tids, report),
