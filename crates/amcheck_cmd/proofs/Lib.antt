@@ -9,4 +9,5 @@ pub mod NumberLaws
 pub mod NumberedLaws
 pub mod PagesLaws
 pub mod TreesLaws
+pub mod TogetherLaws
 pub mod Worth

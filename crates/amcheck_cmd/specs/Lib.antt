@@ -15,3 +15,4 @@ pub mod Seen
 pub mod Show
 pub mod Tables
 pub mod Words
+pub mod Together

@@ -14,8 +14,9 @@ ghost use Rattle.amcheck_cmd.specs.Tables.{AreFirstTrees, IsHeapIn, IsHeapOf, ca
 use crate::case::{CaseOpening, open_case, refuse_files};
 use crate::fault::RunFault;
 use crate::heap::judge_heap;
-use crate::indexes::{JudgedTable, judge_index};
+use crate::indexes::JudgedTable;
 use crate::output::{Output, report_output};
+use crate::together::judge_indexes;
 use bt_levels::TreeFile;
 use case_file::Case;
 use heap_files::HeapFiles;
@@ -57,29 +58,6 @@ fn attach_trees<F: Files>(
         push_tree(&mut trees, tree)?;
     }
     Ok(trees)
-}
-
-// Judges the files of indexes, one after the other, and adds what is found to the report.
-fn judge_indexes<F: Files>(
-    alloc: Global,
-    files: &mut F,
-    table: JudgedTable<'_>,
-    trees: VecDeque<TreeFile>,
-    report: &mut Report,
-) -> Result<(), RunFault>
-    requires told { IfTold F.seen files.old (λ names. All (IsFileOf (case_seen table) names) trees.items) }
-    requires belongs { All (BelongsTo (case_seen table)) trees.items }
-    requires heap { IfTold F.seen files.old (λ names. IsHeapOf (case_seen table) names (heap_seen table)) }
-    requires belong { IsHeapIn (case_seen table) (heap_seen table) }
-    ensures found { OnOk result (IfTold F.seen files.old (λ names.
-        report.new ≡ joined report.old (trees_found (case_seen table.entry) names trees.items))) }
-    ensures asked { Asked F.seen files.old files.new result RunFault.ReadFault }
-{
-    let mut trees = trees;
-    while let Some(tree) = trees.pop_front() {
-        judge_index(alloc, files, table, tree, report)?;
-    }
-    Ok(())
 }
 
 // The report on a case's table and on each of its indexes.

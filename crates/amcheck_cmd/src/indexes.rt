@@ -59,8 +59,8 @@ fn join<F: Files>(
     }
 }
 
-// Judges the file of an index by itself. The tree comes back exactly where nothing is found.
-fn judge_alone<F: Files>(
+/// Judges the file of an index by itself. The tree comes back exactly where nothing is found.
+pub fn judge_alone<F: Files>(
     alloc: Global,
     files: &mut F,
     case: &Case,

@@ -32,6 +32,7 @@ mod status;
 #[cfg(test)]
 mod tests;
 mod text;
+mod together;
 #[cfg(test)]
 mod trees;
 mod words;

@@ -1,5 +1,5 @@
 -- What look-ups say of the entries of an index.
-use Rattle.std.proofs.Common.{◌≡◌, ◌↔◌, inl, inr, true, List, sym}
+use Rattle.std.proofs.Common.{◌≡◌, ◌↔◌, ◌<◌, inl, inr, true, List, sym}
 use Rattle.std.specs.Prelude.{IfSome, Option, Some, None, is_some}
 use Rattle.std.specs.Cmp.{IsTotalOrder}
 use Rattle.std.specs.declared.cmp.Ordering.TheVariants.{Equal}
@@ -11,7 +11,8 @@ use Rattle.key_orders.specs.declared.Tid.{Tid}
 use Rattle.key_orders.specs.Keys.{columns_of, tid_order}
 use Rattle.bt_steps.specs.Sought.{HasAlive}
 use Rattle.bt_levels.specs.declared.sound.SoundTree.{SoundTree}
-use Rattle.bt_levels.specs.Sound.{image_of, specs_of}
+use Rattle.bt_levels.specs.Sound.{block_count, image_of, specs_of}
+use Rattle.bt_search.specs.InHand.{InHand, IsHandOf}
 use Rattle.bt_search.specs.Lookups.{IsAtSpot, IsLookedUp}
 use Rattle.bt_search.specs.declared.spot.Spot.{Spot}
 use Rattle.indexed_rules.proofs.Alive.{counts, is-there}
@@ -22,10 +23,10 @@ module _ (tree : SoundTree) (total : IsTotalOrder (compare_keys (columns_of (spe
   pub stands : (at : Spot) → IsAtSpot names tree key tid at → has_entry names tree key tid ≡ true
   stands at is = counts (specs_of tree) total same key tid (image_of names tree) (alive at is)
 
-  -- and so where a look-up near another entry finds it
-  pub near-is : (found : Option Spot) → IfSome found (IsAtSpot names tree key tid) → is_some found ≡ true → has_entry names tree key tid ≡ true
-  near-is (Some at) is some = stands at is
-  near-is None is some = absurd cc
+  -- and so where a look-up on the leaf in hand finds it
+  pub in-hand-is : (hand : InHand) → IsHandOf names tree hand → (found : Option Spot) → IfSome found (λ (at : Spot). (names : Names) → IsHandOf names tree hand → IsAtSpot names tree key tid at) → is_some found ≡ true → has_entry names tree key tid ≡ true
+  in-hand-is hand of (Some at) is some = stands at (is names of)
+  in-hand-is hand of None is some = absurd cc
 
   -- a look-up from the fast root says whether there is one
   pub looked-up : (found : Option Spot) → IsLookedUp names tree key tid found → is_some found ≡ has_entry names tree key tid
@@ -36,3 +37,8 @@ module _ (tree : SoundTree) (total : IsTotalOrder (compare_keys (columns_of (spe
         absurd (both_ways there.entry.killed there.alive (is there.entry there.among there.sought))
     | inr none ↦ sym none
   ]
+
+-- a spot that was found is on a block of the index
+pub spot-inside : (names : Names) (tree : SoundTree) (key : List Value) (tid : Tid) (found : Option Spot) → IsLookedUp names tree key tid found → IfSome found (λ (at : Spot). at.block < block_count tree)
+spot-inside names tree key tid (Some at) is = is.inside
+spot-inside names tree key tid None is = record {}

@@ -1,9 +1,11 @@
 -- The key of a row, value by value.
 use Rattle.std.proofs.Common.{◌≡◌, ◌∙◌, ℕ, ◌+◌, ◌-◌, ◌<◌, ◌≤◌, true, false, List, [], ◌∷◌, ◌++◌, length, drop, get_or, refl, sym, ap, subst, arith, add-one, append-nil, append_assoc, drop-cons}
-use Rattle.std.specs.Prelude.{All, Option, Some, None, option_map, slice_get, unwrap_or}
+use Rattle.std.specs.Prelude.{All, Option, Some, None, min, option_map, slice_get, take, unwrap_or}
 use Rattle.std.specs.List.{AllByRecursion}
 use Rattle.std.proofs.lemmas.Bool.{and_from}
-use Rattle.std.proofs.lemmas.List.{get_or_default, length-map}
+use Rattle.std.proofs.Math.Nat.{min-le_right}
+use Rattle.std.proofs.Math.Seq.{take-length}
+use Rattle.std.proofs.lemmas.List.{get_or-drop, get_or-take, get_or_default, length-drop, length-map, length-take}
 use Rattle.std.proofs.lemmas.List.Elements.{All-from_recursion, All-map}
 use Rattle.std.proofs.lemmas.Option.{slice_get-get_or, slice_get_within}
 use Rattle.std.proofs.Math.ListN.{get_or-map}
@@ -24,7 +26,7 @@ use Rattle.heap_check.specs.RowCursor.{AreAsked}
 use Rattle.heap_check.specs.RowFits.{FitsColumn}
 use Rattle.heap_check.specs.RowValues.{column_asked, count_asked}
 use Rattle.indexed_rules.specs.Rows.{key_in, with_value}
-use Rattle.heap_indexed.specs.Waiting.{columns_in}
+use Rattle.heap_indexed.specs.Waiting.{AreAskedFrom, columns_in}
 
 -- what stands past a list's end
 pub any-spec : KeySpec
@@ -32,15 +34,30 @@ any-spec = record { column = 0; ctype = BoolType; desc = false; nulls_first = fa
 
 -- The columns that are asked for
 
-pub asked-count : (n : ℕ) (specs : List KeySpec) (asked : AskedColumns) → AreAsked (columns_in specs) asked → count_asked n asked ≡ length specs
-asked-count n specs Every are = absurd are
-asked-count n specs (Only numbers) are = ap length are ∙ length-map specs (λ k. k.column)
+-- all that are asked for
+pub asked-all : (columns : List ℕ) (asked : AskedColumns) → AreAsked columns asked → AreAskedFrom 0 columns asked
+asked-all columns Every are = are
+asked-all columns (Only numbers) are = ap (λ (ns : List ℕ). take (length columns) ns) are ∙ take-length columns
 
-pub asked-column : (specs : List KeySpec) (asked : AskedColumns) (k : ℕ) (d : KeySpec) → AreAsked (columns_in specs) asked → k < length specs → column_asked asked k ≡ (get_or specs k d).column
-asked-column specs Every k d are lt = absurd are
-asked-column specs (Only numbers) k d are lt =
+-- as many as the key has columns stand there
+enough : (first : ℕ) (specs : List KeySpec) (numbers : List ℕ) (k : ℕ) → take (length (columns_in specs)) (drop first numbers) ≡ columns_in specs → k < length specs → first + k < length numbers
+enough first specs numbers k are lt =
+    let many : min (length (columns_in specs)) (length numbers - first) ≡ length specs =
+    ap (λ (n : ℕ). min (length (columns_in specs)) n) (sym (length-drop first numbers)) ∙ sym (length-take (length (columns_in specs)) (drop first numbers)) ∙ ap length are ∙ length-map specs (λ k. k.column) in
+    let le : length specs ≤ length numbers - first = subst (λ (n : ℕ). n ≤ length numbers - first) many (min-le_right (length (columns_in specs)) (length numbers - first)) in
+    omega arith
+
+pub asked-count : (n first : ℕ) (specs : List KeySpec) (asked : AskedColumns) (k : ℕ) → AreAskedFrom first (columns_in specs) asked → k < length specs → first + k < count_asked n asked
+asked-count n first specs Every k are lt = absurd are
+asked-count n first specs (Only numbers) k are lt = enough first specs numbers.items k are lt
+
+pub asked-column : (first : ℕ) (specs : List KeySpec) (asked : AskedColumns) (k : ℕ) (d : KeySpec) → AreAskedFrom first (columns_in specs) asked → k < length specs → column_asked asked (first + k) ≡ (get_or specs k d).column
+asked-column first specs Every k d are lt = absurd are
+asked-column first specs (Only numbers) k d are lt =
     let within : k < length (columns_in specs) = omega (arith, length-map specs (λ k. k.column)) in
-    ap (λ (ns : List ℕ). get_or ns k 0) are ∙ get_or_default (columns_in specs) k 0 d.column within ∙ get_or-map (λ s. s.column) specs k d
+    sym (get_or-drop first numbers.items k 0)
+    ∙ sym (get_or-take (length (columns_in specs)) (drop first numbers.items) k 0 within)
+    ∙ ap (λ (ns : List ℕ). get_or ns k 0) are ∙ get_or_default (columns_in specs) k 0 d.column within ∙ get_or-map (λ s. s.column) specs k d
 
 -- A key so far
 

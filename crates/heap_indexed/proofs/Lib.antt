@@ -4,3 +4,5 @@ pub mod Entries
 pub mod Walks
 pub mod Pages
 pub mod Cases
+pub mod Each
+pub mod Columns

@@ -122,19 +122,25 @@ owed-end n found rows i old new end was =
 
 -- Rows ahead
 
--- a row with a key gives what it would if it waited
-keyed-by : (n : ℕ) (has : Entries) (row : LiveRow) (key : List Value) (o : Option (List Value)) → o ≡ Some key → row_lists_by n has row o ≡ waiting_lists n has (gathered_row row.tid row.root key)
-unfolding waiting_lists
-keyed-by n has row key o is = ap (row_lists_by n has row) is
+-- the first of them, and those after it
+pub ahead-first : (n : ℕ) (specs : List KeySpec) (has : Entries) (row : LiveRow) (rows : List LiveRow) → ahead_lists n specs has (row ∷ rows) ≡ joined (row_lists n specs has row) (ahead_lists n specs has rows)
+unfolding ahead_lists
+ahead-first n specs has row rows = refl
 
-pub ahead-keyed : (n : ℕ) (specs : List KeySpec) (has : Entries) (row : LiveRow) (rows : List LiveRow) (key : List Value) → key_in specs row.cells ≡ Some key → ahead_lists n specs has (row ∷ rows) ≡ joined (waiting_lists n has (gathered_row row.tid row.root key)) (ahead_lists n specs has rows)
-unfolding ahead_lists row_lists
-ahead-keyed n specs has row rows key is = ap (λ (l : Lists). joined l (of_each report_lists (row_lists n specs has) rows)) (keyed-by n has row key (key_in specs row.cells) is)
+-- one row more, behind them
+pub ahead-push : (n : ℕ) (specs : List KeySpec) (has : Entries) (rows : List LiveRow) (row : LiveRow) → ahead_lists n specs has (rows ++ row ∷ []) ≡ joined (ahead_lists n specs has rows) (row_lists n specs has row)
+unfolding ahead_lists
+ahead-push n specs has rows row = each-append (row_lists n specs has) rows (row ∷ []) ∙ ap (joined (of_each report_lists (row_lists n specs has) rows)) (report_lists.with_none (row_lists n specs has row))
+
+-- a row with a key gives what it would if it waited
+pub keyed-row : (n : ℕ) (specs : List KeySpec) (has : Entries) (row : LiveRow) (key : List Value) → key_in specs row.cells ≡ Some key → row_lists n specs has row ≡ waiting_lists n has (gathered_row row.tid row.root key)
+unfolding row_lists waiting_lists
+keyed-row n specs has row key is = ap (row_lists_by n has row) is
 
 -- and one without is in doubt
-pub ahead-packed : (n : ℕ) (specs : List KeySpec) (has : Entries) (row : LiveRow) (rows : List LiveRow) → key_in specs row.cells ≡ None → ahead_lists n specs has (row ∷ rows) ≡ joined (doubt_at (Tuple n row.tid) (Some U6)) (ahead_lists n specs has rows)
-unfolding ahead_lists row_lists
-ahead-packed n specs has row rows is = ap (λ (o : Option (List Value)). joined (row_lists_by n has row o) (of_each report_lists (row_lists n specs has) rows)) is
+pub packed-row : (n : ℕ) (specs : List KeySpec) (has : Entries) (row : LiveRow) → key_in specs row.cells ≡ None → row_lists n specs has row ≡ doubt_at (Tuple n row.tid) (Some U6)
+unfolding row_lists
+packed-row n specs has row is = ap (row_lists_by n has row) is
 
 pub ahead-none : (n : ℕ) (specs : List KeySpec) (has : Entries) → ahead_lists n specs has [] ≡ nothing
 unfolding ahead_lists
@@ -144,12 +150,11 @@ pub doubt-is : (old : Lists) (place : Place) → record { findings = old.finding
 doubt-is old place = λ i. record { findings = sym (append-nil old.findings) i; unjudged = old.unjudged ++ record { reason = U6; place = place } ∷ [] }
 
 -- A doubt is added before what waits: the two go to lists of their own
-
-pub doubt-first : (old waits ahead : Lists) (place : Place) → waits.unjudged ≡ [] → joined (joined old (doubt_at place (Some U6))) (joined waits ahead) ≡ joined old (joined waits (joined (doubt_at place (Some U6)) ahead))
-doubt-first old waits ahead place sure =
+pub doubt-first : (old waits : Lists) (place : Place) → waits.unjudged ≡ [] → joined (joined old (doubt_at place (Some U6))) waits ≡ joined old (joined waits (doubt_at place (Some U6)))
+doubt-first old waits place sure =
     let d = doubt_at place (Some U6) in
-    let same : joined d (joined waits ahead) ≡ joined waits (joined d ahead) = λ i. record {
-      findings = waits.findings ++ ahead.findings;
-      unjudged = (ap (λ us. d.unjudged ++ (us ++ ahead.unjudged)) sure ∙ sym (ap (λ us. us ++ (d.unjudged ++ ahead.unjudged)) sure)) i;
+    let same : joined d waits ≡ joined waits d = λ i. record {
+      findings = sym (append-nil waits.findings) i;
+      unjudged = (ap (λ us. d.unjudged ++ us) sure ∙ sym (ap (λ us. us ++ d.unjudged) sure)) i;
     } in
-    in_turn old d (joined waits ahead) ∙ ap (joined old) same
+    in_turn old d waits ∙ ap (joined old) same

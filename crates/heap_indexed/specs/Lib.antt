@@ -4,3 +4,4 @@ pub mod Probing
 pub mod ProbingLaws
 pub mod Waiting
 pub mod Targets
+pub mod Joins

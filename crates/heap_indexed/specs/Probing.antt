@@ -7,18 +7,17 @@ use Rattle.key_orders.specs.declared.columns.Value.{Value}
 use Rattle.key_orders.specs.declared.Tid.{Tid}
 use Rattle.bt_levels.specs.declared.sound.SoundTree.{SoundTree}
 use Rattle.bt_levels.specs.Sound.{HoldsTree, specs_of}
-use Rattle.bt_search.specs.Cached.{Cached, IsCacheOf}
 use Rattle.key_runs.specs.Marks.{Entries}
+use Rattle.heap_indexed.specs.declared.joined.LookUps.{LookUps}
 use Rattle.heap_indexed.specs.declared.prober.Prober.{Prober}
-use Rattle.heap_indexed.specs.Looking.{has_entry, look_up_visits}
+use Rattle.heap_indexed.specs.Looking.{AreOf, has_entry, look_up_visits}
 
--- what contracts see of a prober: the index, what the files show, the cache, the count of visits, and the names of the
--- references through which it asks the files and uses the cache
+-- what contracts see of a prober: the index, what the files show, what look-ups go through, and the names of the
+-- references through which it asks the files and uses that
 pub record Probing : Type 0 where
   pub tree : SoundTree
   pub seen : Seen
-  pub cache : Cached
-  pub visits : ℕ
+  pub through : LookUps
   pub files : ℕ
   pub look_ups : ℕ
 
@@ -26,17 +25,16 @@ abbrev pub probing : {F : Type 0} → (F → Seen) → Prober F → Probing
 probing seen p = record {
   tree = p.tree.now;
   seen = seen p.files.now;
-  cache = p.look_ups.now.cache;
-  visits = p.look_ups.now.visits.count;
+  through = p.look_ups.now;
   files = p.files.ghost_name;
   look_ups = p.look_ups.ghost_name;
 }
 
--- the files are told to hold the index, and the cache is one of it
+-- the files are told to hold the index, and look-ups go through pages of it
 pub record IsReady (names : Names) (p : Probing) : Type 0 where
   pub told : p.seen.held ≡ Some names
   pub tree : HoldsTree names p.tree
-  pub cache : IsCacheOf names p.tree p.cache
+  pub pages : AreOf names p.tree p.through
 
 -- it answers by the unkilled entries of the index
 pub record Means (p : Probing) (found : Entries) : Type 0 where
@@ -55,8 +53,9 @@ pub record LeadsTo (n : ℕ) (p q : Probing) : Type 0 where
   pub files : q.files ≡ p.files
   pub look_ups : q.look_ups ≡ p.look_ups
   pub passed : AskedWithin {T = Failed} {E = Failed} None p.seen q.seen (Ok failed) failed
-  pub cache : (names : Names) → IsReady names p → IsCacheOf names p.tree q.cache
-  pub visits : (names : Names) → IsReady names p → q.visits ≤ p.visits + n * look_up_visits names p.tree
+  pub pages : (names : Names) → IsReady names p → AreOf names p.tree q.through
+  pub visits : (names : Names) → IsReady names p
+      → q.through.visits.count ≤ p.through.visits.count + n * look_up_visits names p.tree
 
 -- the count of faults rose
 abbrev pub Explains : Probing → Probing → Type 0

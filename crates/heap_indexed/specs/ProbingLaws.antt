@@ -10,9 +10,8 @@ use Rattle.key_orders.specs.Keys.{IsKey}
 use Rattle.key_orders.specs.declared.columns.Value.{Value}
 use Rattle.bt_levels.specs.declared.sound.SoundTree.{SoundTree}
 use Rattle.bt_levels.specs.Sound.{HoldsTree, specs_of}
-use Rattle.bt_search.specs.Cached.{IsCacheOf}
 use Rattle.key_runs.specs.Marks.{Entries}
-use Rattle.heap_indexed.specs.Looking.{has_entry, look_up_visits}
+use Rattle.heap_indexed.specs.Looking.{AreOf, has_entry, look_up_visits}
 use Rattle.heap_indexed.specs.Probing.{Explains, IsReady, LeadsTo, Means, Probing, Takes}
 
 no_visit : (a b : ℕ) → a ≤ a + 0 * b
@@ -31,7 +30,7 @@ pub ready_after : (n : ℕ) (names : Names) (p q : Probing) → LeadsTo n p q �
 ready_after n names p q l r = record {
   told = l.passed.same ∙ r.told;
   tree = subst (HoldsTree names) (sym l.tree) r.tree;
-  cache = subst (λ (t : SoundTree). IsCacheOf names t q.cache) (sym l.tree) (l.cache names r);
+  pages = subst (λ (t : SoundTree). AreOf names t q.through) (sym l.tree) (l.pages names r);
 }
 
 pub stays : (p : Probing) → LeadsTo 0 p p
@@ -40,8 +39,8 @@ stays p = record {
   files = refl;
   look_ups = refl;
   passed = Passed-none;
-  cache = λ names r. r.cache;
-  visits = λ names r. no_visit p.visits (look_up_visits names p.tree);
+  pages = λ names r. r.pages;
+  visits = λ names r. no_visit p.through.visits.count (look_up_visits names p.tree);
 }
 
 pub goes_on : (m n : ℕ) (p q s : Probing) → LeadsTo m p q → LeadsTo n q s → LeadsTo (m + n) p s
@@ -50,12 +49,14 @@ goes_on m n p q s a b = record {
   files = b.files ∙ a.files;
   look_ups = b.look_ups ∙ a.look_ups;
   passed = Passed-next a.passed b.passed;
-  cache = λ names r.
-      subst (λ (t : SoundTree). IsCacheOf names t s.cache) a.tree (b.cache names (ready_after m names p q a r));
+  pages = λ names r.
+      subst (λ (t : SoundTree). AreOf names t s.through) a.tree (b.pages names (ready_after m names p q a r));
   visits = λ names r.
-      let later = subst (λ (t : SoundTree). s.visits ≤ q.visits + n * look_up_visits names t) a.tree
+      let later = subst (λ (t : SoundTree).
+      s.through.visits.count ≤ q.through.visits.count + n * look_up_visits names t) a.tree
       (b.visits names (ready_after m names p q a r)) in
-      more_visits m n p.visits q.visits s.visits (look_up_visits names p.tree) (a.visits names r) later;
+      more_visits m n p.through.visits.count q.through.visits.count s.through.visits.count
+      (look_up_visits names p.tree) (a.visits names r) later;
 }
 
 pub more : (m n : ℕ) (p q : Probing) → m ≤ n → LeadsTo m p q → LeadsTo n p q
@@ -64,8 +65,9 @@ more m n p q le a = record {
   files = a.files;
   look_ups = a.look_ups;
   passed = a.passed;
-  cache = a.cache;
-  visits = λ names r. spared m n p.visits q.visits (look_up_visits names p.tree) le (a.visits names r);
+  pages = a.pages;
+  visits = λ names r.
+      spared m n p.through.visits.count q.through.visits.count (look_up_visits names p.tree) le (a.visits names r);
 }
 
 pub keeps : (n : ℕ) (p q : Probing) (found : Entries) → LeadsTo n p q → Means p found → Means q found

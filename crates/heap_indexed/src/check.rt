@@ -1,20 +1,21 @@
 //! The checks of a heap against an index of it.
-ghost use Rattle.std.specs.Prelude.{◌≡◌, ◌⊎◌, ◌≤◌, ◌+◌, ◌*◌, ◌^◌, [], IfErr, IfOk, OnOk, length};
+ghost use Rattle.std.specs.Prelude.{◌≡◌, ◌⊎◌, ◌≤◌, ◌+◌, ◌*◌, ◌^◌, [], IfErr, IfOk, IfSome, OnOk, length};
 ghost use Rattle.outside.specs.Adds.{AddsIn};
-ghost use Rattle.outside.specs.Outside.{Asked, IfTold};
+ghost use Rattle.outside.specs.Outside.{Asked, IfTold, Names as Held};
 ghost use Rattle.reports.specs.Added.{report_lists};
 ghost use Rattle.bt_levels.specs.Files.{number_of};
+ghost use Rattle.bt_levels.specs.declared.sound.SoundTree.{SoundTree as Sound};
 ghost use Rattle.bt_levels.specs.Sound.{file_of};
-ghost use Rattle.bt_search.specs.Cached.{IsCacheOf};
 ghost use Rattle.heap_check.specs.Rows.{rows_of};
 ghost use Rattle.indexed_rules.specs.Lists.{entries_lists, indexed_lists, rows_lists};
 ghost use Rattle.heap_indexed.specs.Joined.{BelongTogether, HoldTogether};
-ghost use Rattle.heap_indexed.specs.Looking.{look_up_visits};
+ghost use Rattle.heap_indexed.specs.Looking.{AreOf, look_up_visits};
 
-use crate::joined::{IndexedHeap, LookUps};
-use crate::rows::{Waiting, columns_of};
+use crate::joined::{IndexedHeap, LookUps, RUN_BLOCKS, new_hand, new_look_ups};
+use crate::nearness::Nearness;
+use crate::rows::{Walk, columns_of};
 use crate::targets::targets_in;
-use bt_search::{PageCache, Visits};
+use crate::waiting::Waiting;
 use heap_check::RowCursor;
 use index_targets::check_targets;
 use key_runs::KeyRun;
@@ -23,14 +24,8 @@ use reports::{CheckFault, PageFault, Report};
 use root_set::set_tells_of_pages;
 use std::alloc::Global;
 
-// The rows of a heap of fewer blocks are looked up as they come.
-const RUN_BLOCKS: u32 = 64;
-
 // The bytes that the rows that wait may use: 48 MiB.
 const RUN_BYTES: u32 = 50_331_648;
-
-// How many pages of the index are kept.
-const CACHE_PAGES: usize = 64;
 
 // A run of the rows of a heap, which holds none where each is to be looked up as it comes.
 fn run_for(alloc: Global, blocks: u32) -> Result<KeyRun, NoMemory>
@@ -38,12 +33,6 @@ fn run_for(alloc: Global, blocks: u32) -> Result<KeyRun, NoMemory>
 {
     let budget = if blocks < RUN_BLOCKS { 0 } else { RUN_BYTES };
     KeyRun::new(alloc, budget)
-}
-
-// Memory for a page.
-fn new_hand(alloc: Global) -> Result<Box<[u8; 8192]>, NoMemory> {
-    let hand = Box::new(alloc, [0; 8192])?;
-    Ok(hand)
 }
 
 // Adds each entry of an index that names what no entry may name.
@@ -75,21 +64,23 @@ fn probe_in_turn<F: Files>(
 ) -> Result<(), PageFault>
     requires belong { BelongTogether at.case.now at.heap.now at.tree.now }
     requires hold { IfTold F.seen files.old (λ names. HoldTogether names at.case.now at.heap.now at.tree.now) }
-    requires of { IfTold F.seen files.old (λ names. IsCacheOf names at.tree.now look_ups.old.cache) }
+    requires of { IfTold F.seen files.old (λ names. AreOf names at.tree.now look_ups.old) }
     ensures lists { IfTold F.seen files.old (λ names. AddsIn report_lists result report.old report.new
         (rows_lists at.entry.case.now names (number_of (file_of at.entry.tree.now)))) }
     ensures visits { IfTold F.seen files.old (λ names. OnOk result (look_ups.new.visits.count ≤
         look_ups.old.visits.count
         + length (rows_of at.entry.case.now names) * look_up_visits names at.entry.tree.now)) }
-    ensures of { IfTold F.seen files.old (λ names. IsCacheOf names at.entry.tree.now look_ups.new.cache) }
+    ensures of { IfTold F.seen files.old (λ names. AreOf names at.entry.tree.now look_ups.new) }
     ensures asked { Asked F.seen files.old files.new result PageFault.ReadFault }
 {
     at.case.sound();
     let columns = columns_of(alloc, at.tree.specs())?;
     let mut cursor = RowCursor::new(alloc, at.case, at.heap, &columns)?;
     let run = run_for(alloc, at.heap.heap().blocks())?;
-    let mut waiting = Waiting { at, run };
-    waiting.judge_all(files, &mut cursor, look_ups, report)
+    let nearness = Nearness::of(at.heap.heap().blocks());
+    let waiting = Waiting::new(run, nearness);
+    let mut walk = Walk { at, waiting };
+    walk.judge_all(files, &mut cursor, look_ups, report)
 }
 
 /// Adds to the report each live row of a heap that has no entry in an index of it under its own key, with the TID of
@@ -110,14 +101,14 @@ pub fn probe_rows<F: Files>(
 ) -> Result<(), CheckFault>
     requires belong { BelongTogether at.case.now at.heap.now at.tree.now }
     requires hold { IfTold F.seen files.old (λ names. HoldTogether names at.case.now at.heap.now at.tree.now) }
-    requires of { IfTold F.seen files.old (λ names. IsCacheOf names at.tree.now look_ups.old.cache) }
+    requires of { IfTold F.seen files.old (λ names. AreOf names at.tree.now look_ups.old) }
     requires room { look_ups.old.visits.count ≤ 2 ^ 62 }
     ensures lists { IfTold F.seen files.old (λ names. AddsIn report_lists result report.old report.new
         (rows_lists at.entry.case.now names (number_of (file_of at.entry.tree.now)))) }
     ensures visits { IfTold F.seen files.old (λ names. OnOk result (look_ups.new.visits.count ≤
         look_ups.old.visits.count
         + length (rows_of at.entry.case.now names) * look_up_visits names at.entry.tree.now)) }
-    ensures of { IfTold F.seen files.old (λ names. IsCacheOf names at.entry.tree.now look_ups.new.cache) }
+    ensures of { IfTold F.seen files.old (λ names. AreOf names at.entry.tree.now look_ups.new) }
     ensures only { IfErr result (λ e. e ≡ CheckFault.ReadFault ⊎ e ≡ CheckFault.NoMemory) }
     ensures asked { Asked F.seen files.old files.new result CheckFault.ReadFault }
 {
@@ -144,11 +135,7 @@ pub fn check_indexed<F: Files>(
     ensures only { IfErr result (λ e. e ≡ CheckFault.ReadFault ⊎ e ≡ CheckFault.NoMemory) }
     ensures asked { Asked F.seen files.old files.new result CheckFault.ReadFault }
 {
-    let cache = PageCache::new(alloc, CACHE_PAGES)?;
-    let mut look_ups = LookUps {
-        cache,
-        visits: Visits { count: 0 },
-    };
+    let mut look_ups = new_look_ups(alloc, at.heap.heap().blocks())?;
     probe_rows(alloc, files, at, &mut look_ups, report)?;
     check_entries(alloc, files, at, report)?;
     Ok(())

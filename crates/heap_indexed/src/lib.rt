@@ -3,7 +3,10 @@
 #![tactic(auto)]
 
 mod check;
+mod check_all;
 mod joined;
+mod joins;
+mod nearness;
 mod prober;
 mod rows;
 #[cfg(test)]
@@ -11,6 +14,8 @@ mod tables;
 mod targets;
 #[cfg(test)]
 mod tests;
+mod waiting;
 
 pub use check::{check_indexed, probe_rows};
-pub use joined::{IndexedHeap, LookUps};
+pub use check_all::check_indexes;
+pub use joined::{IndexedHeap, IndexedTable, LookUps};

@@ -135,6 +135,7 @@ fn visits_on(alloc: Global, files: &mut Silent, at: IndexedHeap<'_>) -> Result<u
     let mut report = Report::new(alloc);
     let mut look_ups = LookUps {
         cache: PageCache::new(alloc, 1)?,
+        hand: None,
         visits: Visits { count: 0 },
     };
     probe_rows(alloc, files, at, &mut look_ups, &mut report)?;

@@ -10,8 +10,8 @@ use Rattle.heap_indexed.proofs.Cases.{both-are}
 use Rattle.heap_indexed.proofs.Walks.{settled-more}
 use Rattle.heap_indexed.proofs.check.check_indexed.Goals as goal
 
-pub returns-in_err-cache-clause-lists : goal.returns-in_err-cache-clause-lists
-returns-in_err-cache-clause-lists g c = λ names told.
+pub returns-in_err-look_ups-clause-lists : goal.returns-in_err-look_ups-clause-lists
+returns-in_err-look_ups-clause-lists g c = λ names told.
     let owed = indexed_lists c.args.at.case.now names (number_of (file_of c.args.at.tree.now)) in
     Adds-exit report_lists c.from_residual.result _ c.args.report.now c.args.report.now owed c.from_residual.ensures.1 (Begins-none report_lists c.args.report.now owed)
 
@@ -42,3 +42,6 @@ returns-clause-lists g c = λ names told.
     c.in_ok-check_entries.ensures.lists names (c.probe_rows.ensures.asked.same ∙ told)
     ∙ settled-more c.args.report.now c.probe_rows.new.report (rows_lists case names n) (entries_lists case names n) (c.in_ok-probe_rows.ensures.lists names told)
     ∙ ap (joined c.args.report.now) (sym (both-are case names n))
+
+pub probe_rows-requires-clause-of : goal.probe_rows-requires-clause-of
+probe_rows-requires-clause-of g c = λ names told. c.in_ok-look_ups.ensures.of names c.args.at.tree.now

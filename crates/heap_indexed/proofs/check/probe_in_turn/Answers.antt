@@ -1,6 +1,9 @@
-use Rattle.std.proofs.Common.{◌∙◌, ◌+◌, ◌*◌, ◌<◌, ◌≤◌, ℕ, List, length, ap, sym, subst}
+use Rattle.std.proofs.Common.{◌∙◌, ◌+◌, ◌*◌, ◌<◌, ◌≤◌, ◌≡◌, [], ℕ, List, length, ap, sym, subst}
 use Rattle.std.specs.Prelude.{All, OnOk}
+use Rattle.std.proofs.lemmas.List.Elements.{All-nil}
 use Rattle.outside.specs.Adds.{AddsIn}
+use Rattle.key_orders.specs.Keys.{IsKey}
+use Rattle.key_runs.specs.Rows.{Gathered, GatheredRow}
 use Rattle.outside.proofs.Adding.{Adds-exit, Begins-none}
 use Rattle.reports.specs.Added.{report_lists}
 use Rattle.reports.specs.Lists.{Lists}
@@ -12,9 +15,9 @@ use Rattle.heap_check.specs.Rows.{rows_of}
 use Rattle.heap_check.specs.declared.rows.LiveRow.{LiveRow}
 use Rattle.indexed_rules.specs.Lists.{rows_lists}
 use Rattle.heap_indexed.specs.Looking.{look_up_visits}
-use Rattle.heap_indexed.specs.Waiting.{columns_in}
+use Rattle.heap_indexed.specs.Waiting.{AreAskedFrom, columns_in}
 use Rattle.heap_indexed.proofs.Cases.{rows-are}
-use Rattle.heap_indexed.proofs.Keys.{columns-there, sound-keys}
+use Rattle.heap_indexed.proofs.Keys.{asked-all, columns-there, sound-keys}
 use Rattle.heap_indexed.proofs.Pages.{count-is, rows-few}
 use Rattle.heap_indexed.proofs.check.probe_in_turn.Goals as goal
 
@@ -71,3 +74,15 @@ pub returns-clause-visits : goal.returns-clause-visits
 returns-clause-visits g c = λ names told.
     subst (λ (rs : List LiveRow). OnOk c.judge_all.result (c.judge_all.new.look_ups.visits.count ≤ c.args.look_ups.now.visits.count + length rs * look_up_visits names c.args.at.tree.now))
     (c.in_ok-cursor.ensures.all names) (c.judge_all.ensures.visits names told)
+
+pub judge_all-requires-clause-walk : goal.judge_all-requires-clause-walk
+judge_all-requires-clause-walk g c =
+    let tree = c.args.at.tree.now in
+    let columns : c.deref.result.now ≡ columns_in (specs_of tree) = c.deref.ensures.value ∙ c.in_ok-columns.ensures ∙ ap columns_in c.specs.ensures in
+    let none : c.new-waiting.result.run.rows ≡ [] = ap (λ (run : Gathered). run.rows) c.new-waiting.ensures ∙ c.in_ok-run.ensures in
+    record {
+      belong = c.requires.belong;
+      case = c.in_ok-cursor.ensures.case;
+      asked = subst (λ (ks : List ℕ). AreAskedFrom 0 ks c.in_ok-cursor.cursor.asked) columns (asked-all c.deref.result.now c.in_ok-cursor.cursor.asked c.in_ok-cursor.ensures.asked);
+      keyed = subst (λ (rs : List GatheredRow). All (λ (r : GatheredRow). IsKey (specs_of tree) r.key) rs) (sym none) (All-nil (λ (r : GatheredRow). IsKey (specs_of tree) r.key));
+    }

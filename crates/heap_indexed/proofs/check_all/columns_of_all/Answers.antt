@@ -1,0 +1,10 @@
+use Rattle.std.proofs.Common.{◌≡◌, ◌∙◌, ◌++◌, List, ℕ, ap, sym, arith}
+use Rattle.heap_indexed.specs.Waiting.{columns_in}
+use Rattle.heap_indexed.proofs.Columns.{columns-next}
+use Rattle.heap_indexed.proofs.check_all.columns_of_all.Goals as goal
+
+pub loop-j-preserved : goal.loop-j-preserved
+loop-j-preserved c =
+    c.in_ok-push_columns.ensures
+    ∙ (λ i. c.loop-j.invariant i ++ columns_in (c.specs.ensures i))
+    ∙ sym (columns-next c.args.trees.now c.loop-j.j c.index-trees-j.result c.index-trees-j.is (omega arith))
