@@ -7,3 +7,4 @@ pub mod Columns
 pub mod Indexes
 pub mod Case
 pub mod Sound
+pub mod Generated

@@ -9,6 +9,7 @@ mod case;
 mod columns;
 mod fault;
 mod find;
+mod generated;
 mod indexes;
 mod keys;
 mod read;

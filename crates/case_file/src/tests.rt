@@ -4,7 +4,7 @@ ghost use Rattle.std.specs.Prelude.{◌≤◌, length};
 use crate::case::{Case, Column};
 use crate::fault::CaseFault;
 use crate::read::read_case;
-use key_orders::Value;
+use key_orders::{ColType, Value};
 use std::alloc::Global;
 use std::process::Abort;
 use std::test::Fail;
@@ -410,5 +410,26 @@ fn other_calls(rt: HostRuntime) -> Result<(), Fail> {
     assert_eq!(rt; case.find_index("t_note"), Some(2));
     assert_eq!(rt; case.find_index("t_not"), None);
     assert_eq!(rt; case.find_index("t_nota"), None);
+    Ok(())
+}
+
+#[test]
+fn a_generated_case(rt: HostRuntime) -> Result<(), Fail> {
+    let case = Case::generated(rt.alloc())?;
+    case.sound();
+    assert_eq!(rt; (case.segment_blocks(), case.heap_file()), (131072, "t"));
+    assert_eq!(rt; (case.xact_dir(), case.members_dir()), ("xact", "members"));
+    assert_eq!(rt;
+        (case.cluster().next_xid, case.cluster().next_member),
+        (4, 0)
+    );
+    assert!(rt; case.toast().is_none());
+    assert_eq!(rt;
+        case.column_types(),
+        [ColType::Int8, ColType::Int4].as_slice()
+    );
+    assert_eq!(rt; case.index_count(), 2);
+    assert_eq!(rt; case.find_index("t_id"), Some(1));
+    assert_eq!(rt; case.find_index("t_grp"), Some(2));
     Ok(())
 }

@@ -1,0 +1,6 @@
+pub mod Zeros
+pub mod Laying
+pub mod Reading
+pub mod TupleReading
+pub mod BodyLaws
+pub mod BodyReading

@@ -1,0 +1,5 @@
+pub mod Pages
+pub mod Writing
+pub mod Tuples
+pub mod Fields
+pub mod Bodies
