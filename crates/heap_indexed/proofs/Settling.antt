@@ -3,8 +3,8 @@ use Rattle.std.proofs.Common.{◌≡◌, ◌∙◌, ℕ, ◌+◌, ◌<◌, Bool,
 use Rattle.std.specs.Prelude.{Result, Ok, Err, IsErrAnd, Option, Some, None, map, not}
 use Rattle.std.proofs.Math.ListN.{get_or-map}
 use Rattle.std.proofs.lemmas.List.{get_or_default, length-map}
-use Rattle.outside.specs.Adds.{AddsIn, Begins}
-use Rattle.outside.proofs.Adding.{Begins-cut}
+use Rattle.outside.specs.Adds.{AddsIn, Begins, Leaves}
+use Rattle.outside.proofs.Adding.{Begins-after, Begins-cut, Leaves-added, Leaves-last, Leaves-then}
 use Rattle.page_layout.specs.declared.rules.Rule.{Rule}
 use Rattle.key_orders.specs.declared.columns.KeySpec.{KeySpec}
 use Rattle.key_orders.specs.declared.columns.Value.{Value}
@@ -26,20 +26,31 @@ use Rattle.heap_indexed.specs.Waiting.{Settles, ahead_lists, run_lists, waiting_
 in_turn : (a b c : Lists) → joined (joined a b) c ≡ joined a (joined b c)
 in_turn = report_lists.in_turn
 
+-- what was added and what is left is what was owed
+pub Leaves-sum : {old new owed left : Lists} → Leaves report_lists old new owed left → joined new left ≡ joined old owed
+Leaves-sum {old = old} {left = left} now = ap (λ (l : Lists). joined l left) now.added ∙ in_turn old now.part left ∙ ap (joined old) now.whole
+
+-- the same that is left, or that was owed, by another name
+pub left-is : {old new owed left other : Lists} → left ≡ other → Leaves report_lists old new owed left → Leaves report_lists old new owed other
+left-is {old = old} {new = new} {owed = owed} is now = subst (λ (l : Lists). Leaves report_lists old new owed l) is now
+
+pub owed-is : {old new owed other left : Lists} → owed ≡ other → Leaves report_lists old new owed left → Leaves report_lists old new other left
+owed-is {old = old} {new = new} {left = left} is now = subst (λ (l : Lists). Leaves report_lists old new l left) is now
+
 -- after other steps
-pub Settles-then : {T E : Type 0} (r : Result T E) (old mid new owed rest left : Lists) → joined mid rest ≡ joined old owed → Settles r mid new rest left → Settles r old new owed left
-Settles-then (Ok x) old mid new owed rest left was now = now ∙ was
-Settles-then (Err e) old mid new owed rest left was now = record { rest = now.rest; whole = now.whole ∙ was }
+pub Settles-then : {T E : Type 0} (r : Result T E) (old mid new owed rest left : Lists) → Leaves report_lists old mid owed rest → Settles r mid new rest left → Settles r old new owed left
+Settles-then (Ok x) old mid new owed rest left was now = Leaves-then report_lists was now
+Settles-then (Err e) old mid new owed rest left was now = Begins-after report_lists was now
 
 -- all of the first part of what is owed was added
 pub Settles-added : {T E : Type 0} (r : Result T E) (old new owed left : Lists) → AddsIn report_lists r old new owed → Settles r old new (joined owed left) left
-Settles-added (Ok x) old new owed left now = ap (λ (l : Lists). joined l left) now ∙ in_turn old owed left
+Settles-added (Ok x) old new owed left now = Leaves-added report_lists old new owed left now
 Settles-added (Err e) old new owed left now = Begins-cut report_lists left now
 
 -- what was left after other steps was added
-pub Adds-last : {T E : Type 0} (r : Result T E) (old mid new owed rest : Lists) → joined mid rest ≡ joined old owed → AddsIn report_lists r mid new rest → AddsIn report_lists r old new owed
-Adds-last (Ok x) old mid new owed rest was now = now ∙ was
-Adds-last (Err e) old mid new owed rest was now = record { rest = now.rest; whole = now.whole ∙ was }
+pub Adds-last : {T E : Type 0} (r : Result T E) (old mid new owed rest : Lists) → Leaves report_lists old mid owed rest → AddsIn report_lists r mid new rest → AddsIn report_lists r old new owed
+Adds-last (Ok x) old mid new owed rest was now = now ∙ Leaves-sum was
+Adds-last (Err e) old mid new owed rest was now = Begins-after report_lists was now
 
 -- what a `?` hands on
 pub Settles-exit : {T E : Type 0} (r : Result T E) (Q : E → Type 0) (old new owed left : Lists) → IsErrAnd r Q → Begins report_lists old new owed → Settles r old new owed left
@@ -100,25 +111,26 @@ unfolding waiting_lists
 row-probed n m found r there rule same is what = λ j. finding_at (Tuple (same j) r.tid) ((is ∙ ap missing_rule what) j)
 
 -- row i was looked at, and then those after it are owed
-pub owed-next : (n : ℕ) (found : Entries) (rows : List GatheredRow) (i : ℕ) (old mid new added : Lists) → i < length rows → added ≡ waiting_lists n found (get_or rows i any-row) → joined mid (run_lists n found (drop i rows)) ≡ joined old (run_lists n found rows) → new ≡ joined mid added → joined new (run_lists n found (drop (i + 1) rows)) ≡ joined old (run_lists n found rows)
+pub owed-next : (n : ℕ) (found : Entries) (rows : List GatheredRow) (i : ℕ) (old mid new added : Lists) → i < length rows → added ≡ waiting_lists n found (get_or rows i any-row) → Leaves report_lists old mid (run_lists n found rows) (run_lists n found (drop i rows)) → new ≡ joined mid added → Leaves report_lists old new (run_lists n found rows) (run_lists n found (drop (i + 1) rows))
 owed-next n found rows i old mid new added lt is was now =
     let rest : Lists = run_lists n found (drop (i + 1) rows) in
     let row : Lists = waiting_lists n found (get_or rows i any-row) in
-    ap (λ (l : Lists). joined l rest) (now ∙ ap (joined mid) is) ∙ in_turn mid row rest ∙ ap (joined mid) (sym (run-next n found rows i any-row lt)) ∙ was
+    Leaves-then report_lists was (owed-is (sym (run-next n found rows i any-row lt)) (Leaves-added report_lists mid new row rest (now ∙ ap (joined mid) is)))
 
 -- or a part of what it owed was added
-pub owed-cut : (n : ℕ) (found : Entries) (rows : List GatheredRow) (i : ℕ) (old mid new added : Lists) → i < length rows → added ≡ waiting_lists n found (get_or rows i any-row) → joined mid (run_lists n found (drop i rows)) ≡ joined old (run_lists n found rows) → Begins report_lists mid new added → Begins report_lists old new (run_lists n found rows)
+pub owed-cut : (n : ℕ) (found : Entries) (rows : List GatheredRow) (i : ℕ) (old mid new added : Lists) → i < length rows → added ≡ waiting_lists n found (get_or rows i any-row) → Leaves report_lists old mid (run_lists n found rows) (run_lists n found (drop i rows)) → Begins report_lists mid new added → Begins report_lists old new (run_lists n found rows)
 owed-cut n found rows i old mid new added lt is was now =
     let rest : Lists = run_lists n found (drop (i + 1) rows) in
     let row : Lists = waiting_lists n found (get_or rows i any-row) in
     let here : Begins report_lists mid new row = subst (λ (l : Lists). Begins report_lists mid new l) is now in
     let more : Begins report_lists mid new (joined row rest) = Begins-cut report_lists rest here in
-    record { rest = more.rest; whole = more.whole ∙ ap (joined mid) (sym (run-next n found rows i any-row lt)) ∙ was }
+    Begins-after report_lists was (subst (λ (l : Lists). Begins report_lists mid new l) (sym (run-next n found rows i any-row lt)) more)
 
 -- and after the last none is
-pub owed-end : (n : ℕ) (found : Entries) (rows : List GatheredRow) (i : ℕ) (old new : Lists) → drop i rows ≡ [] → joined new (run_lists n found (drop i rows)) ≡ joined old (run_lists n found rows) → new ≡ joined old (run_lists n found rows)
+pub owed-end : (n : ℕ) (found : Entries) (rows : List GatheredRow) (i : ℕ) (old new : Lists) → drop i rows ≡ [] → Leaves report_lists old new (run_lists n found rows) (run_lists n found (drop i rows)) → new ≡ joined old (run_lists n found rows)
 owed-end n found rows i old new end was =
-    sym (report_lists.with_none new) ∙ ap (joined new) (sym (run-none n found)) ∙ ap (λ (rs : List GatheredRow). joined new (run_lists n found rs)) (sym end) ∙ was
+    let none : run_lists n found (drop i rows) ≡ nothing = ap (λ (rs : List GatheredRow). run_lists n found rs) end ∙ run-none n found in
+    Leaves-last report_lists (left-is none was)
 
 -- Rows ahead
 
@@ -149,12 +161,10 @@ ahead-none n specs has = refl
 pub doubt-is : (old : Lists) (place : Place) → record { findings = old.findings; unjudged = old.unjudged ++ record { reason = U6; place = place } ∷ [] } ≡ joined old (doubt_at place (Some U6))
 doubt-is old place = λ i. record { findings = sym (append-nil old.findings) i; unjudged = old.unjudged ++ record { reason = U6; place = place } ∷ [] }
 
--- A doubt is added before what waits: the two go to lists of their own
-pub doubt-first : (old waits : Lists) (place : Place) → waits.unjudged ≡ [] → joined (joined old (doubt_at place (Some U6))) waits ≡ joined old (joined waits (doubt_at place (Some U6)))
-doubt-first old waits place sure =
-    let d = doubt_at place (Some U6) in
-    let same : joined d waits ≡ joined waits d = λ i. record {
+-- A doubt may be added before what waits: the two go to lists of their own
+pub doubt-first : (waits : Lists) (place : Place) → waits.unjudged ≡ [] → joined (doubt_at place (Some U6)) waits ≡ joined waits (doubt_at place (Some U6))
+doubt-first waits place sure =
+    let d = doubt_at place (Some U6) in λ i. record {
       findings = sym (append-nil waits.findings) i;
       unjudged = (ap (λ us. d.unjudged ++ us) sure ∙ sym (ap (λ us. us ++ d.unjudged) sure)) i;
-    } in
-    in_turn old d waits ∙ ap (joined old) same
+    }

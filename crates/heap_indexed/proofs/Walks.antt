@@ -1,7 +1,7 @@
 -- The rows that wait, and the walk over the rows of a heap.
 use Rattle.std.proofs.Common.{◌≡◌, ◌∙◌, ℕ, ◌+◌, ◌*◌, ◌≤◌, List, [], ◌∷◌, ◌++◌, length, refl, sym, ap, subst, arith}
 use Rattle.std.specs.Prelude.{Err, None, Ok, OnOk, Result, Some}
-use Rattle.outside.specs.Adds.{AddsIn, Begins}
+use Rattle.outside.specs.Adds.{AddsIn, Begins, Leaves}
 use Rattle.outside.specs.Outside.{Names}
 use Rattle.outside.proofs.Adding.{Begins-cut}
 use Rattle.key_orders.specs.declared.columns.Value.{Value}
@@ -23,7 +23,7 @@ use Rattle.heap_indexed.specs.declared.rows.Walk.{Walk}
 use Rattle.heap_indexed.specs.declared.waiting.Waiting.{Waiting}
 use Rattle.heap_indexed.specs.Looking.{has_entry}
 use Rattle.heap_indexed.specs.Waiting.{Settles, lists_of, lists_of_row, owed_ahead, owed_by, owed_for, owed_in, rows_in, run_lists, tree_in}
-use Rattle.heap_indexed.proofs.Settling.{ahead-first, ahead-none, ahead-push, doubt-first, keyed-row, packed-row, run-none, run-push, run-sure}
+use Rattle.heap_indexed.proofs.Settling.{Leaves-sum, ahead-first, ahead-none, ahead-push, doubt-first, keyed-row, packed-row, run-none, run-push, run-sure}
 
 module _ (names : Names) (tree : SoundTree) (old new : Waiting) where
   -- the same rows wait
@@ -75,11 +75,14 @@ module _ (names : Names) (tree : SoundTree) (row : LiveRow) where
       (λ i. doubt_at (Tuple (number i) (at i)) (Some U6))
       ∙ sym (packed-row (number_of (file_of tree)) (specs_of tree) (has_entry names tree) row is)
 
-  pub packed-adds : (waiting : Waiting) (now later : Lists) (tid : Tid) (m : ℕ) → m ≡ number_of (file_of tree) → tid ≡ row.tid → key_in (specs_of tree) row.cells ≡ None → later ≡ joined now (doubt_at (Tuple m tid) (Some U6)) → joined later (owed_in names tree waiting) ≡ joined now (joined (owed_in names tree waiting) (lists_of_row names tree row))
+  pub packed-adds : (waiting : Waiting) (now later : Lists) (tid : Tid) (m : ℕ) → m ≡ number_of (file_of tree) → tid ≡ row.tid → key_in (specs_of tree) row.cells ≡ None → later ≡ joined now (doubt_at (Tuple m tid) (Some U6)) → Leaves report_lists now later (joined (owed_in names tree waiting) (lists_of_row names tree row)) (owed_in names tree waiting)
   packed-adds waiting now later tid m number at is step =
-      ap (λ (l : Lists). joined l (owed_in names tree waiting)) step
-      ∙ doubt-first now (owed_in names tree waiting) (Tuple m tid) (run-sure (number_of (file_of tree)) (has_entry names tree) (rows_in waiting))
-      ∙ ap (λ (l : Lists). joined now (joined (owed_in names tree waiting) l)) (packed-is tid m number at is)
+      record {
+        part = doubt_at (Tuple m tid) (Some U6);
+        added = step;
+        whole = doubt-first (owed_in names tree waiting) (Tuple m tid) (run-sure (number_of (file_of tree)) (has_entry names tree) (rows_in waiting))
+            ∙ ap (joined (owed_in names tree waiting)) (packed-is tid m number at is);
+      }
 
 -- A step over a row
 
@@ -94,12 +97,14 @@ module _ (names : Names) (tree : SoundTree) (waits : Lists) (row : LiveRow) (row
   row-cut now later begins =
       subst (λ (l : Lists). Begins report_lists now later l) owed-first (Begins-cut report_lists (owed_for names tree rows) begins)
 
-  pub row-step : (left now later : Lists) → joined later left ≡ joined now (joined waits (lists_of_row names tree row)) → joined later (joined left (owed_for names tree rows)) ≡ joined now (joined waits (owed_for names tree (row ∷ rows)))
+  pub row-step : (left now later : Lists) → Leaves report_lists now later (joined waits (lists_of_row names tree row)) left → Leaves report_lists now later (joined waits (owed_for names tree (row ∷ rows))) (joined left (owed_for names tree rows))
   row-step left now later step =
-      sym (report_lists.in_turn later left (owed_for names tree rows))
-      ∙ ap (λ (l : Lists). joined l (owed_for names tree rows)) step
-      ∙ report_lists.in_turn now (joined waits (lists_of_row names tree row)) (owed_for names tree rows)
-      ∙ ap (joined now) owed-first
+      record {
+        part = step.part;
+        added = step.added;
+        whole = sym (report_lists.in_turn step.part left (owed_for names tree rows))
+            ∙ ap (λ (l : Lists). joined l (owed_for names tree rows)) step.whole ∙ owed-first;
+      }
 
 -- Rows that were gone through
 
@@ -112,7 +117,7 @@ done-none names tree waiting report empty none =
 -- one more was
 pub done-more : {T E : Type 0} (r : Result T E) (names : Names) (tree : SoundTree) (done : List LiveRow) (row : LiveRow) (old new waits left : Lists) → Settles r old new (joined waits (lists_of_row names tree row)) left → joined old waits ≡ owed_for names tree done → OnOk r (joined new left ≡ owed_for names tree (done ++ row ∷ []))
 done-more (Ok x) names tree done row old new waits left step was =
-    step ∙ sym (report_lists.in_turn old waits (lists_of_row names tree row))
+    Leaves-sum step ∙ sym (report_lists.in_turn old waits (lists_of_row names tree row))
     ∙ ap (λ (l : Lists). joined l (lists_of_row names tree row)) was
     ∙ sym (ahead-push (number_of (file_of tree)) (specs_of tree) (has_entry names tree) done row)
 done-more (Err e) names tree done row old new waits left step was = record {}

@@ -1,7 +1,7 @@
 -- The rows of a heap that wait to be looked up in an index, what they and the rows ahead will give, and what a step
 -- does.
 use Rattle.std.specs.Prelude.{◌≡◌, ℕ, ◌+◌, ◌*◌, ◌∷◌, List, All, Result, Ok, Err, drop, length, map, take}
-use Rattle.outside.specs.Adds.{Begins}
+use Rattle.outside.specs.Adds.{Begins, Leaves}
 use Rattle.outside.specs.Outside.{Names}
 use Rattle.key_orders.specs.Keys.{IsKey}
 use Rattle.key_orders.specs.declared.columns.KeySpec.{KeySpec}
@@ -40,9 +40,10 @@ run_lists number has rows = of_each report_lists (waiting_lists number has) rows
 unfoldable pub ahead_lists : (number : ℕ) → List KeySpec → Entries → List LiveRow → Lists
 ahead_lists number specs has rows = of_each report_lists (row_lists number specs has) rows
 
--- what is added and what is owed after a step is what was owed before it; after an error a first part of that is added
+-- what was owed before a step is what it added, and then what is owed after it; after an error a first part of that is
+-- added
 abbrev pub Settles : {T E : Type 0} → Result T E → (old new owed left : Lists) → Type 0
-Settles (Ok _) old new owed left = joined new left ≡ joined old owed
+Settles (Ok _) old new owed left = Leaves report_lists old new owed left
 Settles (Err _) old new owed left = Begins report_lists old new owed
 
 -- The rows that wait

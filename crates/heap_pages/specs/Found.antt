@@ -54,6 +54,7 @@ found_parts = record {
     late = report_lists.with_none a.late i;
     chunks = append-nil a.chunks i;
   };
+  none_with = λ a i. a;
   in_turn = λ a b c i. record {
     listed = report_lists.in_turn a.listed b.listed c.listed i;
     late = report_lists.in_turn a.late b.late c.late i;

@@ -1,6 +1,6 @@
 -- What is found at one place, and what is found at places one after the other.
 use Rattle.std.specs.Prelude.{ℕ, zero, suc, [], ◌∷◌, ◌++◌, Option, Some, None, Contains}
-use Rattle.std.proofs.Common.{append-nil, append_assoc}
+use Rattle.std.proofs.Common.{refl, append-nil, append_assoc}
 use Rattle.outside.specs.Adds.{Joins}
 use Rattle.page_layout.specs.declared.rules.Rule.{Rule}
 use Rattle.reports.specs.Lists.{Lists}
@@ -21,6 +21,7 @@ report_lists = record {
   none = nothing;
   join = joined;
   with_none = λ a i. record { findings = append-nil a.findings i; unjudged = append-nil a.unjudged i };
+  none_with = λ a. refl;
   in_turn = λ a b c i. record {
     findings = append_assoc a.findings b.findings c.findings i;
     unjudged = append_assoc a.unjudged b.unjudged c.unjudged i;

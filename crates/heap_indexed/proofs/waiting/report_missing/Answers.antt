@@ -1,15 +1,19 @@
-use Rattle.std.proofs.Common.{◌≡◌, ◌+◌, ◌<◌, Bool, drop, length, ap, arith, get_or, refl, subst, sym}
+use Rattle.std.proofs.Common.{◌+◌, ◌<◌, Bool, drop, length, ap, arith, get_or, refl, subst, sym}
 use Rattle.std.specs.Prelude.{None, Some, not}
 use Rattle.std.proofs.lemmas.List.{drop_all}
-use Rattle.outside.proofs.Adding.{Adds-exit}
+use Rattle.outside.specs.Adds.{Leaves}
+use Rattle.outside.proofs.Adding.{Adds-exit, Leaves-none}
 use Rattle.page_layout.specs.declared.rules.Rule.TheVariants.{X1}
-use Rattle.reports.specs.Added.{joined, nothing, report_lists}
+use Rattle.reports.specs.Added.{nothing, report_lists}
 use Rattle.reports.specs.Lists.{Lists}
 use Rattle.indexed_rules.specs.Lists.{missing_rule}
 use Rattle.heap_indexed.specs.Waiting.{run_lists}
 use Rattle.heap_indexed.proofs.Settling.{any-row, owed-cut, owed-end, owed-next, row-marked}
 use Rattle.heap_indexed.proofs.waiting.report_missing.Goals as goal
 use Rattle.heap_indexed.proofs.waiting.report_missing.Goals.{then-is_missing+in_ok-add_rule, else-is_missing}
+
+pub loop-i-init : goal.loop-i-init
+loop-i-init c = λ found all. Leaves-none report_lists c.args.report.now (run_lists c.args.number found c.args.run.now.rows)
 
 pub loop-i-preserved : goal.loop-i-preserved
 loop-i-preserved c = λ found all.
@@ -18,12 +22,12 @@ loop-i-preserved c = λ found all.
     let lt : i < length run.rows = omega arith in
     elim c.if-is_missing.branch [
       | then-is_missing+in_ok-add_rule w ↦
-          subst (λ (r : Lists). joined r (run_lists c.args.number found (drop (i + 1) run.rows)) ≡ joined c.args.report.now (run_lists c.args.number found run.rows)) (sym w.report-is)
+          subst (λ (r : Lists). Leaves report_lists c.args.report.now r (run_lists c.args.number found run.rows) (run_lists c.args.number found (drop (i + 1) run.rows))) (sym w.report-is)
           (owed-next c.args.number found run.rows i c.args.report.now c.loop-i.report w.add_rule.new.self _ lt
           (row-marked c.args.number found run.rows run.missing i w.tid.result c.is_missing.result (Some X1) all lt (w.tid.ensures any-row) c.is_missing.ensures (ap (λ (m : Bool). missing_rule (not m)) (sym w.if-is_missing.true)))
           (c.loop-i.invariant found all) w.in_ok-add_rule.ensures)
       | else-is_missing w ↦
-          subst (λ (r : Lists). joined r (run_lists c.args.number found (drop (i + 1) run.rows)) ≡ joined c.args.report.now (run_lists c.args.number found run.rows)) (sym w.report-is)
+          subst (λ (r : Lists). Leaves report_lists c.args.report.now r (run_lists c.args.number found run.rows) (run_lists c.args.number found (drop (i + 1) run.rows))) (sym w.report-is)
           (owed-next c.args.number found run.rows i c.args.report.now c.loop-i.report c.loop-i.report nothing lt
           (row-marked c.args.number found run.rows run.missing i (get_or run.rows i any-row).tid c.is_missing.result None all lt refl c.is_missing.ensures (ap (λ (m : Bool). missing_rule (not m)) (sym w.if-is_missing.false)))
           (c.loop-i.invariant found all) (sym (report_lists.with_none c.loop-i.report)))

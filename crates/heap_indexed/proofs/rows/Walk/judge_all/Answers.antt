@@ -1,13 +1,13 @@
-use Rattle.std.proofs.Common.{◌∙◌, sym, ap, subst}
+use Rattle.std.proofs.Common.{◌∙◌, sym, subst}
 use Rattle.outside.specs.Adds.{Begins}
 use Rattle.outside.proofs.Adding.{Adds-exit}
-use Rattle.reports.specs.Added.{joined, report_lists}
+use Rattle.reports.specs.Added.{report_lists}
 use Rattle.reports.specs.Lists.{Lists}
 use Rattle.bt_levels.specs.Sound.{HoldsTree}
 use Rattle.heap_indexed.specs.declared.joined.IndexedHeap.{IndexedHeap}
 use Rattle.heap_indexed.specs.Looking.{AreOf}
 use Rattle.heap_indexed.specs.Waiting.{owed_ahead, owed_in, tree_in}
-use Rattle.heap_indexed.proofs.Settling.{Adds-last}
+use Rattle.heap_indexed.proofs.Settling.{Adds-last, owed-is}
 use Rattle.heap_indexed.proofs.Walks.{ahead-alone}
 use Rattle.heap_indexed.proofs.rows.Walk.judge_all.Goals as goal
 
@@ -25,7 +25,7 @@ pub returns-clause-lists : goal.returns-clause-lists
 returns-clause-lists g c = λ names told.
     let owed = owed_ahead names (tree_in c.args.self.now) c.args.cursor.now in
     Adds-last c.finish.result c.args.report.now c.judge_rows.new.report c.finish.new.report owed (owed_in names (tree_in c.judge_rows.new.self) c.judge_rows.new.self.waiting)
-    (c.in_ok-judge_rows.ensures.lists names told ∙ ap (joined c.args.report.now) (ahead-alone names c.args.self.now c.args.cursor.now c.requires.none))
+    (owed-is (ahead-alone names c.args.self.now c.args.cursor.now c.requires.none) (c.in_ok-judge_rows.ensures.lists names told))
     (c.finish.ensures.lists names (c.judge_rows.ensures.asked.same ∙ told))
 
 pub finish-requires-clause-of : goal.finish-requires-clause-of

@@ -1,13 +1,13 @@
 use Rattle.std.proofs.Common.{◌≡◌, ◌∙◌, ◌∷◌, ◌++◌, [], List, length, ap, sym, subst}
 use Rattle.outside.specs.Adds.{Begins}
-use Rattle.outside.proofs.Adding.{Begins-cut}
+use Rattle.outside.proofs.Adding.{Begins-cut, Leaves-added, Leaves-none}
 use Rattle.reports.specs.Added.{joined, nothing, report_lists}
 use Rattle.reports.specs.Lists.{Lists}
 use Rattle.key_runs.specs.Rows.{Gathered, GatheredRow, gathered_row}
 use Rattle.heap_indexed.specs.Looking.{look_up_visits}
 use Rattle.heap_indexed.specs.Waiting.{lists_of, owed_in, rows_in}
-use Rattle.heap_indexed.proofs.Settling.{Settles-added, Settles-exit, Settles-then}
-use Rattle.heap_indexed.proofs.Walks.{owed-none, owed-push, owed-same, settled-more, visits-none, visits-one}
+use Rattle.heap_indexed.proofs.Settling.{Settles-added, Settles-exit, Settles-then, left-is, owed-is}
+use Rattle.heap_indexed.proofs.Walks.{owed-none, owed-push, owed-same, visits-none, visits-one}
 use Rattle.heap_indexed.proofs.waiting.Waiting.add_row.Goals as goal
 
 pub probe-requires-2-clause-holds : goal.probe-requires-2-clause-holds
@@ -25,14 +25,14 @@ returns-then-is_in_order-clause-lists g c = λ names told.
     let rest : joined lists (owed_in names tree new) ≡ joined (owed_in names tree old) lists =
     ap (joined lists) left ∙ report_lists.with_none lists ∙ sym (ap (λ (l : Lists). joined l lists) none) in
     Settles-then c.probe.result c.args.report.now c.args.report.now c.probe.new.report (joined (owed_in names tree old) lists) (joined lists (owed_in names tree new)) (owed_in names tree new)
-    (ap (joined c.args.report.now) rest)
+    (owed-is rest (Leaves-none report_lists c.args.report.now (joined lists (owed_in names tree new))))
     (Settles-added c.probe.result c.args.report.now c.probe.new.report lists (owed_in names tree new) (c.probe.ensures.lists names told))
 
 pub returns-then-push-clause-lists : goal.returns-then-push-clause-lists
 returns-then-push-clause-lists g c = λ names told.
     let r = gathered_row c.args.row.place.tid c.args.row.place.root c.args.row.key.now in
     let tree = c.args.row.tree.now in
-    ap (joined c.args.report.now) (owed-push names tree c.args.self.now c.push.new.self r c.if-push.ensures.added)
+    owed-is (owed-push names tree c.args.self.now c.push.new.self r c.if-push.ensures.added) (Leaves-none report_lists c.args.report.now (owed_in names tree c.push.new.self))
 
 pub returns-in_err-finish-clause-lists : goal.returns-in_err-finish-clause-lists
 returns-in_err-finish-clause-lists g c = λ names told.
@@ -55,7 +55,7 @@ returns-then-push-2-clause-lists g c = λ names told.
     let left : owed_in names tree c.push-2.new.self ≡ lists_of names tree r =
     owed-push names tree c.finish.new.self c.push-2.new.self r c.if-push-2.ensures.added
     ∙ ap (λ (l : Lists). joined l (lists_of names tree r)) (owed-none names tree c.finish.new.self c.in_ok-finish.ensures.done) in
-    ap (joined c.finish.new.report) left ∙ settled-more c.args.report.now c.finish.new.report (owed_in names tree old) (lists_of names tree r) added
+    left-is (sym left) (Leaves-added report_lists c.args.report.now c.finish.new.report (owed_in names tree old) (lists_of names tree r) added)
 
 pub returns-clause-lists : goal.returns-clause-lists
 returns-clause-lists g c = λ names told.
@@ -72,7 +72,7 @@ returns-clause-lists g c = λ names told.
     let rest : joined (lists_of names tree r) (owed_in names tree new) ≡ lists_of names tree r =
     ap (joined (lists_of names tree r)) none ∙ report_lists.with_none (lists_of names tree r) in
     Settles-then c.probe-2.result c.args.report.now c.finish.new.report c.probe-2.new.report (joined (owed_in names tree old) (lists_of names tree r)) (joined (lists_of names tree r) (owed_in names tree new)) (owed_in names tree new)
-    (ap (joined c.finish.new.report) rest ∙ settled-more c.args.report.now c.finish.new.report (owed_in names tree old) (lists_of names tree r) added)
+    (left-is (sym rest) (Leaves-added report_lists c.args.report.now c.finish.new.report (owed_in names tree old) (lists_of names tree r) added))
     (Settles-added c.probe-2.result c.finish.new.report c.probe-2.new.report (lists_of names tree r) (owed_in names tree new) (c.probe-2.ensures.lists names (c.finish.ensures.asked.same ∙ told)))
 
 pub probe-requires-2-clause-of : goal.probe-requires-2-clause-of
