@@ -1,6 +1,7 @@
 pub mod AllLaws
 pub mod Answers
 pub mod CaseLaws
+pub mod GeneratedLaws
 pub mod HeadlineLaws
 pub mod HeapLaws
 pub mod IndexLaws
@@ -10,4 +11,5 @@ pub mod NumberedLaws
 pub mod PagesLaws
 pub mod TreesLaws
 pub mod TogetherLaws
+pub mod WholeLaws
 pub mod Worth

@@ -48,25 +48,35 @@ whole_judged names case = unless_refused (all_refusal case names) case (all_foun
 abbrev pub all_judged : (file : List ℕ) → Names → Judged
 all_judged file names = of_read (whole_judged names) (case_in file names)
 
--- a rule is broken, or a place is in doubt, in the files of the case's table, in that of one of its indexes, or between
+-- a rule is broken, or a place is in doubt, in the files of a case's table, in that of one of its indexes, or between
 -- the two
-pub data BreaksAll (file : List ℕ) (names : Names) (rule : Rule) (place : Place) : Type 0 where
-  in_table : (case : CaseRecord) → case_in file names ≡ Ok case → BreaksTable case names rule place
-      → BreaksAll file names rule place
-  in_index : (case : CaseRecord) → case_in file names ≡ Ok case → (n : ℕ) → IsNumber case n
-      → BreaksNumbered case names n rule place → BreaksAll file names rule place
+pub data BreaksCase (case : CaseRecord) (names : Names) (rule : Rule) (place : Place) : Type 0 where
+  in_table : BreaksTable case names rule place → BreaksCase case names rule place
+  in_index : (n : ℕ) → IsNumber case n → BreaksNumbered case names n rule place → BreaksCase case names rule place
 
-pub data DoubtsAll (file : List ℕ) (names : Names) (reason : Reason) (place : Place) : Type 0 where
-  in_table : (case : CaseRecord) → case_in file names ≡ Ok case → DoubtsTable case names reason place
-      → DoubtsAll file names reason place
-  in_index : (case : CaseRecord) → case_in file names ≡ Ok case → (n : ℕ) → IsNumber case n
-      → DoubtsNumbered case names n reason place → DoubtsAll file names reason place
+pub data DoubtsCase (case : CaseRecord) (names : Names) (reason : Reason) (place : Place) : Type 0 where
+  in_table : DoubtsTable case names reason place → DoubtsCase case names reason place
+  in_index : (n : ℕ) → IsNumber case n → DoubtsNumbered case names n reason place → DoubtsCase case names reason place
 
--- the file means a case, what is said of a clean heap is true of its heap, and each of its indexes breaks no rule on
--- its pages or on its levels, and is true to the table, as specs/Headline says
-pub record HasTrueIndexes (file : List ℕ) (names : Names) : Type 0 where
-  pub case : CaseRecord
-  pub meant : case_in file names ≡ Ok case
+-- what is said of a clean heap is true of the case's heap, and each of its indexes breaks no rule on its pages or on
+-- its levels, and is true to the table, as specs/Headline says
+pub record IsTrueCase (case : CaseRecord) (names : Names) : Type 0 where
   pub heap : IsTrueHeap case names
   pub trees : (n : ℕ) → IsNumber case n → IsTrueTree (tree_of case names n)
   pub indexes : (n : ℕ) → IsNumber case n → IsTrueIndex case names n
+
+-- the file means a case, of which this is said
+pub record BreaksAll (file : List ℕ) (names : Names) (rule : Rule) (place : Place) : Type 0 where
+  pub case : CaseRecord
+  pub meant : case_in file names ≡ Ok case
+  pub breaks : BreaksCase case names rule place
+
+pub record DoubtsAll (file : List ℕ) (names : Names) (reason : Reason) (place : Place) : Type 0 where
+  pub case : CaseRecord
+  pub meant : case_in file names ≡ Ok case
+  pub doubts : DoubtsCase case names reason place
+
+pub record HasTrueIndexes (file : List ℕ) (names : Names) : Type 0 where
+  pub case : CaseRecord
+  pub meant : case_in file names ≡ Ok case
+  pub is_true : IsTrueCase case names

@@ -1,6 +1,6 @@
 -- The commands: what each finds, which rules are its own, and what its report is worth. Each has a file of its own for
 -- what is said here by cases.
-use Rattle.std.specs.Prelude.{◌≡◌, ℕ, ◌⊎◌, List, All, Option, Some, None, Ok}
+use Rattle.std.specs.Prelude.{◌≡◌, ◌≢◌, ℕ, ◌⊎◌, List, [], All, Option, Some, None, Ok}
 use Rattle.outside.specs.Outside.{Names}
 use Rattle.outside.specs.declared.files.Part.TheVariants.{Segment}
 use Rattle.page_layout.specs.declared.rules.Rule.{Rule}
@@ -10,13 +10,15 @@ use Rattle.reports.specs.declared.places.Place.{Place}
 use Rattle.reports.specs.declared.places.Reason.{Reason}
 use Rattle.amcheck_cmd.specs.All.{BreaksAll, DoubtsAll, HasTrueIndexes, all_judged}
 use Rattle.amcheck_cmd.specs.Answers.{GaveUp}
+use Rattle.amcheck_cmd.specs.Generated.{BreaksGenerated, DoubtsGenerated, IsTrueGenerated, counts_of, generated_judged}
+use Rattle.amcheck_cmd.specs.Generated.{generated_owed}
 use Rattle.amcheck_cmd.specs.Heap.{BreaksHeap, DoubtsHeap, HasTrueHeap, heap_judged}
 use Rattle.amcheck_cmd.specs.Index.{BreaksIndex, DoubtsIndex, HasTrueIndex, index_judged}
 use Rattle.amcheck_cmd.specs.Numbered.{IsBehind}
-use Rattle.amcheck_cmd.specs.Outcome.{Judged, Meets, Outcome, owed_by, reported, usage}
+use Rattle.amcheck_cmd.specs.Outcome.{Judged, Meets, Outcome, owed_under, reported_under, usage}
 use Rattle.amcheck_cmd.specs.Pages.{BreaksFile, pages_judged}
 use Rattle.amcheck_cmd.specs.Show.{show_outcome}
-use Rattle.amcheck_cmd.specs.Words.{All as Every, Check, Form, Heap, Index, Judge, Pages, Show, form_of}
+use Rattle.amcheck_cmd.specs.Words.{All as Every, Check, Form, Generated, Heap, Index, Judge, Pages, Show, form_of}
 
 -- what a command that judges finds
 abbrev pub judged_by : Check → Names → Judged
@@ -24,10 +26,19 @@ judged_by (Pages name) names = pages_judged name (names name (Segment 0))
 judged_by (Heap name) names = heap_judged name names
 judged_by (Index case name) names = index_judged case name names
 judged_by (Every case) names = all_judged case names
+judged_by (Generated seed rows) names = generated_judged seed rows
+
+-- the lines that stand before its report
+abbrev pub heading_of : Check → List ℕ
+heading_of (Pages name) = []
+heading_of (Heap name) = []
+heading_of (Index case name) = []
+heading_of (Every case) = []
+heading_of (Generated seed rows) = counts_of seed rows
 
 -- what a command owes
 abbrev pub outcome_of : Form → Names → Outcome
-outcome_of (Judge check) names = owed_by (judged_by check names)
+outcome_of (Judge check) names = owed_under (heading_of check) (judged_by check names)
 outcome_of (Show kind name block) names = show_outcome kind name block (names name (Segment 0))
 
 abbrev pub outcome_by : Option Form → Names → Outcome
@@ -44,6 +55,7 @@ IsBroken (Pages name) names rule place = BreaksFile (names name (Segment 0)) rul
 IsBroken (Heap name) names rule place = BreaksHeap name names rule place
 IsBroken (Index case name) names rule place = BreaksIndex case name names rule place
 IsBroken (Every case) names rule place = BreaksAll case names rule place
+IsBroken (Generated seed rows) names rule place = BreaksGenerated seed rows rule place
 
 -- a place of the command's files can't be judged
 abbrev pub IsInDoubt : Check → Names → Reason → Place → Type 0
@@ -51,6 +63,7 @@ IsInDoubt (Pages name) names reason place = ⊥
 IsInDoubt (Heap name) names reason place = DoubtsHeap name names reason place
 IsInDoubt (Index case name) names reason place = DoubtsIndex case name names reason place
 IsInDoubt (Every case) names reason place = DoubtsAll case names reason place
+IsInDoubt (Generated seed rows) names reason place = DoubtsGenerated seed rows reason place
 
 -- what is true of the command's files where they are clean; of an index it is said in specs/Headline
 abbrev pub IsTrue : Check → Names → Type 0
@@ -58,6 +71,7 @@ IsTrue (Pages name) names = Unit {0}
 IsTrue (Heap name) names = HasTrueHeap name names
 IsTrue (Index case name) names = HasTrueIndex case name names
 IsTrue (Every case) names = HasTrueIndexes case names
+IsTrue (Generated seed rows) names = IsTrueGenerated seed rows
 
 abbrev pub BreaksNothing : Check → Names → Type 0
 BreaksNothing check names = (rule : Rule) (place : Place) → IsBroken check names rule place → ⊥
@@ -80,7 +94,7 @@ pub record IsComplete (check : Check) (names : Names) (lists : Lists) : Type 0 w
 -- what a report is worth, and the answer of the run that made it
 pub record IsWorth (check : Check) (names : Names) (lists : Lists) (old new : Option (List ℕ)) (code : ℕ) : Type 0 where
   -- it is what is written and answered, but for faults and want of memory
-  pub written : Meets (reported lists) old new code
+  pub written : Meets (reported_under (heading_of check) lists) old new code
   -- it finds only what is broken or in doubt
   pub sound : IsSound check names lists
   -- and names each place where something is, or the first of the rules on levels
@@ -97,3 +111,18 @@ abbrev pub ForReport : List (List ℕ) → Names → (Check → Lists → Type 0
 ForReport words names P =
     (check : Check) (lists : Lists) → form_of words ≡ Some (Judge check) → judged_by check names ≡ Ok lists
     → P check lists
+
+-- What holds of `gen`, which asks no files, whatever they hold and tell
+
+-- where this is what the words ask for, P holds of the seed and the number of rows
+abbrev pub ForGenerated : Option Form → ((seed rows : ℕ) → Type 0) → Type 0
+ForGenerated form P = (seed rows : ℕ) → form ≡ Some (Judge (Generated seed rows)) → P seed rows
+
+pub record IsGenerated (seed rows : ℕ) (names : Names) (old new : Option (List ℕ)) (code : ℕ) : Type 0 where
+  -- the lines and the report, or the refusal, are written and answered, but for faults and want of memory
+  pub written : Meets (generated_owed seed rows) old new code
+  -- no file that it could fail to read is read
+  pub read : code ≢ 7
+  -- and where there are not too many rows, this is what the report is worth
+  pub worth : (lists : Lists) → generated_judged seed rows ≡ Ok lists
+      → IsWorth (Generated seed rows) names lists old new code

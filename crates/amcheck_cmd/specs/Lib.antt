@@ -3,6 +3,7 @@ pub mod Answers
 pub mod Cases
 pub mod Commands
 pub mod Files
+pub mod Generated
 pub mod Headline
 pub mod Heap
 pub mod Index

@@ -1,5 +1,5 @@
 -- What a run writes and answers: a refusal, a report or a page.
-use Rattle.std.specs.Prelude.{◌≡◌, ◌≢◌, ℕ, List, ◌++◌, take, codes, decimal, Option, Some, None, Result, Ok, Err}
+use Rattle.std.specs.Prelude.{◌≡◌, ◌≢◌, ℕ, List, [], ◌++◌, take, codes, decimal, Option, Some, None, Result, Ok, Err}
 use Rattle.outside.specs.Outside.{appended}
 use Rattle.case_file.specs.Rules.{rule_code}
 use Rattle.case_file.specs.declared.fault.CaseRule.{CaseRule}
@@ -7,7 +7,7 @@ use Rattle.reports.specs.Lists.{Lists}
 use Rattle.reports.specs.Texts.{report_text, verdict_of}
 use Rattle.amcheck_cmd.specs.Answers.{answer_by, answer_code}
 use Rattle.amcheck_cmd.specs.declared.output.Unit.{Unit}
-use Rattle.amcheck_cmd.specs.declared.output.Unit.TheVariants.{Blocks, Bytes}
+use Rattle.amcheck_cmd.specs.declared.output.Unit.TheVariants.{Blocks, Bytes, Rows}
 use Rattle.amcheck_cmd.specs.declared.status.Answer.TheVariants.{CaseRefused, NoFile, TooLarge, NoBlock}
 
 -- the bytes and the code that a run owes
@@ -27,8 +27,10 @@ no_file name = record { bytes = codes "refused no file " ++ name ++ codes "\n"; 
 abbrev pub unit_word : Unit → List ℕ
 unit_word Blocks = codes " blocks "
 unit_word Bytes = codes " bytes "
+unit_word Rows = codes " rows "
 
--- a file that has so many blocks, or a case file of so many bytes, and may have no more than the limit
+-- a file that has so many blocks, a case file of so many bytes, or a table that is to have so many rows, and may have
+-- no more than the limit
 abbrev pub too_large : List ℕ → Unit → (count limit : ℕ) → Outcome
 too_large name unit count limit = record {
   bytes = codes "refused too large " ++ name ++ unit_word unit ++ decimal count ++ codes " limit " ++ decimal limit
@@ -56,19 +58,26 @@ refused_or None owed = owed
 
 -- Reports
 
-abbrev pub reported : Lists → Outcome
-reported lists = record {
-  bytes = report_text lists.findings lists.unjudged;
+-- a report behind some lines
+abbrev pub reported_under : (heading : List ℕ) → Lists → Outcome
+reported_under heading lists = record {
+  bytes = heading ++ report_text lists.findings lists.unjudged;
   code = answer_code (answer_by (verdict_of lists.findings lists.unjudged));
 }
+
+abbrev pub reported : Lists → Outcome
+reported = reported_under []
 
 -- what a command finds: its report, or the refusal that comes first
 abbrev pub Judged : Type 0
 Judged = Result Lists Outcome
 
+abbrev pub owed_under : (heading : List ℕ) → Judged → Outcome
+owed_under heading (Ok lists) = reported_under heading lists
+owed_under heading (Err refusal) = refusal
+
 abbrev pub owed_by : Judged → Outcome
-owed_by (Ok lists) = reported lists
-owed_by (Err refusal) = refusal
+owed_by = owed_under []
 
 -- The end of a run
 

@@ -5,7 +5,7 @@ use Rattle.amcheck_cmd.specs.Answers.{answer_code}
 use Rattle.amcheck_cmd.specs.Cases.{CaseRead}
 use Rattle.amcheck_cmd.specs.Files.{lone_file_refusal}
 use Rattle.amcheck_cmd.specs.Outcome.{Outcome}
-use Rattle.amcheck_cmd.specs.Words.{All, Form, Heap, Index, Judge, Pages, Show}
+use Rattle.amcheck_cmd.specs.Words.{All, Form, Generated, Heap, Index, Judge, Pages, Show}
 use Rattle.amcheck_cmd.specs.declared.blocks.Opening.{Opening}
 use Rattle.amcheck_cmd.specs.declared.blocks.Opening.TheVariants.{Blocks, Refused}
 use Rattle.amcheck_cmd.specs.declared.case.CaseOpening.{CaseOpening}
@@ -13,7 +13,7 @@ use Rattle.amcheck_cmd.specs.declared.case.CaseOpening.TheVariants.{Opened, Refu
 use Rattle.amcheck_cmd.specs.declared.words.Command.{Command}
 use Rattle.amcheck_cmd.specs.declared.words.Command.TheVariants.{Pages as pages_command, Heap as heap_command}
 use Rattle.amcheck_cmd.specs.declared.words.Command.TheVariants.{Index as index_command, All as all_command}
-use Rattle.amcheck_cmd.specs.declared.words.Command.TheVariants.{Show as show_command}
+use Rattle.amcheck_cmd.specs.declared.words.Command.TheVariants.{Show as show_command, Gen as gen_command}
 use Rattle.amcheck_cmd.specs.declared.output.Output.{Output}
 
 -- the form of a command
@@ -23,6 +23,7 @@ form_seen (heap_command case) = Judge (Heap case.now)
 form_seen (index_command case name) = Judge (Index case.now name.now)
 form_seen (all_command case) = Judge (All case.now)
 form_seen (show_command kind file block) = Show kind file.now block
+form_seen (gen_command seed rows) = Judge (Generated seed rows)
 
 -- the same, where there is one
 abbrev pub form_asked : Option Command → Option Form

@@ -2,7 +2,7 @@
 use Rattle.std.specs.Prelude.{ℕ, List, [], ◌∷◌, Option, Some, None, codes, if◌then◌else◌}
 use Rattle.std.specs.Option.{option_map}
 use Rattle.std.specs.Str.{bytes_eq}
-use Rattle.amcheck_cmd.specs.Numbers.{block_written}
+use Rattle.amcheck_cmd.specs.Numbers.{u32_written, u64_written}
 use Rattle.amcheck_cmd.specs.declared.words.Shown.{Shown}
 use Rattle.amcheck_cmd.specs.declared.words.Shown.TheVariants as shown
 
@@ -16,6 +16,8 @@ pub data Check : Type 0 where
   Index : (case name : List ℕ) → Check
   -- all CASE
   All : List ℕ → Check
+  -- gen SEED ROWS
+  Generated : (seed rows : ℕ) → Check
 
 -- what the words ask for
 pub data Form : Type 0 where
@@ -61,8 +63,21 @@ unfoldable pub show_form : List (List ℕ) → Option Form
 show_form [] = None
 show_form (kind ∷ []) = None
 show_form (kind ∷ file ∷ []) = None
-show_form (kind ∷ file ∷ block ∷ []) = page_by (shown_by kind) file (block_written block)
+show_form (kind ∷ file ∷ block ∷ []) = page_by (shown_by kind) file (u32_written block)
 show_form (kind ∷ file ∷ block ∷ word ∷ words) = None
+
+-- a seed, and a number of rows
+abbrev pub generated_by : (seed rows : Option ℕ) → Option Form
+generated_by None rows = None
+generated_by (Some seed) None = None
+generated_by (Some seed) (Some rows) = Some (Judge (Generated seed rows))
+
+-- two words that write these
+unfoldable pub generated_form : List (List ℕ) → Option Form
+generated_form [] = None
+generated_form (seed ∷ []) = None
+generated_form (seed ∷ rows ∷ []) = generated_by (u64_written seed) (u32_written rows)
+generated_form (seed ∷ rows ∷ word ∷ words) = None
 
 -- a command's name, and the words after it
 unfoldable pub command_form : List ℕ → List (List ℕ) → Option Form
@@ -72,6 +87,7 @@ command_form command words =
     else if bytes_eq command (codes "index") then index_form words
     else if bytes_eq command (codes "all") then option_map (λ case. Judge (All case)) (name_alone words)
     else if bytes_eq command (codes "show") then show_form words
+    else if bytes_eq command (codes "gen") then generated_form words
     else None
 
 -- words that have none of the forms ask for nothing

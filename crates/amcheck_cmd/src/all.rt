@@ -101,8 +101,8 @@ fn trees_output<F: Files>(
     }
 }
 
-// The report on a case and on its indexes, or why its files can't be judged.
-fn case_output<F: Files>(alloc: Global, files: &mut F, case: &Case) -> Result<Output, RunFault>
+/// The report on the heap of a case and on each of its indexes, or why its files can't be judged.
+pub fn whole_output<F: Files>(alloc: Global, files: &mut F, case: &Case) -> Result<Output, RunFault>
     ensures output { Tells F.seen files.old result (λ o names.
         outcome_seen o ≡ owed_by (whole_judged names case.now)) }
     ensures asked { Asked F.seen files.old files.new result RunFault.ReadFault }
@@ -121,6 +121,6 @@ pub fn all_output<F: Files>(alloc: Global, files: &mut F, file: &str) -> Result<
 {
     match open_case(alloc, files, file)? {
         CaseOpening::Refused(output) => Ok(output),
-        CaseOpening::Opened(case) => case_output(alloc, files, &case),
+        CaseOpening::Opened(case) => whole_output(alloc, files, &case),
     }
 }

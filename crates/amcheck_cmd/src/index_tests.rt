@@ -5,7 +5,7 @@ use crate::fixtures::{
     in_doubt, page_of,
 };
 use crate::trees::{
-    FIVE, INDEX, IndexTuple, LONE_LEAF, NINE, THREE, TWO_LEVELS, TreePage, expect_index,
+    FIVE, INDEX, IndexTuple, LONE_LEAF, NINE, THREE, TO_FIRST, TWO_LEVELS, TreePage, expect_index,
     index_file, indexed_files, leaf, metapage, put_over,
 };
 use outside::{MemFiles, Part};
@@ -113,17 +113,20 @@ fn lists_of_tids(rt: HostRuntime) -> Result<(), Fail> {
     let alloc = rt.alloc();
     let second = Tuple { item: 2, ..LIVE };
     let heap = page_of(0, &[Item::Tuple(LIVE), Item::Tuple(second)]);
+    let broken = found(&["B9 index 1 block 1 item 1"]);
+    // The second TID's item, and how many TIDs the list says that it has.
     let rows = [
-        (2u8, NOTHING),
-        (1, found(&["B9 index 1 block 1 item 1"])),
-        (0, found(&["B9 index 1 block 1 item 1"])),
+        (2u8, 0x2002, NOTHING),
+        (1, 0x2002, broken),
+        (0, 0x2002, broken),
+        (2, 0x2fff, broken),
     ];
-    for (item, want) in rows {
+    for (second, item, want) in rows {
         let list = IndexTuple {
             block: 16,
-            item: 0x2002,
+            item,
             info: 0x2020,
-            body: &list_with(item),
+            body: &list_with(second),
         };
         let index = index_file(alloc, &[leaf(&[list])])?;
         let mut files = indexed_files(alloc, INT_COLUMN, "", &heap, index.as_slice())?;
@@ -195,6 +198,40 @@ fn metapages(rt: HostRuntime) -> Result<(), Fail> {
     ];
     for (at, byte, want) in rows {
         expect_over(&rt, alloc, (0, at, &[byte]), want)?;
+    }
+    Ok(())
+}
+
+#[test]
+fn an_index_that_was_cut(rt: HostRuntime) -> Result<(), Fail> {
+    let alloc = rt.alloc();
+    let heap = page_of(0, &THREE_ROWS);
+    let index = index_file(alloc, &[THREE])?;
+    let mut files = indexed_files(alloc, INT_COLUMN, "", &heap, index.as_slice())?;
+    assert!(rt; files.cut("i", Part::Segment(0), 8192));
+    expect_index(&rt, alloc, &mut files, found(&["M2 index 1 block 0"]))
+}
+
+// The root leads to itself, and the metapage says that the root has a level that no tree has.
+#[test]
+fn pages_that_lie(rt: HostRuntime) -> Result<(), Fail> {
+    let alloc = rt.alloc();
+    let heap = page_of(0, &THREE_ROWS);
+    let to_itself = TreePage {
+        level: 1,
+        flags: 2,
+        tuples: &[TO_FIRST],
+        ..LONE_LEAF
+    };
+    let to_itself = index_file(alloc, &[to_itself])?;
+    let mut high = index_file(alloc, &[THREE])?;
+    put_over(&mut high, 0, 36, &[0xff, 0xff, 0xff, 0xff]);
+    for (index, want) in [
+        (to_itself, found(&["B13 index 1 block 1 item 1"])),
+        (high, found(&["L1 index 1 block 0"])),
+    ] {
+        let mut files = indexed_files(alloc, INT_COLUMN, "", &heap, index.as_slice())?;
+        expect_index(&rt, alloc, &mut files, want)?;
     }
     Ok(())
 }

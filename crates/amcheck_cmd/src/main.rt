@@ -9,6 +9,9 @@ mod fault;
 mod fault_tests;
 #[cfg(test)]
 mod fixtures;
+mod generated;
+#[cfg(test)]
+mod generated_tests;
 mod heap;
 #[cfg(test)]
 mod heap_tests;

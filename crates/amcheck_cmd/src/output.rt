@@ -31,11 +31,12 @@ pub fn no_file_output(alloc: Global, name: &str) -> Result<Output, NoMemory>
     })
 }
 
-/// What a file has too much of.
+/// What a file, or a table that is to be built, has too much of.
 #[derive(Clone, Copy, Debug, PartialEq, Eq)]
 pub enum Unit {
     Blocks,
     Bytes,
+    Rows,
 }
 
 impl Unit {
@@ -48,11 +49,12 @@ impl Unit {
         match self {
             Unit::Blocks => b" blocks ",
             Unit::Bytes => b" bytes ",
+            Unit::Rows => b" rows ",
         }
     }
 }
 
-/// The refusal of a file that has so much, and may have no more than the limit.
+/// The refusal of what has so much, and may have no more than the limit: a file, or for `gen` the table.
 pub fn too_large_output(
     alloc: Global,
     name: &str,

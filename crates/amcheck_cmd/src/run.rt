@@ -1,13 +1,15 @@
 //! The top call.
-ghost use Rattle.std.specs.Prelude.{◌≡◌, ◌≤◌, ◌⊎◌, None, false, map, string_bytes};
-ghost use Rattle.outside.specs.Outside.{Asked, IfTold, Rose, Tells};
-ghost use Rattle.amcheck_cmd.specs.Commands.{ForReport, IsWorth, outcome, outcome_of};
+ghost use Rattle.std.specs.Prelude.{◌≡◌, ◌≢◌, ◌≤◌, ◌⊎◌, Err, IfOk, None, Some, false, map, string_bytes};
+ghost use Rattle.outside.specs.Outside.{Asked, IfTold, Names, Rose, Tells};
+ghost use Rattle.amcheck_cmd.specs.Commands.{ForGenerated, ForReport, IsGenerated, IsWorth, outcome, outcome_of};
+ghost use Rattle.amcheck_cmd.specs.Generated.{generated_owed};
 ghost use Rattle.amcheck_cmd.specs.Outcome.{Meets, usage};
 ghost use Rattle.amcheck_cmd.specs.Seen.{form_seen, outcome_seen};
 ghost use Rattle.amcheck_cmd.specs.Words.{form_of};
 
 use crate::all::all_output;
 use crate::fault::RunFault;
+use crate::generated::gen_output;
 use crate::heap::heap_output;
 use crate::index::index_output;
 use crate::laws::reports_have_worth;
@@ -28,6 +30,9 @@ fn output_of<F: Files>(
 ) -> Result<Output, RunFault>
     ensures output { Tells F.seen files.old result (λ o names.
         outcome_seen o ≡ outcome_of (form_seen command.entry) names) }
+    ensures generated { ForGenerated (Some (form_seen command.entry)) (λ seed rows.
+        IfOk result (λ o. outcome_seen o ≡ generated_owed seed rows)) }
+    ensures unread { ForGenerated (Some (form_seen command.entry)) (λ seed rows. result ≢ Err RunFault.ReadFault) }
     ensures asked { Asked F.seen files.old files.new result RunFault.ReadFault }
 {
     match command {
@@ -36,6 +41,7 @@ fn output_of<F: Files>(
         Command::Index { case, name } => index_output(alloc, files, case, name),
         Command::All(case) => all_output(alloc, files, case),
         Command::Show { of, file, block } => show_output(alloc, files, of, file, block),
+        Command::Gen { seed, rows } => gen_output(alloc, seed, rows),
     }
 }
 
@@ -55,6 +61,9 @@ pub fn run<F: Files, S: Sink>(
     // finds nothing, that each search finds what it should and each live tuple is found, stands in specs/Headline.
     ensures report { IfTold F.seen files.old (λ names. ForReport (map string_bytes words.now) names (λ check lists.
         IsWorth check names lists (S.written sink.old) (S.written sink.new) result.code)) }
+    // So it is with `gen` whatever the files hold and tell: it reads none of them.
+    ensures generated { ForGenerated (form_of (map string_bytes words.now)) (λ seed rows. (names : Names)
+        → IsGenerated seed rows names (S.written sink.old) (S.written sink.new) result.code) }
     // Words without a form are refused whatever the files hold, and no other words are.
     ensures refused { form_of (map string_bytes words.now) ≡ None →
         Meets usage (S.written sink.old) (S.written sink.new) result.code

@@ -1,12 +1,12 @@
 //! The forms of a command line.
 ghost use Rattle.std.specs.Prelude.{◌≡◌, map, string_bytes};
 ghost use Rattle.std.specs.Option.{option_copied};
-ghost use Rattle.amcheck_cmd.specs.Numbers.{block_written};
+ghost use Rattle.amcheck_cmd.specs.Numbers.{u32_written, u64_written};
 ghost use Rattle.amcheck_cmd.specs.Seen.{form_asked};
-ghost use Rattle.amcheck_cmd.specs.Words.{command_form, form_of, index_by, index_form, name_alone};
-ghost use Rattle.amcheck_cmd.specs.Words.{page_by, show_form, shown_by};
+ghost use Rattle.amcheck_cmd.specs.Words.{command_form, form_of, generated_by, generated_form, index_by, index_form};
+ghost use Rattle.amcheck_cmd.specs.Words.{name_alone, page_by, show_form, shown_by};
 
-use crate::numbers::block_written;
+use crate::numbers::{u32_written, u64_written};
 
 /// What a page is shown as a page of.
 #[derive(Clone, Copy, Debug, PartialEq, Eq)]
@@ -41,6 +41,13 @@ pub enum Command<'w> {
         file: &'w str,
         /// The page's block number.
         block: u32,
+    },
+    /// `gen SEED ROWS`: build a table and two indexes in memory, and judge them.
+    Gen {
+        /// What the pseudo-random numbers begin with.
+        seed: u64,
+        /// How many rows the table is to have.
+        rows: u32,
     },
 }
 
@@ -92,12 +99,12 @@ fn shown_by(word: &str) -> Option<Shown>
 
 // A page of a file, whose name isn't empty, by its kind and the number of its block.
 fn page_by<'w>(kind: &str, file: &'w str, block: &str) -> Option<Command<'w>>
-    ensures { form_asked result ≡ page_by (shown_by kind.now) file.now (block_written block.now) }
+    ensures { form_asked result ≡ page_by (shown_by kind.now) file.now (u32_written block.now) }
 {
     if file.is_empty() {
         return None;
     }
-    match (shown_by(kind), block_written(block)) {
+    match (shown_by(kind), u32_written(block)) {
         (Some(of), Some(block)) => Some(Command::Show { of, file, block }),
         _ => None,
     }
@@ -110,6 +117,27 @@ fn show_command(words: &[String]) -> Option<Command<'_>>
 {
     match words {
         [kind, file, block] => page_by(kind.as_str(), file.as_str(), block.as_str()),
+        _ => None,
+    }
+}
+
+// A seed and a number of rows.
+fn generated_by<'w>(seed: &str, rows: &str) -> Option<Command<'w>>
+    ensures { form_asked result ≡ generated_by (u64_written seed.now) (u32_written rows.now) }
+{
+    match (u64_written(seed), u32_written(rows)) {
+        (Some(seed), Some(rows)) => Some(Command::Gen { seed, rows }),
+        _ => None,
+    }
+}
+
+// The words after `gen`.
+#[tactic(auto, unfolding(crate::specs::Words::generated_form))]
+fn gen_command(words: &[String]) -> Option<Command<'_>>
+    ensures { form_asked result ≡ generated_form (map string_bytes words.now) }
+{
+    match words {
+        [seed, rows] => generated_by(seed.as_str(), rows.as_str()),
         _ => None,
     }
 }
@@ -133,6 +161,9 @@ fn named_command<'w>(command: &str, words: &'w [String]) -> Option<Command<'w>>
     }
     if command == "show" {
         return show_command(words);
+    }
+    if command == "gen" {
+        return gen_command(words);
     }
     None
 }
