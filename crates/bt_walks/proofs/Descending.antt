@@ -17,25 +17,28 @@ use Rattle.bt_walks.specs.Downlinks.{TreeDownlink, cursor_of}
 use Rattle.bt_walks.specs.Reading.{IsOfLevel, IsReading}
 use Rattle.bt_walks.specs.Sets.{is_in}
 use Rattle.bt_walks.specs.Trees.{image_of, order_in, same_in}
-use Rattle.bt_walks.specs.Walked.{AreLevelsJudged, ChangesDownlinks, IsLevelJudged, IsTreeJudged, StandsBefore}
+use Rattle.bt_walks.specs.Walked.{AreLevelsJudged, ChangesDownlinks, HasEnough, IsLevelJudged, IsTreeJudged, StandsBefore}
+use Rattle.bt_walks.proofs.Counting.{few_below}
 use Rattle.bt_walks.proofs.Judging.{reads_below}
 
 -- before the one downlink to the top level no page is left to be read
-pub top_reads : (tree : Tree) (dead : ℕ → Bool) (d : Downlinks) (root : ℕ) → root ≡ (image_of tree).root → cursor_of tree.specs tree.more d ≡ record { items = (None, root) ∷ []; lower = None; block = 0 }
-    → IsReading (image_of tree) dead (suc (image_of tree).level) tree.blocks (cursor_of tree.specs tree.more d) (downlinks (image_of tree) 0)
-top_reads tree dead d root is at =
-    subst (λ k. IsReading (image_of tree) dead (suc (image_of tree).level) tree.blocks k (downlinks (image_of tree) 0)) (sym at)
-    (record { pages = 0; few = omega arith; leads = refl; of_level = tt; is = ap (λ (r : ℕ). (None, r) ∷ []) is })
+pub top_reads : (tree : Tree) (dead : ℕ → Bool) (d : Downlinks) (root : ℕ) → root ≡ (image_of tree).root → cursor_of tree.specs tree.more d ≡ record { items = (None, root) ∷ []; lower = None; block = 0 } → tree.blocks ≡ d.turns_left
+    → IsReading (image_of tree) dead (suc (image_of tree).level) d.turns_left (cursor_of tree.specs tree.more d) (downlinks (image_of tree) 0)
+top_reads tree dead d root is at turns =
+    let few = few_below (image_of tree) (suc (image_of tree).level) in
+    subst (λ k. IsReading (image_of tree) dead (suc (image_of tree).level) d.turns_left k (downlinks (image_of tree) 0)) (sym at)
+    (record { pages = 0; few = omega (arith, few, turns); leads = refl; of_level = tt; is = ap (λ (r : ℕ). (None, r) ∷ []) is })
 
 -- the loop over the levels stands before this one, which has this number and stands n levels below the top
 pub record AtLevel (tree : Tree) (levels : Levels) (m n : ℕ) : Type 0 where
   pub stands : StandsBefore tree m levels (downlinks (image_of tree) n)
   pub before : IsBefore (same_in tree) (order_in tree) (image_of tree) (is_in levels.dead) (is_in levels.stands) m n
+  pub enough : HasEnough tree (suc m) levels
 
 module _ (tree : Tree) (local : HasSoundPages (order_in tree) (image_of tree)) (ne : (image_of tree).root ≢ 0) (roots : are_roots_misplaced (image_of tree) ≡ false) where
-  pub at_top : (levels : Levels) (m : ℕ) → m ≡ (image_of tree).level → StandsBefore tree (image_of tree).level levels (downlinks (image_of tree) 0) → ((b : ℕ) → is_in levels.dead b ≡ false) → ((b : ℕ) → is_in levels.stands b ≡ false) → AtLevel tree levels m 0
-  at_top levels m is stands dead standing =
-      subst (λ (k : ℕ). AtLevel tree levels k 0) (sym is) (record { stands = stands; before = before_first (same_in tree) (order_in tree) (image_of tree) ne (is_in levels.dead) (is_in levels.stands) dead standing })
+  pub at_top : (levels : Levels) (m : ℕ) → m ≡ (image_of tree).level → StandsBefore tree (image_of tree).level levels (downlinks (image_of tree) 0) → ((b : ℕ) → is_in levels.dead b ≡ false) → ((b : ℕ) → is_in levels.stands b ≡ false) → HasEnough tree (suc (image_of tree).level) levels → AtLevel tree levels m 0
+  at_top levels m is stands dead standing enough =
+      subst (λ (k : ℕ). AtLevel tree levels k 0) (sym is) (record { stands = stands; before = before_first (same_in tree) (order_in tree) (image_of tree) ne (is_in levels.dead) (is_in levels.stands) dead standing; enough = enough })
 
   pub entry_here : (levels : Levels) (m n : ℕ) → AtLevel tree levels m n → IsOfLevel (image_of tree) m (entry_page (downlinks (image_of tree) n))
   entry_here levels m n at =
@@ -58,7 +61,7 @@ module _ (tree : Tree) (local : HasSoundPages (order_in tree) (image_of tree)) (
 
     pub next_on : (m : ℕ) (after : Levels) → AtLevel tree levels (suc m) n → IsLevelJudged tree (suc m) (downlinks (image_of tree) n) levels new judged → judged.finding ≡ None
         → new.fastroot ≡ levels.fastroot → ChangesDownlinks new after
-        → ((level : ℕ) (left : List TreeDownlink) → IsReading (image_of tree) (is_in new.dead) (suc level) tree.blocks (record { items = []; lower = None; block = judged.first }) left
+        → ((level : ℕ) (left : List TreeDownlink) → IsReading (image_of tree) (is_in new.dead) (suc level) new.upper.turns_left (record { items = []; lower = None; block = judged.first }) left
         → new.fastroot ≡ (image_of tree).fastroot → StandsBefore tree level after left)
         → AtLevel tree after m (suc n)
     next_on m after at is none fastroot changes descends =
@@ -68,9 +71,10 @@ module _ (tree : Tree) (local : HasSoundPages (order_in tree) (image_of tree)) (
         let dead : is_in new.dead ≡ is_in after.dead = sym (ap (λ (l : Levels). is_in l.dead) changes) in
         let stands : is_in new.stands ≡ is_in after.stands = sym (ap (λ (l : Levels). is_in l.stands) changes) in
         record {
-          stands = descends m (downlinks (image_of tree) (suc n)) (reads_below tree (suc m) (downlinks (image_of tree) n) local here (is_in new.dead) judged.first (downlinks (image_of tree) (suc n)) passed.begins passed.chain next.1) (fastroot ∙ at.stands.fastroot);
+          stands = descends m (downlinks (image_of tree) (suc n)) (reads_below tree (suc m) (downlinks (image_of tree) n) local here (is_in new.dead) judged.first new.upper.turns_left (downlinks (image_of tree) (suc n)) passed.ends passed.begins passed.chain passed.turns next.1) (fastroot ∙ at.stands.fastroot);
           before = subst (λ (s : ℕ → Bool). IsBefore (same_in tree) (order_in tree) (image_of tree) (is_in after.dead) s m (suc n)) stands
               (subst (λ (d : ℕ → Bool). IsBefore (same_in tree) (order_in tree) (image_of tree) d (is_in new.stands) m (suc n)) dead next.0);
+          enough = subst (HasEnough tree (suc m)) (sym changes) (record { walks = passed.enough.walks; steps = passed.enough.steps });
         }
 
 pub none_is : (o : Option Finding) → is_some o ≡ false → o ≡ None

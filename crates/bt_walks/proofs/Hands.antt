@@ -56,7 +56,7 @@ module _ (specs : List KeySpec) (more : List MoreSpec) (old : Downlinks) (i : �
     bound_is : (cursor_of specs more old).lower ≡ (page_image specs more old.page).high_key
     bound_is = ap (hand_bound specs more old.page old.lower) at
 
-    pub advanced_in : i < count_of old.page → HasAdvanced specs more old (record { page = old.page; hand = Item (i + 1); lower = old.lower; next = old.next }) ds
+    pub advanced_in : i < count_of old.page → HasAdvanced specs more old (record { page = old.page; hand = Item (i + 1); lower = old.lower; next = old.next; turns_left = old.turns_left }) ds
     advanced_in lt =
         let k = inner in
         let from = k.data_item.from in
@@ -65,7 +65,7 @@ module _ (specs : List KeySpec) (more : List MoreSpec) (old : Downlinks) (i : �
           cursor = λ j. record { items = rest_is j; lower = sym bound_is j; block = old.next };
         }
 
-    pub advanced_out : (lower : Bound) → i ≡ count_of old.page → lower ≡ (page_image specs more old.page).high_key → HasAdvanced specs more old (record { page = old.page; hand = Nothing; lower = lower; next = old.next }) ds
+    pub advanced_out : (lower : Bound) → i ≡ count_of old.page → lower ≡ (page_image specs more old.page).high_key → HasAdvanced specs more old (record { page = old.page; hand = Nothing; lower = lower; next = old.next; turns_left = old.turns_left }) ds
     advanced_out lower last key = record {
       hand = tt;
       cursor = λ j. record { items = (sym (hand_end specs more old.page inner.inner old.lower i inner.data_item.from last) ∙ rest_is) j; lower = (key ∙ sym bound_is) j; block = old.next };

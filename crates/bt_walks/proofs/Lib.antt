@@ -2,6 +2,7 @@ pub mod Keys
 pub mod Items
 pub mod Pages
 pub mod Reading
+pub mod Counting
 pub mod Hands
 pub mod Walking
 pub mod Seeing

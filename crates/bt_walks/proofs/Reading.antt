@@ -1,5 +1,6 @@
 -- The moves of a cursor over the downlinks to a level.
-use Rattle.std.proofs.Common.{◌≡◌, ◌≢◌, ℕ, zero, suc, ◌≤◌, Bool, true, false, cond, List, [], ◌∷◌, ◌++◌, refl, sym, ap, ◌∙◌, subst, arith}
+use Rattle.std.proofs.Common.{◌≡◌, ◌≢◌, ℕ, zero, suc, ◌+◌, ◌≤◌, Bool, true, false, cond, List, [], ◌∷◌, ◌++◌, length, refl, sym, ap, ◌∙◌, subst, arith}
+use Rattle.std.proofs.lemmas.List.{nil_from_length}
 use Rattle.std.specs.Prelude.{Option}
 use Rattle.tree_search.specs.Levels.{Downlink, page_downlinks}
 use Rattle.tree_search.specs.Tree.{Index, linked_from}
@@ -8,6 +9,7 @@ use Rattle.tree_rules.specs.Cursor.{Cursor, downlinks_along, downlinks_left, tur
 use Rattle.tree_rules.specs.Links.{Leads, to_right}
 use Rattle.tree_rules.proofs.Cursors.{turn}
 use Rattle.tree_rules.proofs.Loops.{along_same, linked_step, linked_zero}
+use Rattle.bt_walks.specs.Budget.{pages_below}
 use Rattle.bt_walks.specs.Reading.{IsOfLevel, IsReading}
 
 module _ {S E : Type 0} (x : Index S E) (dead : ℕ → Bool) (level : ℕ) where
@@ -15,14 +17,14 @@ module _ {S E : Type 0} (x : Index S E) (dead : ℕ → Bool) (level : ℕ) wher
   Reading m k left = IsReading x dead level m k left
 
   pub fewer : (m n : ℕ) (k : Cursor S) (left : List (Downlink S)) → m ≤ n → Reading m k left → Reading n k left
-  fewer m n k left le h = let few = h.few in record { pages = h.pages; few = omega arith; leads = h.leads; of_level = h.of_level; is = h.is }
+  fewer m n k left le h = let few = h.few in record { pages = h.pages; few = omega (arith, few, le); leads = h.leads; of_level = h.of_level; is = h.is }
 
   -- where no page is left to be read
   pub none_ahead : (m : ℕ) (k : Cursor S) (left : List (Downlink S)) → m ≡ 0 → Reading m k left → k.block ≡ 0
   none_ahead m k left z h =
       let few = h.few in
-      let none : h.pages ≡ 0 = omega arith in
-      subst (λ (n : ℕ). Leads (to_right x) k.block (linked_from (to_right x) n k.block)) none h.leads
+      let none : linked_from (to_right x) h.pages k.block ≡ [] = nil_from_length (linked_from (to_right x) h.pages k.block) (omega (arith, few, z)) in
+      subst (Leads (to_right x) k.block) none h.leads
 
   -- with nothing in hand
   abbrev pub empty_at : Option S → ℕ → Cursor S
@@ -53,11 +55,12 @@ module _ {S E : Type 0} (x : Index S E) (dead : ℕ → Bool) (level : ℕ) wher
           let leads = subst (Leads (to_right x) b) next h.leads in
           let each = subst (Each (IsOfLevel x level)) next h.of_level in
           let at = block_is (dead b) in
-          let few = h.few in (
+          let count : suc (length (linked_from (to_right x) p (x.page b).next)) + pages_below x level ≤ suc m = subst (λ c. length c + pages_below x level ≤ suc m) next h.few in
+          let few : length (linked_from (to_right x) p (x.page b).next) + pages_below x level ≤ m = omega (arith, count) in (
             each.0,
             record {
               pages = p;
-              few = omega arith;
+              few = subst (λ (q : ℕ). length (linked_from (to_right x) p q) + pages_below x level ≤ m) (sym at) few;
               leads = subst (λ (q : ℕ). Leads (to_right x) q (linked_from (to_right x) p q)) (sym at) leads.2;
               of_level = subst (λ (q : ℕ). Each (IsOfLevel x level) (linked_from (to_right x) p q)) (sym at) each.1;
               is = sym (turn x dead p lower b ne) ∙ (ap (λ (n : ℕ). downlinks_left x dead n (empty_at lower b)) (sym e) ∙ h.is);

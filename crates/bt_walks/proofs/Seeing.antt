@@ -72,7 +72,7 @@ module _ (tree : Tree) (level : ℕ) (levels : Levels) (c : LevelWalk) (w : Tree
       (target : linked ≡ is_next (in_hand tree.specs tree.more levels.upper) b) (named : role_named role ≡ marked_role marks linked c.split) where
     pub linked_is : is_next w.ahead b ≡ linked
     linked_is =
-        let front = in_front tree (is_in levels.dead) (suc level) tree.blocks levels.upper w.ahead k.before.settled k.before.reads in
+        let front = in_front tree (is_in levels.dead) (suc level) levels.upper.turns_left levels.upper w.ahead k.before.settled k.before.reads in
         sym (target ∙ sym (first_leads (in_hand tree.specs tree.more levels.upper) b) ∙ ap (λ o. leads_to (option_map (λ d. d.1) o) b) front ∙ first_leads w.ahead b)
 
     marks_are : ShowsMarks ((image_of tree).page b) marks
@@ -90,7 +90,7 @@ module _ (tree : Tree) (level : ℕ) (levels : Levels) (c : LevelWalk) (w : Tree
       linked = linked_is;
       wrong_separator = λ t.
           separator (ap is_linked (sym named_is) ∙ t) k.before.reads.hand
-          ∙ (λ i. not (same_bound (same_in tree) (separator_in_front tree (is_in levels.dead) (suc level) tree.blocks levels.upper w.ahead k.before.settled k.before.reads i) (sym k.lower i)));
+          ∙ (λ i. not (same_bound (same_in tree) (separator_in_front tree (is_in levels.dead) (suc level) levels.upper.turns_left levels.upper w.ahead k.before.settled k.before.reads i) (sym k.lower i)));
       low_key = λ t.
           key (ap is_live (sym named_is) ∙ t) (subst (HasPlainItems tree.specs tree.more) (sym at) seen_plain) (subst (λ (p : List ℕ). is_half_dead (opaque_of p) ≡ false) (sym at) (seen_whole t))
           ∙ (λ i. is_low_page (order_in tree) (sym k.lower i) (page_image tree.specs tree.more (at i)))

@@ -1,5 +1,6 @@
 -- A walk along one level, page by page.
-use Rattle.std.proofs.Common.{◌≡◌, ◌≢◌, ℕ, suc, ◌+◌, ◌-◌, ◌<◌, Bool, true, false, List, [], ◌∷◌, refl, sym, ap, ◌∙◌, subst, arith}
+use Rattle.std.proofs.Common.{◌≡◌, ◌≢◌, ℕ, suc, ◌+◌, ◌-◌, ◌<◌, ◌≤◌, Bool, true, false, List, [], ◌∷◌, length, refl, sym, ap, ◌∙◌, subst, arith}
+use Rattle.std.proofs.lemmas.List.{nil_from_length}
 use Rattle.std.specs.Prelude.{None, ◌==◌, ◌&&◌, ◌||◌, fold}
 use Rattle.std.specs.List.{list_any}
 use Rattle.std.proofs.lemmas.Bool.{cond-true, ne_eqb}
@@ -7,11 +8,11 @@ use Rattle.tree_search.specs.Levels.{Role, Row, lower_after, row, row_page, row_
 use Rattle.tree_search.specs.Tree.{linked_from}
 use Rattle.tree_rules.specs.Cursor.{with_dead}
 use Rattle.tree_rules.specs.LevelWalk.{walk_start, walk_step}
-use Rattle.tree_rules.specs.Links.{to_right}
+use Rattle.tree_rules.specs.Links.{Leads, to_right}
 use Rattle.tree_rules.specs.Meeting.{is_next, rows_met, unmet_after}
 use Rattle.tree_rules.specs.Tests.{is_dead}
 use Rattle.tree_rules.specs.Walk.{with_blocks}
-use Rattle.tree_rules.proofs.Loops.{Ahead, FoldWalk, ahead_here, ahead_start, ahead_step, fold_all, fold_end, fold_start, fold_step, linked_step, linked_zero, with_blocks_step, with_dead_step}
+use Rattle.tree_rules.proofs.Loops.{Ahead, FoldWalk, ahead_here, ahead_start, ahead_step, fold_end, fold_start, fold_step, linked_step, linked_zero, with_blocks_step, with_dead_step}
 use Rattle.level_walk.specs.declared.level.LevelWalk.{LevelWalk}
 use Rattle.level_walk.specs.declared.level.PageSeen.{PageSeen}
 use Rattle.level_walk.specs.Level.{after_page, at_start}
@@ -19,6 +20,7 @@ use Rattle.level_walk.specs.Shows.{Carries, Sees}
 use Rattle.level_walk.proofs.Carried.{start, step}
 use Rattle.bt_pages.specs.Trees.{Tree}
 use Rattle.bt_walks.specs.declared.levels.Levels.{Levels}
+use Rattle.bt_walks.specs.Budget.{pages_below}
 use Rattle.bt_walks.specs.Downlinks.{IsSettled, Reads, TreeDownlink, cursor_of}
 use Rattle.bt_walks.specs.Reading.{IsOfLevel}
 use Rattle.bt_walks.specs.Sets.{is_in}
@@ -69,11 +71,11 @@ module _ (tree : Tree) (level : ℕ) where
   before_sets a b left q dead here is marked k =
       let same : (p : ℕ) → ((image_of tree).page p).level ≡ suc level → is_in a.dead p ≡ is_in b.dead p =
       λ p up. sym (marked.dead_pages p ∙ ap (λ (t : Bool). is_in a.dead p || (t && dead)) (ne_eqb q p (λ e. let one = here.1 in let two = up in let at : ((image_of tree).page q).level ≡ ((image_of tree).page p).level = ap (λ (z : ℕ). ((image_of tree).page z).level) e in absurd (omega (arith, one, two, at)))) ∙ or_false (is_in a.dead p)) in
-      let reading = same_dead (image_of tree) (is_in a.dead) (suc level) (is_in b.dead) tree.blocks (cursor_of tree.specs tree.more a.upper) left same k.reads.reading in
+      let reading = same_dead (image_of tree) (is_in a.dead) (suc level) (is_in b.dead) a.upper.turns_left (cursor_of tree.specs tree.more a.upper) left same k.reads.reading in
       let upper : b.upper ≡ a.upper = ap (λ (l : Levels). l.upper) is in
       record {
         fastroot = ap (λ (l : Levels). l.fastroot) is ∙ k.fastroot;
-        reads = subst (λ u. Reads tree (is_in b.dead) (suc level) tree.blocks u left) (sym upper) (record { hand = k.reads.hand; reading = reading });
+        reads = subst (λ u. Reads tree (is_in b.dead) (suc level) u.turns_left u left) (sym upper) (record { hand = k.reads.hand; reading = reading });
         settled = subst IsSettled (sym upper) k.settled;
       }
 
@@ -120,9 +122,12 @@ module _ (tree : Tree) (level : ℕ) where
       pub walking : IsWalking tree level levels c walk
       pub dead_pages : (q : ℕ) → with_dead (is_in levels.dead) (rows_met (image_of tree) (rest i b) walk.ahead walk.split walk.lower) q ≡ with_dead (is_in old.dead) (rows_met (image_of tree) (chain_from tree first) ds false None) q
       pub pages : (q : ℕ) → with_blocks (is_in levels.stands) (rest i b) q ≡ with_blocks (is_in old.stands) (chain_from tree first) q
+      -- what is left to be walked over on this level, and all below it
+      pub enough : length (rest i b) + pages_below (image_of tree) level ≤ levels.walks_left
 
-    pub going_start : (levels : Levels) (c : LevelWalk) → levels ≡ record old { lower = None } → c ≡ at_start → StandsBefore tree level old ds → BeginsChain tree level first → Going levels c 0 first
-    going_start levels c is begun before chain =
+    pub going_start : (levels : Levels) (c : LevelWalk) → levels ≡ record old { lower = None } → c ≡ at_start → StandsBefore tree level old ds → BeginsChain tree level first
+        → length (chain_from tree first) + pages_below (image_of tree) level ≤ old.walks_left → Going levels c 0 first
+    going_start levels c is begun before chain enough =
         let z : tree.blocks ≡ tree.blocks - 0 = omega arith in
         subst (λ (l : Levels). Going l c 0 first) (sym is)
         (subst (λ (k : LevelWalk). Going (record old { lower = None }) k 0 first) (sym begun)
@@ -133,13 +138,15 @@ module _ (tree : Tree) (level : ℕ) where
           walking = record { carries = start ds; lower = refl; before = record { fastroot = before.fastroot; reads = before.reads; settled = before.settled } };
           dead_pages = λ q. sym (ap (λ (n : ℕ). with_dead (is_in old.dead) (rows_met (image_of tree) (linked_from (to_right (image_of tree)) n first) ds false None) q) z);
           pages = λ q. sym (ap (λ (n : ℕ). with_blocks (is_in old.stands) (linked_from (to_right (image_of tree)) n first) q) z);
+          enough = subst (λ (n : ℕ). length (linked_from (to_right (image_of tree)) n first) + pages_below (image_of tree) level ≤ old.walks_left) z enough;
         }))
 
     pub going_here : (levels : Levels) (c : LevelWalk) (i b : ℕ) → b ≢ 0 → Going levels c i b → (i < tree.blocks) × IsOfLevel (image_of tree) level b
     going_here levels c i b ne g = ahead_here (to_right (image_of tree)) (IsOfLevel (image_of tree) level) tree.blocks i b ne g.ahead
 
-    pub going_step : (levels new : Levels) (c c' : LevelWalk) (i b : ℕ) → b ≢ 0 → (g : Going levels c i b) → HasPassed tree level g.walk b levels new c' → Going new c' (i + 1) ((image_of tree).page b).next
-    going_step levels new c c' i b ne g passed =
+    pub going_step : (levels new : Levels) (c c' : LevelWalk) (i b : ℕ) → b ≢ 0 → (g : Going levels c i b) → HasPassed tree level g.walk b levels new c'
+        → new.walks_left + 1 ≡ levels.walks_left → Going new c' (i + 1) ((image_of tree).page b).next
+    going_step levels new c c' i b ne g passed taken =
         let here = going_here levels c i b ne g in
         let lt = here.0 in
         let next : ℕ = ((image_of tree).page b).next in
@@ -148,6 +155,7 @@ module _ (tree : Tree) (level : ℕ) where
         let w : TreeWalk = next_walk g.walk b in
         let role : Role = role_at tree g.walk b in
         let later : List (Row _) = rows_met (image_of tree) (rest (i + 1) next) w.ahead w.split w.lower in
+        let enough : suc (length (rest (i + 1) next)) + pages_below (image_of tree) level ≤ levels.walks_left = subst (λ (c : List ℕ). length c + pages_below (image_of tree) level ≤ levels.walks_left) chain g.enough in
         record {
           walk = w;
           goes = fold_step (to_right (image_of tree)) (walk_step (same_in tree) (order_in tree) (image_of tree)) whole tree.blocks i b g.walk lt ne g.goes;
@@ -161,6 +169,7 @@ module _ (tree : Tree) (level : ℕ) where
               ap (λ (z : Bool). z || list_any (λ d. d == q) (rest (i + 1) next)) (passed.marked.pages q)
               ∙ (sym (with_blocks_step (is_in levels.stands) b (rest (i + 1) next) q)
               ∙ (sym (ap (λ (c : List ℕ). with_blocks (is_in levels.stands) c q) chain) ∙ g.pages q));
+          enough = omega (arith, enough, taken);
         }
 
     -- where no page is left
@@ -171,6 +180,7 @@ module _ (tree : Tree) (level : ℕ) where
       walking = g.walking;
       dead_pages = λ q. sym (or_false (is_in levels.dead q)) ∙ (sym (ap (λ (c : List ℕ). with_dead (is_in levels.dead) (rows_met (image_of tree) c g.walk.ahead g.walk.split g.walk.lower) q) none) ∙ g.dead_pages q);
       pages = λ q. sym (or_false (is_in levels.stands q)) ∙ (sym (ap (λ (c : List ℕ). with_blocks (is_in levels.stands) c q) none) ∙ g.pages q);
+      enough = let enough = g.enough in omega (arith, enough);
     }
 
     pub going_end : (levels : Levels) (c : LevelWalk) (i b : ℕ) → b ≡ 0 → Going levels c i b → HasWalked tree level ds first old levels c
@@ -178,8 +188,9 @@ module _ (tree : Tree) (level : ℕ) where
         going_done levels c i b (ap (linked_from (to_right (image_of tree)) (tree.blocks - i)) z ∙ linked_zero (to_right (image_of tree)) (tree.blocks - i)) g
         (fold_end (to_right (image_of tree)) (walk_step (same_in tree) (order_in tree) (image_of tree)) whole tree.blocks i b g.walk z g.goes)
 
-    pub going_all : (levels : Levels) (c : LevelWalk) (i b : ℕ) → i ≡ tree.blocks → Going levels c i b → HasWalked tree level ds first old levels c
-    going_all levels c i b is g =
-        let z : tree.blocks - i ≡ 0 = omega (arith, is) in
-        going_done levels c i b (ap (λ (k : ℕ). linked_from (to_right (image_of tree)) k b) z) g
-        (fold_all (to_right (image_of tree)) (walk_step (same_in tree) (order_in tree) (image_of tree)) whole tree.blocks b g.walk (subst (λ (k : ℕ). FoldWalk (to_right (image_of tree)) (walk_step (same_in tree) (order_in tree) (image_of tree)) whole tree.blocks k b g.walk) is g.goes))
+    -- or where no page may be walked over any more
+    pub going_over : (levels : Levels) (c : LevelWalk) (i b : ℕ) → levels.walks_left ≡ 0 → Going levels c i b → HasWalked tree level ds first old levels c
+    going_over levels c i b none g =
+        let enough = g.enough in
+        let empty : rest i b ≡ [] = nil_from_length (rest i b) (omega (arith, enough, none)) in
+        going_end levels c i b (subst (Leads (to_right (image_of tree)) b) empty g.ahead.leads) g

@@ -39,6 +39,10 @@ bound_of downlinks = downlinks.lower
 abbrev pub next_of : Downlinks → ℕ
 next_of downlinks = downlinks.next
 
+-- how many pages may still be read
+abbrev pub turns_of : Downlinks → ℕ
+turns_of downlinks = downlinks.turns_left
+
 -- those of the page in hand, from item i on. The separator of its first data item is the page's lower bound.
 abbrev pub downlinks_from : List KeySpec → List MoreSpec → (page : List ℕ) → (lower : Bound) → ℕ → List TreeDownlink
 downlinks_from specs more page lower i =
@@ -90,7 +94,8 @@ IsSoundHand specs more page Nothing = Unit {0}
 IsSoundHand specs more page (Root b) = Unit {0}
 IsSoundHand specs more page (Item i) = IsInner specs more page i
 
--- these downlinks are left, where at most m pages of the level above, which has this number, are left to be read
+-- these downlinks are left, where the pages of the level above, which has this number, that are left to be read, and all
+-- below it, are at most m
 pub record Reads (tree : Tree) (dead : ℕ → Bool) (level m : ℕ) (downlinks : Downlinks) (left : List TreeDownlink)
     : Type 0 where
   pub hand : IsSoundHand tree.specs tree.more downlinks.page downlinks.hand

@@ -1,5 +1,6 @@
 -- A walk along one level in code, and the walk of tree_rules that it is.
-use Rattle.std.specs.Prelude.{◌≡◌, ◌==◌, ◌&&◌, ◌||◌, ℕ, suc, Bool, true, false, List, Option, Some, None, fold, length}
+use Rattle.std.specs.Prelude.{◌≡◌, ◌==◌, ◌&&◌, ◌||◌, ◌+◌, ◌*◌, ◌<◌, ◌≤◌, ℕ, suc, Bool, true, false, List, Option, Some}
+use Rattle.std.specs.Prelude.{None, fold, length}
 use Rattle.std.specs.List.{AllByRecursion}
 use Rattle.rel_files.specs.Relation.{count_of}
 use Rattle.tree_search.specs.Keys.{Separator}
@@ -23,6 +24,7 @@ use Rattle.bt_walks.specs.declared.downlinks.Downlinks.{Downlinks}
 use Rattle.bt_walks.specs.declared.judge.Judged.{Judged}
 use Rattle.bt_walks.specs.declared.levels.Levels.{Levels}
 use Rattle.bt_walks.specs.Bounds.{Bound, IsBound}
+use Rattle.bt_walks.specs.Budget.{pages_below}
 use Rattle.bt_walks.specs.Downlinks.{IsReadable, IsSettled, Reads, TreeDownlink}
 use Rattle.bt_walks.specs.Reading.{IsOfLevel}
 use Rattle.bt_walks.specs.Sets.{is_in}
@@ -33,6 +35,15 @@ abbrev pub IsFirstPage : {S E : Type 0} → Index S E → (entry : ℕ) → Opti
 IsFirstPage x entry None = walks_to (to_left x) entry x.blocks (to_left x entry) ≡ true
 IsFirstPage x entry (Some b) =
     (walks_to (to_left x) entry x.blocks (to_left x entry) ≡ false) × (b ≡ first_page x entry)
+
+-- the pages to the left of one, up to the end of the links, or as many as there are blocks where they come back to it
+abbrev pub lefts_of : {S E : Type 0} → Index S E → (entry : ℕ) → List ℕ
+lefts_of x entry = linked_from (to_left x) x.blocks (to_left x entry)
+
+-- so many steps are more than the first page of a level is away
+abbrev pub IsWithin : {S E : Type 0} → Index S E → (entry steps : ℕ) → Type 0
+IsWithin x entry steps =
+    walks_to (to_left x) entry x.blocks (to_left x entry) ≡ false → length (lefts_of x entry) < steps
 
 abbrev pub TreeWalk : Type 0
 TreeWalk = Walk (Separator Value Tid)
@@ -59,6 +70,17 @@ dead_of levels = is_in levels.dead
 abbrev pub standing_of : Levels → ℕ → Bool
 standing_of levels = is_in levels.stands
 
+-- how often the index may still be read: for walks over pages, for steps to the left, which take two reads each, and for
+-- downlinks
+abbrev pub walks_of : Levels → ℕ
+walks_of levels = levels.walks_left
+
+abbrev pub steps_of : Levels → ℕ
+steps_of levels = levels.steps_left
+
+abbrev pub budget_of : Levels → ℕ
+budget_of levels = levels.walks_left + 2 * levels.steps_left + levels.upper.turns_left
+
 -- what holds of it whatever the files hold
 pub record IsReady (levels : Levels) : Type 0 where
   pub columns : HasColumns levels.tree
@@ -66,6 +88,7 @@ pub record IsReady (levels : Levels) : Type 0 where
   pub lower : IsBound levels.tree.specs.now levels.lower
   pub dead : length levels.dead ≡ count_of levels.tree.relation.now
   pub stands : length levels.stands ≡ count_of levels.tree.relation.now
+  pub steps : levels.steps_left ≤ count_of levels.tree.relation.now
 
 -- the index and its fast root stay
 pub record IsSameIndex (old new : Levels) : Type 0 where
@@ -74,7 +97,7 @@ pub record IsSameIndex (old new : Levels) : Type 0 where
 
 -- nothing has changed but a part, and with the sets what was counted
 abbrev pub ChangesPage : Levels → Levels → Type 0
-ChangesPage old new = new ≡ record old { page = new.page }
+ChangesPage old new = new ≡ record old { page = new.page; walks_left = new.walks_left }
 
 abbrev pub ChangesBound : Levels → Levels → Type 0
 ChangesBound old new = new ≡ record old { lower = new.lower }
@@ -91,10 +114,20 @@ ChangesSets old new =
       half_dead = new.half_dead;
     }
 
+-- what was left for walks and for steps is left
+pub record KeepsBudget (old new : Levels) : Type 0 where
+  pub walks : new.walks_left ≡ old.walks_left
+  pub steps : new.steps_left ≡ old.steps_left
+
+-- enough is left for all pages below this level
+pub record HasEnough (tree : Tree) (level : ℕ) (levels : Levels) : Type 0 where
+  pub walks : pages_below (image_of tree) level ≤ levels.walks_left
+  pub steps : pages_below (image_of tree) level ≤ levels.steps_left
+
 -- it stands before the first of these downlinks, which is in hand if there is one
 pub record StandsBefore (tree : Tree) (level : ℕ) (levels : Levels) (left : List TreeDownlink) : Type 0 where
   pub fastroot : levels.fastroot ≡ (image_of tree).fastroot
-  pub reads : Reads tree (is_in levels.dead) (suc level) tree.blocks levels.upper left
+  pub reads : Reads tree (is_in levels.dead) (suc level) levels.upper.turns_left levels.upper left
   pub settled : IsSettled levels.upper
 
 -- the walk of tree_rules along this level carries the same
@@ -127,7 +160,8 @@ pub record BeginsChain (tree : Tree) (level first : ℕ) : Type 0 where
   pub leads : Leads (to_right (image_of tree)) first (chain_from tree first)
   pub of_level : AllByRecursion (IsOfLevel (image_of tree) level) (chain_from tree first)
 
--- past all pages of a level, whose downlinks these are: the walk of tree_rules, and what the two sets have gained
+-- past all pages of a level, whose downlinks these are: the walk of tree_rules, what the two sets have gained, and enough
+-- for the walks below
 pub record HasWalked (tree : Tree) (level : ℕ) (ds : List TreeDownlink) (first : ℕ) (old new : Levels)
     (carried : LevelWalk) : Type 0 where
   pub walk : TreeWalk
@@ -137,17 +171,23 @@ pub record HasWalked (tree : Tree) (level : ℕ) (ds : List TreeDownlink) (first
   pub dead_pages : (q : ℕ)
       → is_in new.dead q ≡ with_dead (is_in old.dead) (rows_met (image_of tree) (chain_from tree first) ds false None) q
   pub pages : (q : ℕ) → is_in new.stands q ≡ with_blocks (is_in old.stands) (chain_from tree first) q
+  pub enough : pages_below (image_of tree) level ≤ new.walks_left
 
 -- what is found on a level, and if that is nothing, what is known then
-pub record IsLevelPassed (tree : Tree) (ds : List TreeDownlink) (old new : Levels) (first : ℕ) : Type 0 where
+pub record IsLevelPassed (tree : Tree) (level : ℕ) (ds : List TreeDownlink) (old new : Levels) (first : ℕ)
+    : Type 0 where
+  pub ends : walks_to (to_left (image_of tree)) (entry_page ds) tree.blocks (to_left (image_of tree) (entry_page ds))
+      ≡ false
   pub begins : first ≡ first_page (image_of tree) (entry_page ds)
   pub chain : IsOpenChain (image_of tree) (entry_page ds) (walked_chain (image_of tree) ds)
   pub sets : HavePassed (image_of tree) ds (is_in old.dead) (is_in old.stands) (is_in new.dead) (is_in new.stands)
+  pub enough : HasEnough tree level new
+  pub turns : pages_below (image_of tree) (suc level) ≤ new.upper.turns_left
 
 pub record IsLevelJudged (tree : Tree) (level : ℕ) (ds : List TreeDownlink) (old new : Levels) (judged : Judged)
     : Type 0 where
   pub found : judged.finding ≡ level_finding (same_in tree) (order_in tree) (image_of tree) level ds
-  pub passed : judged.finding ≡ None → IsLevelPassed tree ds old new judged.first
+  pub passed : judged.finding ≡ None → IsLevelPassed tree level ds old new judged.first
 
 -- what is found on all levels, and if that is nothing, which blocks stand in their chains
 pub record AreLevelsJudged (tree : Tree) (new : Levels) (finding : Option Finding) : Type 0 where

@@ -1,6 +1,6 @@
 //! The rules L1 to L9 of an index.
-ghost use Rattle.std.specs.Prelude.{◌≡◌, ◌≢◌, ◌<◌, ℕ, List, [], None, length, suc, IfOk, OnOk, false};
-ghost use Rattle.outside.specs.Outside.{Asked, IfTold, Names, Tells};
+ghost use Rattle.std.specs.Prelude.{◌≡◌, ◌≢◌, ◌<◌, ◌≤◌, ◌+◌, ◌*◌, ℕ, List, [], None, length, suc, IfOk, OnOk, false};
+ghost use Rattle.outside.specs.Outside.{Asked, AskedAtMost, IfTold, Names, Tells};
 ghost use Rattle.rel_files.specs.Faults.{read_fault};
 ghost use Rattle.rel_files.specs.Relation.{count_of};
 ghost use Rattle.tree_search.specs.Levels.{downlinks};
@@ -8,13 +8,14 @@ ghost use Rattle.tree_rules.specs.Tests.{are_roots_misplaced, is_misplaced};
 ghost use Rattle.tree_rules.specs.Walk.{first_outside, is_outside, unreached_finding};
 ghost use Rattle.bt_meta.specs.Pages.{meta_of};
 ghost use Rattle.bt_pages.specs.Trees.{tree_seen};
+ghost use Rattle.bt_walks.specs.Budget.{TakesReads, pages_below};
 ghost use Rattle.bt_walks.specs.Sets.{is_in};
 ghost use Rattle.bt_walks.specs.Shape.{IsShapeOf};
 ghost use Rattle.bt_walks.specs.Trees.{HasColumns, HoldsPages, first_broken_in, image_of};
-ghost use Rattle.bt_walks.specs.Downlinks.{TreeDownlink};
+ghost use Rattle.bt_walks.specs.Downlinks.{TreeDownlink, turns_of};
 ghost use Rattle.bt_walks.specs.Reading.{IsReading};
-ghost use Rattle.bt_walks.specs.Walked.{AreLevelsJudged, ChangesDownlinks, IsReady, IsSameIndex, IsTreeJudged};
-ghost use Rattle.bt_walks.specs.Walked.{StandsBefore, dead_of, fastroot_of, standing_of, tree_of};
+ghost use Rattle.bt_walks.specs.Walked.{AreLevelsJudged, ChangesDownlinks, HasEnough, IsReady, IsSameIndex, IsTreeJudged};
+ghost use Rattle.bt_walks.specs.Walked.{StandsBefore, budget_of, dead_of, fastroot_of, standing_of, tree_of, upper_of};
 
 use crate::block_set::BlockSet;
 use crate::downlinks::Downlinks;
@@ -34,7 +35,7 @@ fn read_meta<F: Files>(files: &mut F, tree: &TreeRules<'_>) -> Result<Meta, Read
     requires some { 0 < count_of tree.now.relation.now }
     requires pages { IfTold F.seen files.old (λ names. HoldsPages names tree.now) }
     ensures told { Tells F.seen files.old result (λ meta names. meta ≡ meta_of ((tree_seen names tree.now).block 0)) }
-    ensures asked { Asked F.seen files.old files.new result read_fault }
+    ensures asked { AskedAtMost 1 F.seen files.old files.new result read_fault }
 {
     let mut page = [0u8; 8192];
     tree.relation.read_block(files, 0, &mut page)?;
@@ -51,7 +52,7 @@ fn is_misplaced<F: Files>(
     requires pages { IfTold F.seen files.old (λ names. HoldsPages names tree.now) }
     ensures told { Tells F.seen files.old result (λ misplaced names. b < count_of tree.now.relation.now
         → misplaced ≡ is_misplaced (image_of (tree_seen names tree.now)) b level) }
-    ensures asked { Asked F.seen files.old files.new result read_fault }
+    ensures asked { AskedAtMost 2 F.seen files.old files.new result read_fault }
 {
     if b >= tree.relation.blocks() {
         return Ok(true);
@@ -70,7 +71,7 @@ fn are_roots_misplaced<F: Files>(
     requires meta { IfTold F.seen files.old (λ names. meta.now ≡ meta_of ((tree_seen names tree.now).block 0)) }
     ensures told { Tells F.seen files.old result (λ misplaced names.
         misplaced ≡ are_roots_misplaced (image_of (tree_seen names tree.now))) }
-    ensures asked { Asked F.seen files.old files.new result read_fault }
+    ensures asked { AskedAtMost 4 F.seen files.old files.new result read_fault }
 {
     let is_root_misplaced = is_misplaced(files, tree, meta.root, meta.level)?;
     let is_fast_misplaced = is_misplaced(files, tree, meta.fastroot, meta.fastlevel)?;
@@ -89,7 +90,7 @@ fn is_outside<F: Files>(
     requires pages { IfTold F.seen files.old (λ names. HoldsPages names tree.now) }
     ensures told { Tells F.seen files.old result (λ outside names.
         outside ≡ is_outside (image_of (tree_seen names tree.now)) (is_in stands.now) b) }
-    ensures asked { Asked F.seen files.old files.new result read_fault }
+    ensures asked { AskedAtMost 2 F.seen files.old files.new result read_fault }
 {
     if stands.has(b) {
         return Ok(false);
@@ -110,7 +111,7 @@ fn first_outside<F: Files>(
     ensures told { Tells F.seen files.old result (λ found names.
         found ≡ first_outside (image_of (tree_seen names tree.now)) (is_in stands.now)
         (count_of tree.now.relation.now)) }
-    ensures asked { Asked F.seen files.old files.new result read_fault }
+    ensures asked { AskedAtMost (2 * count_of tree.now.relation.now) F.seen files.old files.new result read_fault }
 {
     for k in 0..tree.relation.blocks() - 1 {
         let b = k + 1;
@@ -132,6 +133,9 @@ impl<'t> Levels<'t> {
             → meta.now ≡ meta_of ((tree_seen names tree.entry).block 0)
             → StandsBefore (tree_seen names tree.entry) (image_of (tree_seen names tree.entry)).level levels
             (downlinks (image_of (tree_seen names tree.entry)) 0)) }
+        ensures enough { IfOk result (λ levels. (names : Names) (level : ℕ)
+            → HasEnough (tree_seen names tree.entry) level levels) }
+        ensures budget { IfOk result (λ levels. budget_of levels ≡ 4 * count_of tree.entry.relation.now) }
         ensures dead { IfOk result (λ levels. (b : ℕ) → dead_of levels b ≡ false) }
         ensures standing { IfOk result (λ levels. (b : ℕ) → standing_of levels b ≡ false) }
     {
@@ -141,11 +145,13 @@ impl<'t> Levels<'t> {
         Ok(Levels {
             tree,
             fastroot: meta.fastroot,
-            upper: Downlinks::to_root(meta.root),
+            upper: Downlinks::to_root(meta.root, blocks),
             page: [0; 8192],
             lower: None,
             dead,
             stands,
+            walks_left: blocks,
+            steps_left: blocks,
             right_halves: 0,
             half_dead: 0,
         })
@@ -159,9 +165,10 @@ impl<'t> Levels<'t> {
         ensures downlinks { ChangesDownlinks self.old self.new }
         ensures told { OnOk result (IfTold F.seen files.old (λ names. (level : ℕ) (left : List TreeDownlink)
             → IsReading (image_of (tree_seen names (tree_of self.old))) (dead_of self.old) (suc level)
-            (count_of (tree_of self.old).relation.now) (record { items = []; lower = None; block = first }) left
+            (turns_of (upper_of self.old)) (record { items = []; lower = None; block = first }) left
             → fastroot_of self.old ≡ (image_of (tree_seen names (tree_of self.old))).fastroot
             → StandsBefore (tree_seen names (tree_of self.old)) level self.new left)) }
+        ensures taken { TakesReads F.seen files.old files.new 0 (budget_of self.old) (budget_of self.new) }
         ensures asked { Asked F.seen files.old files.new result read_fault }
     {
         self.upper.begin(first);
@@ -187,7 +194,10 @@ impl<'t> Levels<'t> {
         ensures told { Tells F.seen files.old result (λ found names. let tree = tree_seen names (tree_of self.old) in
             (image_of tree).root ≢ 0 → are_roots_misplaced (image_of tree) ≡ false
             → StandsBefore tree (image_of tree).level self.old (downlinks (image_of tree) 0)
+            → HasEnough tree (suc (image_of tree).level) self.old
             → AreLevelsJudged tree self.new found) }
+        ensures taken { TakesReads F.seen files.old files.new (2 * count_of (tree_of self.old).relation.now)
+            (budget_of self.old) (budget_of self.new) }
         ensures asked { Asked F.seen files.old files.new result PageFault.ReadFault }
     {
         kept_rules_make_a_sound_image();
@@ -217,10 +227,14 @@ impl<'t> Levels<'t> {
         requires standing { (b : ℕ) → standing_of self.old b ≡ false }
         requires top { IfTold F.seen files.old (λ names. let tree = tree_seen names (tree_of self.old) in
             StandsBefore tree (image_of tree).level self.old (downlinks (image_of tree) 0)) }
+        requires enough { IfTold F.seen files.old (λ names. let tree = tree_seen names (tree_of self.old) in
+            HasEnough tree (suc (image_of tree).level) self.old) }
         ensures ready { IsReady self.new }
         ensures same { IsSameIndex self.old self.new }
         ensures told { Tells F.seen files.old result (λ found names.
             IsTreeJudged (tree_seen names (tree_of self.old)) self.new found) }
+        ensures taken { TakesReads F.seen files.old files.new (2 * count_of (tree_of self.old).relation.now + 4)
+            (budget_of self.old) (budget_of self.new) }
         ensures asked { Asked F.seen files.old files.new result PageFault.ReadFault }
     {
         kept_rules_make_a_sound_image();
@@ -246,7 +260,7 @@ fn first_unreached<F: Files>(
     requires pages { IfTold F.seen files.old (λ names. HoldsPages names tree.now) }
     ensures told { Tells F.seen files.old result (λ found names.
         found ≡ unreached_finding (image_of (tree_seen names tree.now)) (is_in stands.now)) }
-    ensures asked { Asked F.seen files.old files.new result read_fault }
+    ensures asked { AskedAtMost (2 * count_of tree.now.relation.now) F.seen files.old files.new result read_fault }
 {
     match first_outside(files, tree, stands)? {
         Some(b) => Ok(Some((Rule::L9, b))),
@@ -258,7 +272,8 @@ fn first_unreached<F: Files>(
 /// or None where it breaks none of them. Its single pages break no rule, where the files tell what they hold.
 ///
 /// Each page of a level is read once, and once more while the level below it is walked; of others a few
-/// bytes are read. `ReadFault` comes only where the count of the files' faults rose.
+/// bytes are read. Whatever the files hold, there are at most 15 reads for each block. `ReadFault` comes only
+/// where the count of the files' faults rose.
 pub fn first_broken_rule<F: Files>(
     alloc: Global,
     files: &mut F,
@@ -271,7 +286,8 @@ pub fn first_broken_rule<F: Files>(
         found.finding ≡ first_broken_in (tree_seen names tree.now)) }
     ensures shape { Tells F.seen files.old result (λ found names.
         IsShapeOf (tree_seen names tree.now) found.shape) }
-    ensures asked { Asked F.seen files.old files.new result PageFault.ReadFault }
+    ensures asked { AskedAtMost (15 * count_of tree.now.relation.now) F.seen files.old files.new result
+        PageFault.ReadFault }
 {
     let meta = read_meta(files, tree)?;
     let mut levels = Levels::new(alloc, *tree, &meta)?;

@@ -1,8 +1,8 @@
 //! The downlinks to a level, read one after the other along the level above: a cursor with one page in
 //! hand, and no list.
-ghost use Rattle.std.specs.Prelude.{◌≡◌, ◌≢◌, ◌≤◌, [], ◌∷◌, ℕ, List, length, option_map, slice_get, suc};
+ghost use Rattle.std.specs.Prelude.{◌≡◌, ◌≢◌, ◌<◌, ◌≤◌, ◌+◌, [], ◌∷◌, ℕ, List, length, option_map, slice_get, suc};
 ghost use Rattle.std.specs.Prelude.{false, not, IfOk, None, OnOk, Some};
-ghost use Rattle.outside.specs.Outside.{Asked, IfTold};
+ghost use Rattle.outside.specs.Outside.{Asked, AskedAtMost, IfTold};
 ghost use Rattle.page_layout.specs.Page.{count_of, page_rule_of};
 ghost use Rattle.page_layout.specs.View.{page_bytes};
 ghost use Rattle.rel_files.specs.Faults.{read_fault};
@@ -19,9 +19,10 @@ ghost use Rattle.tree_image.specs.Image.{downlink_in, first_data, item_at};
 ghost use Rattle.tree_image.specs.Pages.{IsPlainItem};
 ghost use Rattle.bt_pages.specs.Trees.{tree_seen};
 ghost use Rattle.bt_walks.specs.Bounds.{IsBound};
+ghost use Rattle.bt_walks.specs.Budget.{TakesReads};
 ghost use Rattle.bt_walks.specs.Downlinks.{HasAdvanced, IsReadable, IsSafeHand, IsSettled, IsSoundHand, Reads};
 ghost use Rattle.bt_walks.specs.Downlinks.{TreeDownlink, bound_of, cursor_of, hand_after, hand_of, in_hand, is_held};
-ghost use Rattle.bt_walks.specs.Downlinks.{is_settled, next_of, page_of};
+ghost use Rattle.bt_walks.specs.Downlinks.{is_settled, next_of, page_of, turns_of};
 ghost use Rattle.bt_walks.specs.Sets.{is_in};
 ghost use Rattle.bt_walks.specs.Trees.{HasColumns, HoldsPages};
 
@@ -57,6 +58,8 @@ pub struct Downlinks {
     lower: Option<Separator>,
     // The page of the level above that is read next, 0 where there is none.
     next: u32,
+    // How many pages may still be read.
+    turns_left: u32,
 }
 
 // Where the downlink of item i leads, or None where it can't be told.
@@ -80,20 +83,22 @@ fn downlink_at(page: PageView<'_>, i: u16) -> Option<u32>
 }
 
 impl Downlinks {
-    /// Before the one downlink to the top level.
-    pub fn to_root(root: u32) -> Downlinks
+    /// Before the one downlink to the top level. At most `turns` pages are read for the downlinks of all levels.
+    pub fn to_root(root: u32, turns: u32) -> Downlinks
         ensures readable { (specs : List Spec) → IsReadable specs result }
         ensures settled { IsSettled result }
         ensures sound { (specs : List Spec) (more : List More)
             → IsSoundHand specs more (page_of result) (hand_of result) }
         ensures hand { (specs : List Spec) (more : List More) → cursor_of specs more result
             ≡ record { items = (None, root) ∷ []; lower = None; block = 0 } }
+        ensures turns { turns_of result ≡ turns }
     {
         Downlinks {
             page: [0; 8192],
             hand: Hand::Root(root),
             lower: None,
             next: 0,
+            turns_left: turns,
         }
     }
 
@@ -104,6 +109,7 @@ impl Downlinks {
             → IsSoundHand specs more (page_of self.new) (hand_of self.new) }
         ensures cursor { (specs : List Spec) (more : List More) → cursor_of specs more self.new
             ≡ record { items = []; lower = None; block = first } }
+        ensures turns { turns_of self.new ≡ turns_of self.old }
     {
         self.hand = Hand::Nothing;
         self.lower = None;
@@ -135,6 +141,7 @@ impl Downlinks {
         requires nothing { is_held (hand_of self.old) ≡ false }
         ensures page { page_of self.new ≡ page_of self.old }
         ensures lower { bound_of self.new ≡ bound_of self.old }
+        ensures turns { turns_of self.new ≡ turns_of self.old }
         ensures safe { IsSafeHand (page_of self.new) (hand_of self.new) }
         ensures taken { page_rule_of PageKind.Tree (page_of self.old) ≡ None
             → first_data (page_of self.old) ≤ count_of (page_of self.old)
@@ -162,18 +169,21 @@ impl Downlinks {
         dead: &BlockSet,
     ) -> Result<(), ReadFault>
         requires nothing { is_held (hand_of self.old) ≡ false }
+        requires some { 0 < turns_of self.old }
         requires readable { IsReadable tree.now.specs.now self.old }
         requires blocks { length dead.now ≡ blocks_of tree.now.relation.now }
         requires pages { IfTold F.seen files.old (λ names. HoldsPages names tree.now) }
         ensures readable { IsReadable tree.now.specs.now self.new }
+        ensures turns { turns_of self.new + 1 ≡ turns_of self.old }
         ensures reads { OnOk result (IfTold F.seen files.old (λ names.
             (level m : ℕ) (left : List TreeDownlink) → next_of self.old ≢ 0
             → Reads (tree_seen names tree.now) (is_in dead.now) (suc level) (suc m) self.old left
             → Reads (tree_seen names tree.now) (is_in dead.now) (suc level) m self.new left)) }
-        ensures asked { Asked F.seen files.old files.new result read_fault }
+        ensures asked { AskedAtMost 1 F.seen files.old files.new result read_fault }
     {
         let b = self.next;
         self.next = 0;
+        self.turns_left -= 1;
         if b < tree.relation.blocks() {
             tree.relation.read_block(files, b, &mut self.page)?;
             self.take(dead.has(b));
@@ -181,8 +191,9 @@ impl Downlinks {
         Ok(())
     }
 
-    /// On to the next page with a downlink, if none is in hand. `dead` has the pages of the level above
-    /// that are dead. `ReadFault` comes only where the count of the files' faults rose.
+    /// On to the next page with a downlink, if none is in hand and pages may still be read. `dead` has the
+    /// pages of the level above that are dead. `ReadFault` comes only where the count of the files' faults
+    /// rose.
     pub fn settle<F: Files>(
         &mut self,
         files: &mut F,
@@ -195,14 +206,14 @@ impl Downlinks {
         ensures readable { IsReadable tree.now.specs.now self.new }
         ensures reads { OnOk result (IfTold F.seen files.old (λ names.
             (level : ℕ) (left : List TreeDownlink)
-            → Reads (tree_seen names tree.now) (is_in dead.now) (suc level) (blocks_of tree.now.relation.now) self.old
-            left
-            → Reads (tree_seen names tree.now) (is_in dead.now) (suc level) (blocks_of tree.now.relation.now) self.new
-            left
+            → Reads (tree_seen names tree.now) (is_in dead.now) (suc level) (turns_of self.old) self.old left
+            → Reads (tree_seen names tree.now) (is_in dead.now) (suc level) (turns_of self.new) self.new left
             × IsSettled self.new)) }
+        ensures fewer { turns_of self.new ≤ turns_of self.old }
+        ensures taken { TakesReads F.seen files.old files.new 0 (turns_of self.old) (turns_of self.new) }
         ensures asked { Asked F.seen files.old files.new result read_fault }
     {
-        for _ in 0..tree.relation.blocks() {
+        while self.turns_left > 0 {
             if self.is_settled() {
                 return Ok(());
             }
@@ -266,6 +277,7 @@ impl Downlinks {
         requires columns { HasColumns tree.now }
         requires readable { IsReadable tree.now.specs.now self.old }
         ensures readable { IsReadable tree.now.specs.now self.new }
+        ensures turns { turns_of self.new ≡ turns_of self.old }
         ensures advanced { OnOk result ((d : TreeDownlink) (ds : List TreeDownlink)
             → IsSoundHand tree.now.specs.now tree.now.more.now (page_of self.old) (hand_of self.old)
             → in_hand tree.now.specs.now tree.now.more.now self.old ≡ d ∷ ds
@@ -303,11 +315,11 @@ impl Downlinks {
         ensures readable { IsReadable tree.now.specs.now self.new }
         ensures reads { OnOk result (IfTold F.seen files.old (λ names.
             (level : ℕ) (d : TreeDownlink) (left : List TreeDownlink) → IsSettled self.old
-            → Reads (tree_seen names tree.now) (is_in dead.now) (suc level) (blocks_of tree.now.relation.now) self.old
-            (d ∷ left)
-            → Reads (tree_seen names tree.now) (is_in dead.now) (suc level) (blocks_of tree.now.relation.now) self.new
-            left
+            → Reads (tree_seen names tree.now) (is_in dead.now) (suc level) (turns_of self.old) self.old (d ∷ left)
+            → Reads (tree_seen names tree.now) (is_in dead.now) (suc level) (turns_of self.new) self.new left
             × IsSettled self.new)) }
+        ensures fewer { turns_of self.new ≤ turns_of self.old }
+        ensures taken { TakesReads F.seen files.old files.new 0 (turns_of self.old) (turns_of self.new) }
         ensures asked { Asked F.seen files.old files.new result PageFault.ReadFault }
     {
         self.advance(alloc, tree)?;

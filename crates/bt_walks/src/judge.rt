@@ -1,12 +1,13 @@
 //! The rules L2 to L8 on one level.
-ghost use Rattle.std.specs.Prelude.{◌≡◌, ◌==◌, ℕ, List};
+ghost use Rattle.std.specs.Prelude.{◌≡◌, ◌==◌, ℕ, List, suc};
 ghost use Rattle.outside.specs.Outside.{Asked, IfTold, Tells};
 ghost use Rattle.tree_search.specs.Levels.{entry_page};
 ghost use Rattle.bt_pages.specs.Trees.{tree_seen};
+ghost use Rattle.bt_walks.specs.Budget.{TakesReads};
 ghost use Rattle.bt_walks.specs.Downlinks.{TreeDownlink};
 ghost use Rattle.bt_walks.specs.Reading.{IsOfLevel};
 ghost use Rattle.bt_walks.specs.Trees.{HoldsPages, image_of};
-ghost use Rattle.bt_walks.specs.Walked.{IsLevelJudged, IsReady, IsSameIndex, StandsBefore, tree_of};
+ghost use Rattle.bt_walks.specs.Walked.{HasEnough, IsLevelJudged, IsReady, IsSameIndex, StandsBefore, budget_of, tree_of};
 
 use crate::first_page::first_page;
 use crate::levels::Levels;
@@ -41,8 +42,10 @@ impl<'t> Levels<'t> {
         ensures told { Tells F.seen files.old result (λ judged names. (level : ℕ) (ds : List TreeDownlink)
             → StandsBefore (tree_seen names (tree_of self.old)) level self.old ds
             → IsOfLevel (image_of (tree_seen names (tree_of self.old))) level (entry_page ds)
+            → HasEnough (tree_seen names (tree_of self.old)) (suc level) self.old
             → is_fast ≡ (level == (image_of (tree_seen names (tree_of self.old))).fastlevel)
             → IsLevelJudged (tree_seen names (tree_of self.old)) level ds self.old self.new judged) }
+        ensures taken { TakesReads F.seen files.old files.new 2 (budget_of self.old) (budget_of self.new) }
         ensures asked { Asked F.seen files.old files.new result PageFault.ReadFault }
     {
         kept_rules_make_a_sound_image();
@@ -52,7 +55,7 @@ impl<'t> Levels<'t> {
                 first: 0,
             });
         };
-        let Some(first) = first_page(files, &self.tree, entry)? else {
+        let Some(first) = first_page(files, &self.tree, entry, &mut self.steps_left)? else {
             return Ok(Judged {
                 finding: Some((Rule::L2, entry)),
                 first: 0,

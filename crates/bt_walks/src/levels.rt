@@ -1,7 +1,7 @@
 //! The walk along one level of an index, from its first page to its last, while the downlinks to it are
 //! read along the level above.
-ghost use Rattle.std.specs.Prelude.{◌≡◌, ◌<◌, ℕ, List, false, true, not, None, OnOk, IfOk};
-ghost use Rattle.outside.specs.Outside.{Asked, IfTold, Names, Tells};
+ghost use Rattle.std.specs.Prelude.{◌≡◌, ◌<◌, ◌≤◌, ◌+◌, ℕ, List, false, true, length, not, None, OnOk, IfOk};
+ghost use Rattle.outside.specs.Outside.{Asked, AskedAtMost, IfTold, Names, Tells};
 ghost use Rattle.page_layout.specs.Page.{page_rule_of};
 ghost use Rattle.rel_files.specs.Faults.{read_fault};
 ghost use Rattle.rel_files.specs.Relation.{count_of};
@@ -17,13 +17,15 @@ ghost use Rattle.bt_meta.specs.Flags.{is_half_dead};
 ghost use Rattle.bt_meta.specs.Pages.{opaque_of};
 ghost use Rattle.tree_image.specs.Image.{page_image};
 ghost use Rattle.bt_pages.specs.Trees.{tree_seen};
+ghost use Rattle.bt_walks.specs.Budget.{TakesReads, pages_below};
 ghost use Rattle.bt_walks.specs.Downlinks.{IsSoundHand, TreeDownlink, hand_of, in_hand, page_of};
 ghost use Rattle.bt_walks.specs.Pages.{HasPlainItems, is_low_page};
 ghost use Rattle.bt_walks.specs.Reading.{IsOfLevel};
 ghost use Rattle.bt_walks.specs.Trees.{HoldsPages, image_of, order_in, same_in};
 ghost use Rattle.bt_walks.specs.Walked.{BeginsChain, ChangesBound, ChangesDownlinks, ChangesPage, ChangesSets};
-ghost use Rattle.bt_walks.specs.Walked.{HasMarked, HasPassed, HasWalked, IsReady, IsSameIndex, IsWalking, StandsBefore};
-ghost use Rattle.bt_walks.specs.Walked.{TreeWalk, lower_of, page_in, tree_of, upper_of};
+ghost use Rattle.bt_walks.specs.Walked.{HasMarked, HasPassed, HasWalked, IsReady, IsSameIndex, IsWalking, KeepsBudget};
+ghost use Rattle.bt_walks.specs.Walked.{StandsBefore, TreeWalk, budget_of, chain_from, lower_of, page_in, steps_of, tree_of};
+ghost use Rattle.bt_walks.specs.Walked.{upper_of, walks_of};
 
 use crate::block_set::BlockSet;
 use crate::bounds::{high_key_of, is_low_page};
@@ -56,6 +58,9 @@ pub struct Levels<'t> {
     pub(crate) dead: BlockSet,
     // The pages in the chains of levels so far.
     pub(crate) stands: BlockSet,
+    // How many pages may still be walked over, on all levels, and how many steps to the left may be made.
+    pub(crate) walks_left: u32,
+    pub(crate) steps_left: u32,
     // How many right halves and how many half-dead leaves there are so far.
     pub(crate) right_halves: u32,
     pub(crate) half_dead: u32,
@@ -71,15 +76,18 @@ fn is_dead(role: PageRole) -> bool
 impl<'t> Levels<'t> {
     // Reads a block, and says whether it is one whose items can be read.
     fn read<F: Files>(&mut self, files: &mut F, b: u32) -> Result<bool, ReadFault>
+        requires some { 0 < walks_of self.old }
         requires pages { IfTold F.seen files.old (λ names. HoldsPages names (tree_of self.old)) }
         ensures page { ChangesPage self.old self.new }
+        ensures walks { walks_of self.new + 1 ≡ walks_of self.old }
         ensures items { IfOk result (λ good. good ≡ true
             → (page_rule_of PageKind.Tree (page_in self.new) ≡ None) × (b < count_of (tree_of self.old).relation.now)) }
         ensures told { Tells F.seen files.old result (λ good names. (level : ℕ)
             → IsOfLevel (image_of (tree_seen names (tree_of self.old))) level b
             → (good ≡ true) × (page_in self.new ≡ (tree_seen names (tree_of self.old)).block b)) }
-        ensures asked { Asked F.seen files.old files.new result read_fault }
+        ensures asked { AskedAtMost 1 F.seen files.old files.new result read_fault }
     {
+        self.walks_left -= 1;
         if b >= self.tree.relation.blocks() {
             return Ok(false);
         }
@@ -176,6 +184,7 @@ impl<'t> Levels<'t> {
             → is_next left seen.now.block ≡ seen.now.linked
             → StandsBefore (tree_seen names (tree_of self.old)) level self.old left
             → StandsBefore (tree_seen names (tree_of self.old)) level self.new (unmet_after left seen.now.block))) }
+        ensures taken { TakesReads F.seen files.old files.new 0 (budget_of self.old) (budget_of self.new) }
         ensures asked { Asked F.seen files.old files.new result PageFault.ReadFault }
     {
         if seen.linked {
@@ -217,6 +226,8 @@ impl<'t> Levels<'t> {
         ensures ready { IsReady self.new }
         ensures same { IsSameIndex self.old self.new }
         ensures page { page_in self.new ≡ page_in self.old }
+        ensures kept { KeepsBudget self.old self.new }
+        ensures taken { TakesReads F.seen files.old files.new 0 (budget_of self.old) (budget_of self.new) }
         ensures told { Tells F.seen files.old result (λ carried names. (level : ℕ) (w : TreeWalk)
             → IsOfLevel (image_of (tree_seen names (tree_of self.old))) level b
             → page_in self.old ≡ (tree_seen names (tree_of self.old)).block b
@@ -232,7 +243,7 @@ impl<'t> Levels<'t> {
         Ok(walk.pass(&seen, self.fastroot))
     }
 
-    // The walk along a level from its first page on.
+    // The walk along a level from its first page on, as long as pages may be walked over.
     pub(crate) fn walk<F: Files>(
         &mut self,
         alloc: Global,
@@ -246,13 +257,17 @@ impl<'t> Levels<'t> {
         ensures told { Tells F.seen files.old result (λ carried names. (level : ℕ) (ds : List TreeDownlink)
             → StandsBefore (tree_seen names (tree_of self.old)) level self.old ds
             → BeginsChain (tree_seen names (tree_of self.old)) level first
+            → length (chain_from (tree_seen names (tree_of self.old)) first)
+            + pages_below (image_of (tree_seen names (tree_of self.old))) level ≤ walks_of self.old
             → HasWalked (tree_seen names (tree_of self.old)) level ds first self.old self.new carried) }
+        ensures steps { steps_of self.new ≡ steps_of self.old }
+        ensures taken { TakesReads F.seen files.old files.new 0 (budget_of self.old) (budget_of self.new) }
         ensures asked { Asked F.seen files.old files.new result PageFault.ReadFault }
     {
         self.lower = None;
         let mut walk = LevelWalk::new();
         let mut b = first;
-        for _ in 0..self.tree.relation.blocks() {
+        while self.walks_left > 0 {
             if b == 0 {
                 return Ok(walk);
             }

@@ -1,6 +1,6 @@
 use Rattle.std.proofs.Common.{◌≡◌, ◌+◌, ◌<◌, refl, sym, subst, ◌∙◌, arith}
 use Rattle.std.specs.Prelude.{None}
-use Rattle.outside.proofs.Asking.{Passed-next, Passed-none}
+use Rattle.outside.proofs.Asking.{PassedAtMost-next, PassedAtMost-none}
 use Rattle.rel_files.specs.Relation.{count_of}
 use Rattle.tree_rules.specs.Walk.{first_outside}
 use Rattle.tree_rules.proofs.Descent.{block_found, block_passed}
@@ -13,14 +13,14 @@ pub is_outside-requires-clause-pages : goal.is_outside-requires-clause-pages
 is_outside-requires-clause-pages g c names told = c.requires.pages names (sym c.loop-k.invariant.asked.same ∙ told)
 
 pub loop-k-init : goal.loop-k-init
-loop-k-init g c = record { none = λ names told. refl; asked = Passed-none }
+loop-k-init g c = record { none = λ names told. refl; asked = PassedAtMost-none }
 
 pub loop-k-preserved : goal.loop-k-preserved
 loop-k-preserved g c = record {
   none = λ names told.
       let i = c.loop-k.invariant in
       block_passed (image_of (tree_seen names c.args.tree.now)) (is_in c.args.stands.now) (c.loop-k.k + 1) (omega arith) (i.none names told) (sym (c.in_ok-is_outside.ensures.told names (i.asked.same ∙ told)) ∙ c.if-branch.false);
-  asked = Passed-next c.loop-k.invariant.asked c.in_ok-is_outside.ensures.asked;
+  asked = PassedAtMost-next 2 c.loop-k.k c.loop-k.invariant.asked c.in_ok-is_outside.ensures.asked;
 }
 
 pub returns-then-branch-clause-told : goal.returns-then-branch-clause-told

@@ -1,6 +1,6 @@
-use Rattle.std.proofs.Common.{◌≡◌, ◌+◌}
+use Rattle.std.proofs.Common.{◌≡◌, ◌+◌, ◌*◌}
 use Rattle.std.specs.Prelude.{None}
-use Rattle.outside.specs.Outside.{IfTold, Passed}
+use Rattle.outside.specs.Outside.{IfTold, PassedAtMost}
 use Rattle.tree_rules.specs.Walk.{first_outside}
 use Rattle.bt_pages.specs.Trees.{tree_seen}
 use Rattle.bt_walks.specs.Sets.{is_in}
@@ -11,5 +11,5 @@ use Rattle.bt_walks.proofs.check.first_outside.Given as goal
 abbrev pub invariant-loop-k : goal.invariant-loop-k
 invariant-loop-k g l = record {
   none : IfTold g.F.Files.seen l.fn.files (λ names. first_outside (image_of (tree_seen names l.tree)) (is_in l.stands) (l.k + 1) ≡ None);
-  asked : Passed g.F.Files.seen l.fn.files l.files;
+  asked : PassedAtMost (2 * l.k) g.F.Files.seen l.fn.files l.files;
 }

@@ -1,4 +1,5 @@
-use Rattle.std.proofs.Common.{suc, sym, subst}
+use Rattle.std.proofs.Common.{[], suc, sym, subst}
+use Rattle.std.specs.Prelude.{None}
 use Rattle.bt_pages.specs.Trees.{tree_seen}
 use Rattle.bt_walks.specs.Reading.{IsReading}
 use Rattle.bt_walks.specs.Sets.{is_in}
@@ -11,5 +12,9 @@ returns-clause-told g c names told level left reading fastroot =
     let tree = tree_seen names (tree_of c.args.self.now) in
     let begun = c.begin.ensures in
     let settled = c.in_ok-settle.ensures.reads names told level left
-    (record { hand = begun.sound tree.specs tree.more; reading = subst (λ k. IsReading (image_of tree) (is_in c.args.self.now.dead) (suc level) tree.blocks k left) (sym (begun.cursor tree.specs tree.more)) reading }) in
+    (record {
+      hand = begun.sound tree.specs tree.more;
+      reading = subst (λ k. IsReading (image_of tree) (is_in c.args.self.now.dead) (suc level) c.begin.new.self.turns_left k left) (sym (begun.cursor tree.specs tree.more))
+          (subst (λ m. IsReading (image_of tree) (is_in c.args.self.now.dead) (suc level) m (record { items = []; lower = None; block = c.args.first }) left) (sym begun.turns) reading);
+    }) in
     record { fastroot = fastroot; reads = settled.0; settled = settled.1 }

@@ -11,9 +11,9 @@ returns-in_ok-pass-clause-told g c names told level left linked before =
     let levels = c.args.self.now in
     let tree = tree_seen names (tree_of levels) in
     let m = met left c.args.seen.now.block (linked ∙ c.if-seen.true) in
-    let passed = c.in_ok-pass.ensures.reads names told level m.first m.rest before.settled (subst (Reads tree (is_in levels.dead) (suc level) tree.blocks levels.upper) m.is before.reads) in
+    let passed = c.in_ok-pass.ensures.reads names told level m.first m.rest before.settled (subst (Reads tree (is_in levels.dead) (suc level) levels.upper.turns_left levels.upper) m.is before.reads) in
     record {
       fastroot = before.fastroot;
-      reads = subst (Reads tree (is_in levels.dead) (suc level) tree.blocks c.pass.new.self) (sym m.left) passed.0;
+      reads = subst (Reads tree (is_in levels.dead) (suc level) c.pass.new.self.turns_left c.pass.new.self) (sym m.left) passed.0;
       settled = passed.1;
     }

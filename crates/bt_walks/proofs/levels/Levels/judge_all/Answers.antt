@@ -27,4 +27,4 @@ returns-clause-told g c names told =
     let ne : (image_of tree).root ≢ 0 = λ z. c.if-meta-eq0.false (ap (λ m. m.root) (c.requires.meta names told) ∙ z) in
     let roots = sym (c.in_ok-are_roots_misplaced.ensures.told names told) ∙ c.if-branch.false in
     levels_tree tree local ne roots c.judge_levels.new.self c.in_ok-found.found
-    (c.in_ok-found.ensures.told names (c.in_ok-are_roots_misplaced.ensures.asked.same ∙ told) ne roots (c.requires.top names told))
+    (c.in_ok-found.ensures.told names (c.in_ok-are_roots_misplaced.ensures.asked.same ∙ told) ne roots (c.requires.top names told) (c.requires.enough names told))

@@ -2,11 +2,10 @@ use Rattle.std.proofs.Common.{◌≡◌, ◌≤◌, ◌+◌, ◌-◌, suc, [], r
 use Rattle.std.specs.Prelude.{None, ◌==◌}
 use Rattle.outside.proofs.Asking.{Passed-next, Passed-none}
 use Rattle.bt_pages.specs.Trees.{tree_seen}
-use Rattle.rel_files.specs.Relation.{count_of}
 use Rattle.tree_search.specs.Levels.{downlinks, entry_page}
 use Rattle.bt_walks.specs.Reading.{IsOfLevel, IsReading}
 use Rattle.bt_walks.specs.Trees.{HoldsPages, image_of, order_in}
-use Rattle.bt_walks.specs.Walked.{IsLevelJudged, StandsBefore, dead_of, fastroot_of, tree_of}
+use Rattle.bt_walks.specs.Walked.{HasEnough, IsLevelJudged, StandsBefore, dead_of, fastroot_of, tree_of}
 use Rattle.bt_walks.proofs.Descending.{AtLevel, at_top, entry_here, found_on, last_on, next_on, none_is, some_is}
 use Rattle.bt_walks.proofs.Entries.{few_levels}
 use Rattle.bt_walks.proofs.levels.Levels.judge_levels.Goals.{then-is_some-via-then-is_some, then-is_some-via-else-is_some+then-level-eq0}
@@ -17,12 +16,13 @@ loop-k-init g c = record {
   ready = c.requires.ready;
   same = record { tree = refl; fastroot = refl };
   within = omega arith;
-  at = λ names told ne roots before.
+  at = λ names told ne roots before enough.
       let tree = tree_seen names (tree_of c.args.self.now) in
       let holds = c.requires.pages names told in
       let local = c.kept_rules_make_a_sound_image.ensures tree.specs tree.more tree.blocks tree.block holds.pages in
       let is = ap (λ m. m.level) (c.requires.meta names told) in
-      at_top tree local ne roots c.args.self.now (c.args.meta.now.level - 0) (let e : c.args.meta.now.level - 0 ≡ c.args.meta.now.level = omega arith in e ∙ is) before c.requires.dead c.requires.standing;
+      at_top tree local ne roots c.args.self.now (c.args.meta.now.level - 0) (let e : c.args.meta.now.level - 0 ≡ c.args.meta.now.level = omega arith in e ∙ is) before c.requires.dead c.requires.standing enough;
+  taken = omega arith;
   asked = Passed-none;
 }
 
@@ -50,24 +50,27 @@ loop-k-preserved g c =
     let d = c.in_ok-descend.ensures in
     let k = c.loop-k.k in
     let top = c.args.meta.now.level in
+    let before_reads = i.taken in
+    let judge_reads = j.taken in
+    let descend_reads = d.taken in
     let within : k + 1 ≤ top = let le = i.within in let some = c.if-level-eq0.false in omega (arith, le, some) in
     record {
       ready = d.ready;
       same = record { tree = ap tree_of d.downlinks ∙ j.same.tree ∙ i.same.tree; fastroot = ap fastroot_of d.downlinks ∙ j.same.fastroot ∙ i.same.fastroot };
       within = within;
-      at = λ names told ne roots before.
+      at = λ names told ne roots before enough.
           let tree = tree_seen names (tree_of c.args.self.now) in
           let holds = c.requires.pages names told in
           let local = c.kept_rules_make_a_sound_image.ensures tree.specs tree.more tree.blocks tree.block holds.pages in
           let m = top - (k + 1) in
           let here : top - k ≡ suc m = omega (arith, within) in
-          let at = i.at names told ne roots before in
+          let at = i.at names told ne roots before enough in
           let entry = entry_here tree local ne roots c.loop-k.self (top - k) k at in
           let held = i.asked.same ∙ told in
           let fast : (top - k == c.args.meta.now.fastlevel) ≡ (top - k == (image_of tree).fastlevel) = ap (λ q. top - k == q) (ap (λ z. z.fastlevel) (c.requires.meta names told)) in
           let judged = subst (λ t. IsLevelJudged (tree_seen names t) (top - k) (downlinks (image_of tree) k) c.loop-k.self c.judge.new.self c.in_ok-judged.judged) i.same.tree
           (j.told names held (top - k) (downlinks (image_of tree) k) (subst (λ t. StandsBefore (tree_seen names t) (top - k) c.loop-k.self (downlinks (image_of tree) k)) (sym i.same.tree) at.stands)
-          (subst (λ t. IsOfLevel (image_of (tree_seen names t)) (top - k) (entry_page (downlinks (image_of tree) k))) (sym i.same.tree) entry)
+          (subst (λ t. IsOfLevel (image_of (tree_seen names t)) (top - k) (entry_page (downlinks (image_of tree) k))) (sym i.same.tree) entry) (subst (λ t. HasEnough (tree_seen names t) (suc (top - k)) c.loop-k.self) (sym i.same.tree) at.enough)
           (fast ∙ ap (λ t. top - k == (image_of (tree_seen names t)).fastlevel) (sym i.same.tree))) in
           let none : c.in_ok-judged.judged.finding ≡ None = none_is c.in_ok-judged.judged.finding (sym c.is_some.ensures ∙ c.if-is_some.false) in
           let same = j.same.tree ∙ i.same.tree in
@@ -75,12 +78,13 @@ loop-k-preserved g c =
           (next_on tree local ne roots c.loop-k.self c.judge.new.self k c.in_ok-judged.judged m c.descend.new.self
           (subst (λ n. AtLevel tree c.loop-k.self n k) here at) (subst (λ n. IsLevelJudged tree n (downlinks (image_of tree) k) c.loop-k.self c.judge.new.self c.in_ok-judged.judged) here judged) none
           j.same.fastroot d.downlinks
-          (λ level left reading root. subst (λ t. StandsBefore (tree_seen names t) level c.descend.new.self left) same (d.told names (j.asked.same ∙ held) level left (subst (λ t. IsReading (image_of (tree_seen names t)) (dead_of c.judge.new.self) (suc level) (count_of t.relation.now) (record { items = []; lower = None; block = c.in_ok-judged.judged.first }) left) (sym same) reading) (root ∙ ap (λ t. (image_of (tree_seen names t)).fastroot) (sym same)))));
+          (λ level left reading root. subst (λ t. StandsBefore (tree_seen names t) level c.descend.new.self left) same (d.told names (j.asked.same ∙ held) level left (subst (λ t. IsReading (image_of (tree_seen names t)) (dead_of c.judge.new.self) (suc level) c.judge.new.self.upper.turns_left (record { items = []; lower = None; block = c.in_ok-judged.judged.first }) left) (sym same) reading) (root ∙ ap (λ t. (image_of (tree_seen names t)).fastroot) (sym same)))));
+      taken = omega (arith, before_reads, judge_reads, descend_reads);
       asked = Passed-next (Passed-next i.asked j.asked) d.asked;
     }
 
 pub returns-then-is_some-clause-told : goal.returns-then-is_some-clause-told
-returns-then-is_some-clause-told g c names told ne roots before =
+returns-then-is_some-clause-told g c names told ne roots before enough =
     let i = c.loop-k.invariant in
     let j = c.in_ok-judged.ensures in
     let k = c.loop-k.k in
@@ -88,12 +92,12 @@ returns-then-is_some-clause-told g c names told ne roots before =
     let tree = tree_seen names (tree_of c.args.self.now) in
     let holds = c.requires.pages names told in
     let local = c.kept_rules_make_a_sound_image.ensures tree.specs tree.more tree.blocks tree.block holds.pages in
-    let at = i.at names told ne roots before in
+    let at = i.at names told ne roots before enough in
     let entry = entry_here tree local ne roots c.loop-k.self (top - k) k at in
     let fast : (top - k == c.args.meta.now.fastlevel) ≡ (top - k == (image_of tree).fastlevel) = ap (λ q. top - k == q) (ap (λ z. z.fastlevel) (c.requires.meta names told)) in
     let judged = subst (λ t. IsLevelJudged (tree_seen names t) (top - k) (downlinks (image_of tree) k) c.loop-k.self c.judge.new.self c.in_ok-judged.judged) i.same.tree
     (j.told names (i.asked.same ∙ told) (top - k) (downlinks (image_of tree) k) (subst (λ t. StandsBefore (tree_seen names t) (top - k) c.loop-k.self (downlinks (image_of tree) k)) (sym i.same.tree) at.stands)
-    (subst (λ t. IsOfLevel (image_of (tree_seen names t)) (top - k) (entry_page (downlinks (image_of tree) k))) (sym i.same.tree) entry)
+    (subst (λ t. IsOfLevel (image_of (tree_seen names t)) (top - k) (entry_page (downlinks (image_of tree) k))) (sym i.same.tree) entry) (subst (λ t. HasEnough (tree_seen names t) (suc (top - k)) c.loop-k.self) (sym i.same.tree) at.enough)
     (fast ∙ ap (λ t. top - k == (image_of (tree_seen names t)).fastlevel) (sym i.same.tree))) in
     elim c.then-is_some.branch [
       | then-is_some-via-then-is_some w ↦
@@ -107,7 +111,7 @@ returns-then-is_some-clause-told g c names told ne roots before =
 
 -- there are no more levels than blocks
 pub returns-clause-told : goal.returns-clause-told
-returns-clause-told g c names told ne roots before =
+returns-clause-told g c names told ne roots before enough =
     let tree = tree_seen names (tree_of c.args.self.now) in
     let holds = c.requires.pages names told in
     let local = c.kept_rules_make_a_sound_image.ensures tree.specs tree.more tree.blocks tree.block holds.pages in

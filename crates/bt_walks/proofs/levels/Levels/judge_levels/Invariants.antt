@@ -1,10 +1,11 @@
-use Rattle.std.proofs.Common.{◌≡◌, ◌≢◌, ◌≤◌, ◌-◌, false}
+use Rattle.std.proofs.Common.{◌≡◌, ◌≢◌, ◌≤◌, ◌*◌, ◌-◌, suc, false}
 use Rattle.outside.specs.Outside.{IfTold, Passed}
 use Rattle.tree_search.specs.Levels.{downlinks}
 use Rattle.tree_rules.specs.Tests.{are_roots_misplaced}
 use Rattle.bt_pages.specs.Trees.{tree_seen}
+use Rattle.bt_walks.specs.Budget.{TakesReads}
 use Rattle.bt_walks.specs.Trees.{image_of}
-use Rattle.bt_walks.specs.Walked.{IsReady, IsSameIndex, StandsBefore, tree_of}
+use Rattle.bt_walks.specs.Walked.{HasEnough, IsReady, IsSameIndex, StandsBefore, budget_of, tree_of}
 use Rattle.bt_walks.proofs.Descending.{AtLevel}
 use Rattle.bt_walks.proofs.levels.Levels.judge_levels.Given as goal
 
@@ -17,6 +18,8 @@ invariant-loop-k g l = record {
   at : IfTold g.F.Files.seen l.fn.files (λ names. let tree = tree_seen names (tree_of l.fn.self) in
       (image_of tree).root ≢ 0 → are_roots_misplaced (image_of tree) ≡ false
       → StandsBefore tree (image_of tree).level l.fn.self (downlinks (image_of tree) 0)
+      → HasEnough tree (suc (image_of tree).level) l.fn.self
       → AtLevel tree l.self (l.meta.level - l.k) l.k);
+  taken : TakesReads g.F.Files.seen l.fn.files l.files (2 * l.k) (budget_of l.fn.self) (budget_of l.self);
   asked : Passed g.F.Files.seen l.fn.files l.files;
 }

@@ -1,5 +1,7 @@
-use Rattle.std.proofs.Common.{ap, ◌∙◌}
+use Rattle.std.proofs.Common.{ap, sym, ◌∙◌, arith}
 use Rattle.bt_pages.specs.Trees.{tree_seen}
+use Rattle.bt_walks.specs.Trees.{image_of}
+use Rattle.bt_walks.proofs.Counting.{few_below}
 use Rattle.bt_walks.proofs.Descending.{top_reads}
 use Rattle.bt_walks.proofs.levels.Levels.new.Goals as goal
 
@@ -10,6 +12,7 @@ returns-clause-ready c = record {
   lower = tt;
   dead = c.in_ok-dead.ensures.sized ∙ c.blocks-blocks.ensures;
   stands = c.in_ok-stands.ensures.sized ∙ c.blocks-blocks.ensures;
+  steps = let e = c.blocks-blocks.ensures in omega (arith, e);
 }
 
 pub returns-clause-top : goal.returns-clause-top
@@ -18,7 +21,14 @@ returns-clause-top c names meta =
       fastroot = ap (λ m. m.fastroot) meta;
       reads = record {
         hand = c.to_root.ensures.sound tree.specs tree.more;
-        reading = top_reads tree _ c.to_root.result _ (ap (λ m. m.root) meta) (c.to_root.ensures.hand tree.specs tree.more);
+        reading = top_reads tree _ c.to_root.result _ (ap (λ m. m.root) meta) (c.to_root.ensures.hand tree.specs tree.more) (sym (c.to_root.ensures.turns ∙ c.blocks-blocks.ensures));
       };
       settled = c.to_root.ensures.settled;
     }
+
+pub returns-clause-enough : goal.returns-clause-enough
+returns-clause-enough c names level =
+    let tree = tree_seen names c.args.tree in
+    let few = few_below (image_of tree) level in
+    let e = c.blocks-blocks.ensures in
+    record { walks = omega (arith, few, e); steps = omega (arith, few, e) }
