@@ -1,5 +1,6 @@
 pub mod Parts
 pub mod Rules
+pub mod Counts
 pub mod Placed
 pub mod Plain
 pub mod Orders

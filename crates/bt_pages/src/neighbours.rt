@@ -1,7 +1,7 @@
 //! The rules of a page's links: to its siblings (B12), and from an item of an internal page to a page one
 //! level down (B13).
 ghost use Rattle.std.specs.Prelude.{◌≡◌, ◌≤◌, ◌<◌, ◌-◌, List, ℕ, IfOk, false, find, None, not, ◌==◌, ◌&&◌};
-ghost use Rattle.outside.specs.Outside.{Asked, IfTold, Tells};
+ghost use Rattle.outside.specs.Outside.{AskedAtMost, IfTold, Tells};
 ghost use Rattle.page_layout.specs.Page.{count_of, page_rule_of};
 ghost use Rattle.page_layout.specs.View.{page_bytes};
 ghost use Rattle.key_orders.specs.declared.columns.KeySpec.{KeySpec as Spec};
@@ -40,7 +40,7 @@ fn is_bad_left<F: Files>(
         bad ≡ (not (left == 0)
         && is_bad_sibling seen.blocks seen.block b left (opaque_of (seen.block left)).next)) }
     ensures tree { StaysSeen F.seen files.old tree.old tree.new }
-    ensures asked { Asked F.seen files.old files.new result read_fault }
+    ensures asked { AskedAtMost 2 F.seen files.old files.new result read_fault }
 {
     if left == 0 {
         return Ok(false);
@@ -69,7 +69,7 @@ fn is_bad_right<F: Files>(
         bad ≡ (not (right == 0)
         && is_bad_sibling seen.blocks seen.block b right (opaque_of (seen.block right)).prev)) }
     ensures tree { StaysSeen F.seen files.old tree.old tree.new }
-    ensures asked { Asked F.seen files.old files.new result read_fault }
+    ensures asked { AskedAtMost 2 F.seen files.old files.new result read_fault }
 {
     if right == 0 {
         return Ok(false);
@@ -82,8 +82,8 @@ fn is_bad_right<F: Files>(
 }
 
 /// B12 of a block, whose page is in hand: it has a left or a right sibling that isn't a block of the
-/// index, is no part of the tree, has another level or doesn't link back. `ReadFault` comes only where
-/// the files couldn't be read.
+/// index, is no part of the tree, has another level or doesn't link back. It reads at most twice of each.
+/// `ReadFault` comes only where the files couldn't be read.
 #[tactic(auto, unfolding(crate::specs::Questions::sibling_rule, tree_image::specs::Pages::breaks_siblings))]
 pub fn sibling_rule<F: Files>(
     files: &mut F,
@@ -97,7 +97,7 @@ pub fn sibling_rule<F: Files>(
     ensures told { Tells F.seen files.old result (λ rule names.
         rule ≡ sibling_rule (tree_seen names tree.old.rules) b) }
     ensures tree { StaysSeen F.seen files.old tree.old tree.new }
-    ensures asked { Asked F.seen files.old files.new result read_fault }
+    ensures asked { AskedAtMost 4 F.seen files.old files.new result read_fault }
 {
     let special = opaque(page);
     if is_bad_left(files, tree, b, special.level, special.prev)? {
@@ -140,7 +140,7 @@ fn is_bad_downlink<F: Files>(
     ensures told { Tells F.seen files.old result (λ bad names.
         let seen = tree_seen names tree.old.rules in bad ≡ breaks_downlink seen.blocks seen.block level down) }
     ensures tree { StaysSeen F.seen files.old tree.old tree.new }
-    ensures asked { Asked F.seen files.old files.new result read_fault }
+    ensures asked { AskedAtMost 2 F.seen files.old files.new result read_fault }
 {
     if down == 0 || down >= tree.rules.relation.blocks() {
         return Ok(true);
@@ -150,8 +150,8 @@ fn is_bad_downlink<F: Files>(
 }
 
 /// B13 of item i, if it is asked: on an internal page the downlink of a data item is 0, isn't a block of
-/// the index, or leads to a page that is no part of the tree or isn't one level down. `ReadFault` comes
-/// only where the files couldn't be read.
+/// the index, or leads to a page that is no part of the tree or isn't one level down. It reads at most
+/// twice. `ReadFault` comes only where the files couldn't be read.
 pub fn downlink_rule<F: Files>(
     files: &mut F,
     tree: &mut SeenTree<'_>,
@@ -168,7 +168,7 @@ pub fn downlink_rule<F: Files>(
         rule ≡ find (breaks_item (tree_seen names tree.old.rules) (page_bytes page.entry) i)
         (downlink_rules (has_downlink (page_bytes page.entry) i))) }
     ensures tree { StaysSeen F.seen files.old tree.old tree.new }
-    ensures asked { Asked F.seen files.old files.new result read_fault }
+    ensures asked { AskedAtMost 2 F.seen files.old files.new result read_fault }
 {
     let special = opaque(page);
     if special.is_leaf() || i < first_data(page) {

@@ -1,7 +1,7 @@
 //! Judges one page of a tree.
-ghost use Rattle.std.specs.Prelude.{◌≡◌, ◌≤◌, All, false, length, None};
+ghost use Rattle.std.specs.Prelude.{◌≡◌, ◌*◌, ◌≤◌, All, false, length, None};
 ghost use Rattle.outside.specs.Adds.{AddsIn};
-ghost use Rattle.outside.specs.Outside.{Asked, IfTold, Tells};
+ghost use Rattle.outside.specs.Outside.{AskedAtMost, IfTold, Tells};
 ghost use Rattle.page_layout.specs.Page.{count_of, page_rule_of};
 ghost use Rattle.page_layout.specs.View.{page_bytes};
 ghost use Rattle.key_orders.specs.Types.{HasAlignment};
@@ -64,7 +64,7 @@ fn rule_of_item<F: Files>(
     ensures told { Tells F.seen files.old result (λ rule names.
         rule ≡ item_rule (tree_seen names tree.old.rules) (page_bytes page.entry) i) }
     ensures tree { StaysSeen F.seen files.old tree.old tree.new }
-    ensures asked { Asked F.seen files.old files.new result read_fault }
+    ensures asked { AskedAtMost 2 F.seen files.old files.new result read_fault }
 {
     match found.rule {
         Some(rule) => Ok(Some(rule)),
@@ -94,7 +94,7 @@ fn judge_item<F: Files>(
     ensures lists { IfTold F.seen files.old (λ names. AddsIn report_lists result report.old report.new
         (item_lists (tree_seen names tree.old.rules) at.block (page_bytes page.entry) at.item)) }
     ensures tree { StaysSeen F.seen files.old tree.old tree.new }
-    ensures asked { Asked F.seen files.old files.new result PageFault.ReadFault }
+    ensures asked { AskedAtMost 2 F.seen files.old files.new result PageFault.ReadFault }
 {
     let found = found_on_page(page, at.item, tree.rules.specs, tree.rules.more, pass);
     let place = Place::Item(Rel::Index(tree.rules.number), at.block, at.item);
@@ -103,7 +103,7 @@ fn judge_item<F: Files>(
     Ok(())
 }
 
-// Judges the items of a page one by one, by what a pass over them told.
+// Judges the items of a page one by one, by what a pass over them told. For each it reads at most twice.
 fn judge_each<F: Files>(
     files: &mut F,
     tree: &mut SeenTree<'_>,
@@ -123,7 +123,8 @@ fn judge_each<F: Files>(
     ensures lists { IfTold F.seen files.old (λ names. AddsIn report_lists result report.old report.new
         (items_lists (tree_seen names tree.old.rules) b (page_bytes page.entry))) }
     ensures tree { StaysSeen F.seen files.old tree.old tree.new }
-    ensures asked { Asked F.seen files.old files.new result PageFault.ReadFault }
+    ensures asked { AskedAtMost (2 * count_of (page_bytes page.entry)) F.seen files.old files.new result
+        PageFault.ReadFault }
 {
     for k in 0..page.item_count() {
         let at = Tid {
@@ -136,7 +137,7 @@ fn judge_each<F: Files>(
 }
 
 // Judges the items of a page: in one pass, and then, where that tells of something to be found or the
-// items have downlinks, one by one.
+// items have downlinks, one by one. There are at most 2038 of them.
 fn judge_items<F: Files>(
     files: &mut F,
     tree: &mut SeenTree<'_>,
@@ -154,7 +155,7 @@ fn judge_items<F: Files>(
     ensures lists { IfTold F.seen files.old (λ names. AddsIn report_lists result report.old report.new
         (items_lists (tree_seen names tree.old.rules) b (page_bytes page.entry))) }
     ensures tree { StaysSeen F.seen files.old tree.old tree.new }
-    ensures asked { Asked F.seen files.old files.new result PageFault.ReadFault }
+    ensures asked { AskedAtMost 4076 F.seen files.old files.new result PageFault.ReadFault }
 {
     let pass = pass_of_items(page, tree.rules.specs, tree.rules.more);
     match pass {
@@ -165,7 +166,8 @@ fn judge_items<F: Files>(
 
 /// Judges the page of a block of an index, which isn't block 0: its header and its flags (P1 to P4, B1
 /// to B4), and where it breaks none of these and is part of the tree, its siblings (B12) and its items
-/// (B5 to B11, B13, U5). What is asked of a sibling or of a page one level down is read of them.
+/// (B5 to B11, B13, U5). What is asked of a sibling or of a page one level down is read of them. It reads at
+/// most 4080 times: twice of each of two siblings, and twice for each of at most 2038 items.
 ///
 /// `ReadFault` comes only where the count of the files' faults rose. After an error the report has a
 /// first part of what it would have got.
@@ -186,7 +188,7 @@ pub fn judge_page<F: Files>(
     ensures lists { IfTold F.seen files.old (λ names. AddsIn report_lists result report.old report.new
         (page_lists (tree_seen names tree.old.rules) b (page_bytes page.entry))) }
     ensures tree { StaysSeen F.seen files.old tree.old tree.new }
-    ensures asked { Asked F.seen files.old files.new result PageFault.ReadFault }
+    ensures asked { AskedAtMost 4080 F.seen files.old files.new result PageFault.ReadFault }
 {
     let place = Place::Block(Rel::Index(tree.rules.number), b);
     match lone_rule(page) {

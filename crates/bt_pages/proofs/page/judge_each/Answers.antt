@@ -1,7 +1,7 @@
 use Rattle.std.proofs.Common.{◌≡◌, ◌∙◌, ◌+◌, ℕ, refl, subst, arith}
 use Rattle.outside.specs.Adds.{Begins}
 use Rattle.outside.proofs.Adding.{Adds-exit}
-use Rattle.outside.proofs.Asking.{Passed-next, Passed-none}
+use Rattle.outside.proofs.Asking.{PassedAtMost-next, PassedAtMost-none}
 use Rattle.page_layout.specs.Page.{count_of}
 use Rattle.page_layout.specs.View.{page_bytes}
 use Rattle.reports.specs.Added.{each_upto, joined, report_lists}
@@ -14,7 +14,7 @@ pub loop-k-init : goal.loop-k-init
 loop-k-init g c = record {
   lists = λ names told. upto-none report_lists (item_lists (tree_seen names c.args.tree.now.rules) c.args.b (page_bytes c.args.page)) c.args.report.now;
   tree = record { rules = refl; kept = c.requires.seen };
-  asked = Passed-none;
+  asked = PassedAtMost-none;
 }
 
 pub loop-k-preserved : goal.loop-k-preserved
@@ -26,7 +26,7 @@ loop-k-preserved g c = record {
     rules = c.in_ok-judge_item.ensures.tree.rules ∙ c.loop-k.invariant.tree.rules;
     kept = λ names told. c.in_ok-judge_item.ensures.tree.kept names (c.loop-k.invariant.asked.same ∙ told);
   };
-  asked = Passed-next c.loop-k.invariant.asked c.in_ok-judge_item.ensures.asked;
+  asked = PassedAtMost-next 2 c.loop-k.k c.loop-k.invariant.asked c.in_ok-judge_item.ensures.asked;
 }
 
 pub returns-in_err-judge_item-clause-lists : goal.returns-in_err-judge_item-clause-lists
