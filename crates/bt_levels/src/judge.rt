@@ -1,7 +1,8 @@
 //! Judges the segments, the blocks and the levels of an index.
-ghost use Rattle.std.specs.Prelude.{◌≡◌, ◌<◌, ◌↔◌, ◌≤◌, All, IfOk, IfSome, IsSome, None, length, true};
+ghost use Rattle.std.specs.Prelude.{◌≡◌, ◌+◌, ◌-◌, ◌*◌, ◌<◌, ◌↔◌, ◌≤◌, All, IfOk, IfSome, IsSome};
+ghost use Rattle.std.specs.Prelude.{None, length, min, true};
 ghost use Rattle.outside.specs.Adds.{AddsIn};
-ghost use Rattle.outside.specs.Outside.{Asked, IfTold, Tells};
+ghost use Rattle.outside.specs.Outside.{Asked, AskedAtMost, IfTold, Tells};
 ghost use Rattle.key_orders.specs.Types.{HasAlignment};
 ghost use Rattle.varlena_attrs.specs.Keyed.{key_types, more_types};
 ghost use Rattle.rel_files.specs.Relation.{IsAttached, count_of, long_of};
@@ -33,7 +34,7 @@ fn add_segment(report: &mut Report, number: u16, long: Option<u32>) -> Result<()
     }
 }
 
-// Judges block 0, the metapage, and says whether nothing was found of it.
+// Judges block 0, the metapage, and says whether nothing was found of it. It is read once, if it is there.
 fn judge_first<F: Files>(
     files: &mut F,
     tree: &TreeRules<'_>,
@@ -45,7 +46,8 @@ fn judge_first<F: Files>(
         (first_lists (tree_seen names tree.now))) }
     ensures quiet { Tells F.seen files.old result (λ quiet names. quiet ≡ is_first_quiet (tree_seen names tree.now)) }
     ensures some { IfOk result (λ quiet. quiet ≡ true → 0 < count_of tree.now.relation.now) }
-    ensures asked { Asked F.seen files.old files.new result PageFault.ReadFault }
+    ensures asked { AskedAtMost (min 1 (count_of tree.now.relation.now)) F.seen files.old files.new result
+        PageFault.ReadFault }
 {
     let place = Place::Block(Rel::Index(tree.number), 0);
     let blocks = tree.relation.blocks();
@@ -61,7 +63,7 @@ fn judge_first<F: Files>(
     Ok(rule.is_none() && doubt.is_none())
 }
 
-// Judges the blocks from 1 on, one after the other.
+// Judges the blocks from 1 on, one after the other: after one read at most 4081 for each of them.
 fn judge_others<F: Files>(
     files: &mut F,
     tree: &mut SeenTree<'_>,
@@ -77,7 +79,8 @@ fn judge_others<F: Files>(
     ensures lists { IfTold F.seen files.old (λ names. AddsIn report_lists result report.old report.new
         (other_lists (tree_seen names tree.old.rules))) }
     ensures tree { StaysSeen F.seen files.old tree.old tree.new }
-    ensures asked { Asked F.seen files.old files.new result PageFault.ReadFault }
+    ensures asked { AskedAtMost (1 + 4081 * (count_of tree.old.rules.relation.now - 1)) F.seen files.old files.new
+        result PageFault.ReadFault }
 {
     let mut window = Window::new();
     window.begin(files, tree)?;
@@ -101,7 +104,8 @@ fn judge_blocks<F: Files>(
     requires attached { IfTold F.seen files.old (λ names. IsAttached names tree.now.relation.now) }
     ensures lists { IfTold F.seen files.old (λ names. AddsIn report_lists result report.old report.new
         (blocks_lists (tree_seen names tree.now))) }
-    ensures asked { Asked F.seen files.old files.new result PageFault.ReadFault }
+    ensures asked { AskedAtMost (4081 * count_of tree.now.relation.now) F.seen files.old files.new result
+        PageFault.ReadFault }
 {
     let mut page = [0u8; 8192];
     if judge_first(files, tree, &mut page, report)? {
@@ -111,7 +115,7 @@ fn judge_blocks<F: Files>(
     Ok(())
 }
 
-// Judges the segments and the blocks.
+// Judges the segments and the blocks. It reads at most 4081 times for each block.
 fn judge_pages<F: Files>(
     alloc: Global,
     files: &mut F,
@@ -122,7 +126,8 @@ fn judge_pages<F: Files>(
     requires attached { IfTold F.seen files.old (λ names. IsAttached names tree.now.relation.now) }
     ensures lists { IfTold F.seen files.old (λ names. AddsIn report_lists result report.old report.new
         (pages_lists (tree_seen names tree.now) (long_of tree.now.relation.now))) }
-    ensures asked { Asked F.seen files.old files.new result PageFault.ReadFault }
+    ensures asked { AskedAtMost (4081 * count_of tree.now.relation.now) F.seen files.old files.new result
+        PageFault.ReadFault }
 {
     add_segment(report, tree.number, tree.relation.long_segment())?;
     judge_blocks(alloc, files, tree, report)

@@ -1,7 +1,7 @@
 //! Two pages of an index in hand: a block that is judged, and the one after it, to which it mostly links.
 ghost use Rattle.std.specs.Prelude.{◌≡◌, ◌+◌, ◌<◌, ◌≤◌, All, OnOk, length};
 ghost use Rattle.outside.specs.Adds.{AddsIn};
-ghost use Rattle.outside.specs.Outside.{Asked, IfTold};
+ghost use Rattle.outside.specs.Outside.{AskedAtMost, IfTold};
 ghost use Rattle.key_orders.specs.Types.{HasAlignment};
 ghost use Rattle.varlena_attrs.specs.Keyed.{key_types, more_types};
 ghost use Rattle.rel_files.specs.Faults.{read_fault};
@@ -31,7 +31,7 @@ fn read_block<F: Files>(
     ensures page { OnOk result (IfTold F.seen files.old (λ names.
         page.new ≡ (tree_seen names tree.old.rules).block b)) }
     ensures tree { StaysSeen F.seen files.old tree.old tree.new }
-    ensures asked { Asked F.seen files.old files.new result read_fault }
+    ensures asked { AskedAtMost 1 F.seen files.old files.new result read_fault }
 {
     tree.rules.relation.read_block(files, b, page)?;
     tree.saw(PageView::new(page), b);
@@ -61,7 +61,7 @@ fn judge_block<F: Files>(
         b + 1 < count_of tree.old.rules.relation.now
         → next.new ≡ (tree_seen names tree.old.rules).block (b + 1))) }
     ensures tree { StaysSeen F.seen files.old tree.old tree.new }
-    ensures asked { Asked F.seen files.old files.new result PageFault.ReadFault }
+    ensures asked { AskedAtMost 4081 F.seen files.old files.new result PageFault.ReadFault }
 {
     if tree.rules.relation.blocks() - b > 1 {
         read_block(files, tree, b + 1, next)?;
@@ -100,7 +100,7 @@ impl Window {
             1 < count_of tree.old.rules.relation.now
             → held_page self.new ≡ (tree_seen names tree.old.rules).block 1)) }
         ensures tree { StaysSeen F.seen files.old tree.old tree.new }
-        ensures asked { Asked F.seen files.old files.new result read_fault }
+        ensures asked { AskedAtMost 1 F.seen files.old files.new result read_fault }
     {
         self.is_right = false;
         if tree.rules.relation.blocks() > 1 {
@@ -109,7 +109,8 @@ impl Window {
         Ok(())
     }
 
-    // Judges the block in hand, and goes on to the next one, if there is one.
+    // Judges the block in hand, and goes on to the next one, if there is one: one read for that, and at
+    // most 4080 for what is asked of other blocks.
     pub fn judge_next<F: Files>(
         &mut self,
         files: &mut F,
@@ -132,7 +133,7 @@ impl Window {
             b + 1 < count_of tree.old.rules.relation.now
             → held_page self.new ≡ (tree_seen names tree.old.rules).block (b + 1))) }
         ensures tree { StaysSeen F.seen files.old tree.old tree.new }
-        ensures asked { Asked F.seen files.old files.new result PageFault.ReadFault }
+        ensures asked { AskedAtMost 4081 F.seen files.old files.new result PageFault.ReadFault }
     {
         let result = if self.is_right {
             judge_block(files, tree, b, &self.right, &mut self.left, report)

@@ -1,7 +1,6 @@
 use Rattle.std.proofs.Common.{◌≡◌, ◌∙◌, ◌+◌, ◌-◌, ◌<◌, ℕ, ap, subst, arith}
 use Rattle.outside.specs.Adds.{Begins}
 use Rattle.outside.proofs.Adding.{Adds-exit, Begins-none}
-use Rattle.outside.proofs.Asking.{Passed-next, Passed-none}
 use Rattle.rel_files.specs.Relation.{count_of}
 use Rattle.reports.specs.Added.{each_upto, joined, report_lists}
 use Rattle.reports.proofs.Upto.{upto-cut, upto-next, upto-none}
@@ -10,6 +9,7 @@ use Rattle.bt_pages.specs.Trees.{tree_seen}
 use Rattle.bt_pages.specs.declared.tree.TreeRules.{TreeRules}
 use Rattle.bt_levels.specs.Lists.{other_lists}
 use Rattle.bt_levels.specs.Window.{held_page}
+use Rattle.bt_levels.proofs.Asked.{first_read, next_reads}
 use Rattle.bt_levels.proofs.judge.judge_others.Goals as goal
 
 pub loop-k-init : goal.loop-k-init
@@ -17,7 +17,7 @@ loop-k-init g c = record {
   lists = λ names told. upto-none report_lists (block_lists (tree_seen names c.args.tree.now.rules)) c.args.report.now;
   here = λ names told some. c.in_ok-begin.ensures.page names told some;
   tree = record { rules = c.in_ok-begin.ensures.tree.rules; kept = c.in_ok-begin.ensures.tree.kept };
-  asked = Passed-next Passed-none c.in_ok-begin.ensures.asked;
+  asked = first_read c.in_ok-begin.ensures.asked;
 }
 
 pub loop-k-preserved : goal.loop-k-preserved
@@ -32,7 +32,7 @@ loop-k-preserved g c = record {
     rules = c.in_ok-judge_next.ensures.tree.rules ∙ c.loop-k.invariant.tree.rules;
     kept = λ names told. c.in_ok-judge_next.ensures.tree.kept names (c.loop-k.invariant.asked.same ∙ told);
   };
-  asked = Passed-next c.loop-k.invariant.asked c.in_ok-judge_next.ensures.asked;
+  asked = next_reads c.loop-k.k c.loop-k.invariant.asked c.in_ok-judge_next.ensures.asked;
 }
 
 pub returns-in_err-begin-clause-lists : goal.returns-in_err-begin-clause-lists

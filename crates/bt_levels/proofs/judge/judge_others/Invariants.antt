@@ -1,5 +1,5 @@
-use Rattle.std.proofs.Common.{◌≡◌, ◌+◌, ◌<◌}
-use Rattle.outside.specs.Outside.{IfTold, Passed}
+use Rattle.std.proofs.Common.{◌≡◌, ◌+◌, ◌*◌, ◌<◌}
+use Rattle.outside.specs.Outside.{IfTold, PassedAtMost}
 use Rattle.reports.specs.Added.{each_upto, joined, report_lists}
 use Rattle.bt_pages.specs.Found.{block_lists}
 use Rattle.bt_pages.specs.Seen.{StaysSeen}
@@ -8,11 +8,11 @@ use Rattle.rel_files.specs.Relation.{count_of}
 use Rattle.bt_levels.specs.Window.{held_page}
 use Rattle.bt_levels.proofs.judge.judge_others.Given as goal
 
--- what is found of the blocks so far is added
+-- what is found of the blocks so far is added, and beside the first read each took at most 4081
 abbrev pub invariant-loop-k : goal.invariant-loop-k
 invariant-loop-k g l = record {
   lists : IfTold g.F.Files.seen l.fn.files (λ names. l.report ≡ joined l.fn.report (each_upto report_lists (block_lists (tree_seen names l.fn.tree.rules)) l.k));
   here : IfTold g.F.Files.seen l.fn.files (λ names. l.k + 1 < count_of l.fn.tree.rules.relation.now → held_page l.window ≡ (tree_seen names l.fn.tree.rules).block (l.k + 1));
   tree : StaysSeen g.F.Files.seen l.fn.files l.fn.tree l.tree;
-  asked : Passed g.F.Files.seen l.fn.files l.files;
+  asked : PassedAtMost (1 + 4081 * l.k) g.F.Files.seen l.fn.files l.files;
 }
