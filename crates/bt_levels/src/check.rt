@@ -1,7 +1,8 @@
 //! Judges an index of a case.
-ghost use Rattle.std.specs.Prelude.{◌≡◌, ◌↔◌, ◌⊎◌, [], IfErr, IfOk, IfSome, IsSome};
+ghost use Rattle.std.specs.Prelude.{◌≡◌, ◌↔◌, ◌⊎◌, ◌*◌, [], IfErr, IfOk, IfSome, IsSome};
 ghost use Rattle.outside.specs.Adds.{AddsIn};
-ghost use Rattle.outside.specs.Outside.{Asked, IfTold, Tells};
+ghost use Rattle.outside.specs.Outside.{AskedAtMost, IfTold, Tells};
+ghost use Rattle.rel_files.specs.Relation.{count_of};
 ghost use Rattle.reports.specs.Added.{report_lists};
 ghost use Rattle.bt_pages.specs.Broken.{AreEmpty};
 ghost use Rattle.bt_levels.specs.Files.{BelongsTo, IsFileOf, number_of, relation_of};
@@ -53,7 +54,8 @@ fn judge_file<F: Files>(
         IsSome shape ↔ AreEmpty (tree_lists case.now names (number_of at.now))) }
     ensures shape { Tells F.seen files.old result (λ shape names.
         IfSome shape (IsShapeOf (tree_of case.now names (number_of at.now)))) }
-    ensures asked { Asked F.seen files.old files.new result PageFault.ReadFault }
+    ensures asked { AskedAtMost (4096 * count_of (relation_of at.now)) F.seen files.old files.new result
+        PageFault.ReadFault }
 {
     case.sound();
     let tree = rules_of(case, at);
@@ -76,7 +78,7 @@ fn keys_of(alloc: Global, specs: &[KeySpec]) -> Result<Vec<KeySpec>, NoMemory>
 ///
 /// The answer is `None` exactly where something was added. `ReadFault` comes only where the count of the
 /// files' faults rose, and `NoFile` and `TooLarge` never. After an error the report has a first part of
-/// what it would have got.
+/// what it would have got. Whatever the files hold, there are at most 4096 reads for each block of the index.
 pub fn check_tree<F: Files>(
     alloc: Global,
     files: &mut F,
@@ -96,7 +98,8 @@ pub fn check_tree<F: Files>(
     ensures holds { IfOk result (λ answer. IfSome answer (λ sound. IfTold F.seen files.old (λ names.
         HoldsTree names sound))) }
     ensures only { IfErr result (λ e. e ≡ CheckFault.ReadFault ⊎ e ≡ CheckFault.NoMemory) }
-    ensures asked { Asked F.seen files.old files.new result CheckFault.ReadFault }
+    ensures asked { AskedAtMost (4096 * count_of (relation_of at)) F.seen files.old files.new result
+        CheckFault.ReadFault }
 {
     indexes_are_judged();
     let Some(shape) = judge_file(alloc, files, case, &at, report)? else {

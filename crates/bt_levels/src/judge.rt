@@ -164,7 +164,8 @@ fn judge_levels<F: Files>(
         IsSome shape ↔ (first_broken_in (tree_seen names tree.now) ≡ None)) }
     ensures shape { Tells F.seen files.old result (λ shape names.
         IfSome shape (IsShapeOf (tree_seen names tree.now))) }
-    ensures asked { Asked F.seen files.old files.new result PageFault.ReadFault }
+    ensures asked { AskedAtMost (15 * count_of tree.now.relation.now) F.seen files.old files.new result
+        PageFault.ReadFault }
 {
     let found = first_broken_rule(alloc, files, tree)?;
     add_level_finding(report, tree.number, found.finding)?;
@@ -186,7 +187,8 @@ fn is_as_before(report: &Report, before: (u64, u64)) -> bool
 /// that the other blocks (P1 to P4, B1 to B13, U5), and where nothing is found of those the levels (L1 to L9).
 ///
 /// The answer is `None` exactly where something was added, and else what a search of the index needs to know.
-/// After an error the report has a first part of what it would have got.
+/// After an error the report has a first part of what it would have got. Whatever the files hold, there are
+/// at most 4096 reads for each block.
 pub fn judge_index<F: Files>(
     alloc: Global,
     files: &mut F,
@@ -201,7 +203,8 @@ pub fn judge_index<F: Files>(
         IsSome shape ↔ AreEmpty (index_lists (tree_seen names tree.now) (long_of tree.now.relation.now))) }
     ensures shape { Tells F.seen files.old result (λ shape names.
         IfSome shape (IsShapeOf (tree_seen names tree.now))) }
-    ensures asked { Asked F.seen files.old files.new result PageFault.ReadFault }
+    ensures asked { AskedAtMost (4096 * count_of tree.now.relation.now) F.seen files.old files.new result
+        PageFault.ReadFault }
 {
     let before = report.counts();
     judge_pages(alloc, files, tree, report)?;
