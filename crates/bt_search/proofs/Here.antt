@@ -1,5 +1,5 @@
 -- The first entry of a leaf's item, where it is the one that is sought.
-use Rattle.std.proofs.Common.{◌≡◌, ◌≤◌, ℕ, List, [], ◌∷◌, Bool, false, ap, refl, subst, sym, ◌∙◌}
+use Rattle.std.proofs.Common.{◌≡◌, ◌≤◌, ℕ, List, [], ◌∷◌, Bool, false, ap, refl, subst, sym}
 use Rattle.std.specs.Prelude.{Some, Ok, slice_get}
 use Rattle.page_layout.specs.Page.{count_of, item_of}
 use Rattle.tree_search.specs.Keys.{Entry, Separator}

@@ -1,6 +1,6 @@
 -- What a contract sees of a cache of pages.
-use Rattle.std.specs.Prelude.{◌≡◌, ℕ, ◌-◌, ◌⊎◌, List, ◌∷◌, All, IfOk, IsNone, Option, IsSome, OnErr, Result, nat_eq}
-use Rattle.std.specs.Prelude.{refl, take}
+use Rattle.std.specs.Prelude.{◌≡◌, ℕ, ◌-◌, ◌<◌, ◌≤◌, ◌⊎◌, List, ◌∷◌, All, IfOk, IsNone, Option, IsSome, OnErr}
+use Rattle.std.specs.Prelude.{Result, nat_eq, refl, take}
 use Rattle.std.specs.Borrow.{Bor}
 use Rattle.std.specs.Map.{lookup}
 use Rattle.std.specs.Coded.{Coded, code_by, coded×, coded_list, coded_ℕ}
@@ -29,6 +29,10 @@ page_of block c = lookup (nat_eq block) c.kept
 -- a page of this block is kept
 abbrev pub Keeps : ℕ → Cached → Type 0
 Keeps block c = IsSome (page_of block c)
+
+-- a page is kept of every block from 1 on, of so many blocks
+abbrev pub KeepsAll : (blocks : ℕ) → Cached → Type 0
+KeepsAll blocks c = (b : ℕ) → 1 ≤ b → b < blocks → Keeps b c
 
 -- each page that is kept is what stands at its number
 abbrev pub KeepsOf : (ℕ → List ℕ) → Cached → Type 0

@@ -1,5 +1,5 @@
 -- A leaf of an index that is in hand, where look-ups go on.
-use Rattle.std.specs.Prelude.{◌≡◌, ◌≢◌, ℕ, ◌<◌, ◌≤◌, List, None, true}
+use Rattle.std.specs.Prelude.{◌≡◌, ◌≢◌, ℕ, ◌<◌, ◌≤◌, List, None, Some, slice_get, true}
 use Rattle.outside.specs.Outside.{Names}
 use Rattle.page_layout.specs.Page.{count_of, page_rule_of}
 use Rattle.page_layout.specs.declared.page.PageKind.TheVariants.{Tree}
@@ -7,6 +7,8 @@ use Rattle.tree_image.specs.Image.{first_data}
 use Rattle.bt_levels.specs.declared.sound.SoundTree.{SoundTree}
 use Rattle.bt_levels.specs.Sound.{block_count, held_block}
 use Rattle.bt_steps.specs.Pages.{is_live_leaf}
+use Rattle.bt_search.specs.Cached.{Cached}
+use Rattle.bt_search.specs.declared.spot.Spot.{Spot}
 
 -- what a contract sees of it: its block, 0 where none is in hand, the item from which a look-up goes on, and its bytes
 pub record InHand : Type 0 where
@@ -27,6 +29,11 @@ pub record IsLeafWith (page : List ℕ) (item : ℕ) : Type 0 where
 -- a leaf in hand is such a page
 abbrev pub IsLeaf : InHand → Type 0
 IsLeaf hand = hand.block ≢ 0 → IsLeafWith hand.bytes hand.item
+
+-- the page that was used last in a cache is that of a spot's block, and such a leaf, with the spot's item
+pub record IsLeafOf (cache : Cached) (at : Spot) (page : List ℕ) : Type 0 where
+  pub last : slice_get cache.kept 0 ≡ Some (at.block, page)
+  pub leaf : IsLeafWith page at.item
 
 -- it is its block of the index that the names hold
 pub record IsBlockOf (names : Names) (tree : SoundTree) (hand : InHand) : Type 0 where

@@ -1,13 +1,13 @@
 //! A leaf in hand, for look-ups that go on along it.
-ghost use Rattle.std.specs.Prelude.{◌≡◌, ◌<◌, IfOk, IfSome};
-ghost use Rattle.std.specs.Bool.{OnTrue};
+ghost use Rattle.std.specs.Prelude.{◌≡◌, ℕ, ◌<◌, IfOk, IfSome, List};
+ghost use Rattle.std.specs.Bool.{OnFalse, OnTrue};
 ghost use Rattle.outside.specs.Outside.{Names as Held};
 ghost use Rattle.page_layout.specs.View.{page_bytes};
 ghost use Rattle.key_orders.specs.Keys.{IsKey};
 ghost use Rattle.bt_levels.specs.declared.sound.SoundTree.{SoundTree as Sound};
 ghost use Rattle.bt_levels.specs.Sound.{block_count, specs_of};
 ghost use Rattle.bt_search.specs.Cached.{IsCacheOf};
-ghost use Rattle.bt_search.specs.InHand.{IsHandOf, IsLeafWith};
+ghost use Rattle.bt_search.specs.InHand.{IsHandOf, IsLeafOf, IsLeafWith, in_hand};
 ghost use Rattle.bt_search.specs.Lookups.{IsAtSpot};
 
 use crate::cache::PageCache;
@@ -44,7 +44,8 @@ impl Model for LeafInHand {
 
 // Whether a page is a leaf on which look-ups may go on from an item.
 fn is_leaf_with(page: PageView<'_>, item: u16) -> bool
-    ensures { OnTrue result (IsLeafWith (page_bytes page.entry) item) }
+    ensures is { OnTrue result (IsLeafWith (page_bytes page.entry) item) }
+    ensures is_not { OnFalse result (¬ IsLeafWith (page_bytes page.entry) item) }
 {
     page.page_rule(PageKind::Tree).is_none()
         && is_live_leaf(page)
@@ -97,11 +98,15 @@ impl LeafInHand {
         })
     }
 
-    /// Takes the leaf of an entry in hand, where the page that was used last in a cache is that leaf: look-ups go on
-    /// from the entry's item. Else all is as it was.
+    /// Takes the leaf of an entry in hand, where the page that was used last in a cache is of its block, and a leaf in
+    /// use with its item: the hand then has this block and this page, and look-ups go on from this item. Else all is as
+    /// it was.
     pub fn take(&mut self, cache: &PageCache, at: Spot)
         ensures of { (names : Held) (tree : Sound) → IsCacheOf names tree cache.now → at.block < block_count tree
             → IsHandOf names tree self.old → IsHandOf names tree self.new }
+        ensures taken { (page : List ℕ) → IsLeafOf cache.now at page
+            → self.new ≡ in_hand at.block at.item page }
+        ensures left { ((page : List ℕ) → ¬ IsLeafOf cache.now at page) → self.new ≡ self.old }
     {
         let Some((block, page)) = cache.last() else {
             return;

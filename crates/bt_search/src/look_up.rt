@@ -1,5 +1,5 @@
 //! Looks one entry up, through a cache of pages, on its way from the fast root.
-ghost use Rattle.std.specs.Prelude.{◌≡◌, ◌≢◌, ◌<◌, ◌≤◌, ◌+◌, ◌-◌, ◌^◌, ◌↔◌, List, None, Some, true, option_map};
+ghost use Rattle.std.specs.Prelude.{◌≡◌, ◌≢◌, ◌<◌, ◌≤◌, ◌+◌, ◌-◌, ◌^◌, ◌↔◌, IsOk, List, None, Some, true, option_map};
 ghost use Rattle.outside.specs.Outside.{AskedAtMost, IfTold, Names as Held, Tells};
 ghost use Rattle.rel_files.specs.Faults.{read_fault};
 ghost use Rattle.key_orders.specs.declared.columns.Value.{Value};
@@ -7,7 +7,7 @@ ghost use Rattle.key_orders.specs.declared.Tid.{Tid as At};
 ghost use Rattle.key_orders.specs.Keys.{IsKey};
 ghost use Rattle.bt_levels.specs.declared.sound.SoundTree.{SoundTree as Sound};
 ghost use Rattle.bt_levels.specs.Sound.{HoldsTree, block_count, fastroot_of, image_of, specs_of};
-ghost use Rattle.bt_search.specs.Cached.{IsCacheOf};
+ghost use Rattle.bt_search.specs.Cached.{IsCacheOf, KeepsAll};
 ghost use Rattle.bt_steps.specs.Sought.{HasAlive};
 ghost use Rattle.bt_search.specs.Lookups.{HasLeaf, IsAtSpot, IsLookedUp, way_length};
 ghost use Rattle.bt_search.specs.declared.spot.Spot.{Spot as Stands};
@@ -43,8 +43,9 @@ pub fn spots_are_of_entries()
 /// such entry of the leaves, linked or not, is killed. Pages are looked at through the cache, and each look
 /// is a visit: at most one for each level from the fast root down, and one for each right half on these.
 ///
-/// `ReadFault` comes only where the files couldn't be read. Whether memory for a page of the cache is there
-/// changes nothing of the answer.
+/// Where the cache keeps every block from 1 on, the files aren't asked for anything, no fault comes, and all of these
+/// are still kept. `ReadFault` comes only where the files couldn't be read. Whether memory for a page of the cache is
+/// there changes nothing of the answer.
 pub fn find<F: Files>(
     tree: &SoundTree,
     files: &mut F,
@@ -62,6 +63,8 @@ pub fn find<F: Files>(
         visits.new.count ≤ visits.old.count + way_length names tree.now) }
     ensures of { IfTold F.seen files.old (λ names. IsCacheOf names tree.now cache.new) }
     ensures capacity { cache.new.capacity ≡ cache.old.capacity }
+    ensures kept { KeepsAll (block_count tree.now) cache.old
+        → IsOk result × (files.new ≡ files.old) × KeepsAll (block_count tree.now) cache.new }
     ensures onward { visits.old.count ≤ visits.new.count }
     ensures limit { visits.new.count ≤ visits.old.count + block_count tree.now }
     ensures asked { AskedAtMost (visits.new.count - visits.old.count) F.seen files.old files.new result read_fault }
@@ -96,8 +99,9 @@ pub fn spot_of(block: u32, at: Option<Place>) -> Option<Spot>
 }
 
 /// Whether the leaves of an index, linked or not, have an unkilled entry with these values and this TID.
-/// Pages are looked at and visits counted as `find` does. `ReadFault` comes only where the files couldn't
-/// be read.
+/// Pages are looked at and visits counted as `find` does: where the cache keeps every block from 1 on, the files
+/// aren't asked for anything, no fault comes, and all of these are still kept. `ReadFault` comes only where the files
+/// couldn't be read.
 pub fn probe<F: Files>(
     tree: &SoundTree,
     files: &mut F,
@@ -115,6 +119,8 @@ pub fn probe<F: Files>(
         visits.new.count ≤ visits.old.count + way_length names tree.now) }
     ensures of { IfTold F.seen files.old (λ names. IsCacheOf names tree.now cache.new) }
     ensures capacity { cache.new.capacity ≡ cache.old.capacity }
+    ensures kept { KeepsAll (block_count tree.now) cache.old
+        → IsOk result × (files.new ≡ files.old) × KeepsAll (block_count tree.now) cache.new }
     ensures onward { visits.old.count ≤ visits.new.count }
     ensures limit { visits.new.count ≤ visits.old.count + block_count tree.now }
     ensures asked { AskedAtMost (visits.new.count - visits.old.count) F.seen files.old files.new result read_fault }

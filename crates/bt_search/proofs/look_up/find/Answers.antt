@@ -1,13 +1,22 @@
-use Rattle.std.proofs.Common.{rules, ◌≡◌, ◌+◌, ◌-◌, ◌∙◌, ℕ, inl, inr, refl, sym, subst, arith}
+use Rattle.std.proofs.Common.{rules, ◌≡◌, ◌+◌, ◌-◌, ◌∙◌, ℕ, List, inl, inr, refl, sym, subst, arith}
+use Rattle.std.specs.Prelude.{IsSome, Result}
+use Rattle.std.specs.Borrow.{Bor}
 use Rattle.std.proofs.lemmas.Bool.{cases_eq}
 use Rattle.page_layout.specs.View.{page_bytes}
-use Rattle.bt_levels.specs.Sound.{fastroot_of, specs_of}
+use Rattle.bt_levels.specs.Sound.{block_count, fastroot_of, specs_of}
 use Rattle.bt_steps.specs.declared.inner.Step.TheVariants.{Lost, Read, To}
 use Rattle.bt_search.specs.Lookups.{IsLookedUp}
+use Rattle.bt_search.specs.Cached.{Cached, KeepsAll, Keeps, Looked}
 use Rattle.bt_search.proofs.Asked.{asked-none, passed-then}
 use Rattle.bt_search.proofs.Onward.{IsUnderWay, begins, found-on, goes-to, is-open, led, none-on, there-on}
 use Rattle.bt_search.proofs.look_up.find.Goals as goal
 use Rattle.bt_search.proofs.look_up.find.Goals.{then-block-eq0-via-then-block-eq0, then-block-eq0-via-else-block-eq0+then-block-blocks}
+
+-- a look at a block that is kept keeps them all
+keeps-on : {E : Type 0} (blocks block : ℕ) (result : Result (Bor (List ℕ)) E) (old new : Cached)
+    → Keeps block old → Looked block result old new → KeepsAll blocks old → KeepsAll blocks new
+keeps-on blocks block result old new here looked all = λ b from below.
+    subst IsSome (sym (looked.pages here b)) (all b from below)
 
 pub loop-visits-init : goal.loop-visits-init
 loop-visits-init g c =
@@ -26,6 +35,7 @@ loop-visits-init g c =
       empty = λ none. (c.fastroot-block.ensures ∙ none, refl);
       of = c.requires.of;
       capacity = refl;
+      kept = λ all. (refl, all);
       asked = asked-none (count - count);
     }
 
@@ -50,6 +60,10 @@ loop-visits-preserved g c =
       empty = λ none. absurd (c.if-block-eq0.false (inv.empty none).0);
       of = search rules;
       capacity = search rules;
+      kept = λ all.
+          let so-far = inv.kept all in
+          let here = so-far.1 b (omega (arith, c.if-block-eq0.false)) (omega (arith, c.if-block-blocks.false, c.blocks-else-block-eq0.ensures)) in
+          ((c.page.ensures.hit here).1 ∙ so-far.0, keeps-on (block_count tree) b c.page.result c.loop-visits.cache c.page.follows.lender-at-none here c.page.follows.holds-at-none.0 so-far.1);
       asked = passed-then (omega (arith, onward)) inv.asked c.in_ok-page.ensures.asked;
     }
 

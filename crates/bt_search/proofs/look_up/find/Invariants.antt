@@ -1,7 +1,7 @@
 use Rattle.std.proofs.Common.{◌≡◌, ◌≢◌, ◌-◌, ◌≤◌}
 use Rattle.outside.specs.Outside.{IfTold, PassedAtMost}
-use Rattle.bt_levels.specs.Sound.{fastroot_of}
-use Rattle.bt_search.specs.Cached.{IsCacheOf}
+use Rattle.bt_levels.specs.Sound.{block_count, fastroot_of}
+use Rattle.bt_search.specs.Cached.{IsCacheOf, KeepsAll}
 use Rattle.bt_search.proofs.Onward.{IsUnderWay}
 use Rattle.bt_search.proofs.look_up.find.Given as goal
 
@@ -14,6 +14,7 @@ invariant-loop-visits g l = record {
   empty : fastroot_of l.tree ≡ 0 → (l.block ≡ 0) × (l.visits.count ≡ l.initial.visits.count);
   of : IfTold g.F.Files.seen l.initial.files (λ names. IsCacheOf names l.tree l.cache);
   capacity : l.cache.capacity ≡ l.initial.cache.capacity;
+  kept : KeepsAll (block_count l.tree) l.initial.cache → (l.files ≡ l.initial.files) × KeepsAll (block_count l.tree) l.cache;
   asked : PassedAtMost (l.visits.count - l.initial.visits.count) g.F.Files.seen l.initial.files l.files;
 }
 

@@ -1,4 +1,4 @@
-use Rattle.std.proofs.Common.{◌≡◌, ◌∙◌, sym}
+use Rattle.std.proofs.Common.{◌∙◌, sym}
 use Rattle.page_layout.specs.View.{page_bytes}
 use Rattle.bt_steps.proofs.OnItem.{ne-false, ne-true}
 use Rattle.bt_search.proofs.Here.{first-here}
