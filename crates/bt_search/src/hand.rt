@@ -74,9 +74,9 @@ impl LeafInHand {
         self.block
     }
 
-    /// Looks for an entry on the leaf, from the item on from which look-ups go on: at the next one, where the next key
-    /// stands, by steps that double, and then by halves. Look-ups go on from its item then. `None` says nothing: the
-    /// entry may stand elsewhere.
+    /// Looks for an entry on the leaf, from the item on from which look-ups go on: among the next ones, where that of the
+    /// next key stands, by its TID, and then by the order of the keys. Look-ups go on from its item then. `None` says
+    /// nothing: the entry may stand elsewhere.
     pub fn find(&mut self, tree: &SoundTree, sought: Sought<'_>) -> Option<Spot>
         requires key { IsKey (specs_of tree.now) sought.key.now }
         ensures found { IfSome result (λ at. (names : Held) → IsHandOf names tree.now self.old
@@ -88,8 +88,11 @@ impl LeafInHand {
             return None;
         }
         tree.keyed();
-        let seeker = Seeker::new(tree.specs(), sought);
-        let place = seeker.find_onward(PageView::new(&self.bytes), self.item)?;
+        let seeker = Seeker {
+            specs: tree.specs(),
+            sought,
+        };
+        let place = seeker.find(PageView::new(&self.bytes), self.item)?;
         self.item = place.item;
         Some(Spot {
             block: self.block,

@@ -10,7 +10,7 @@ ghost use Rattle.bt_tuples.specs.Items.{is_dead};
 ghost use Rattle.tree_image.specs.Image.{first_data};
 ghost use Rattle.bt_steps.specs.Sought.{HasSought};
 
-use crate::glimpse::first_value;
+use crate::glimpse::{first_value, item_with};
 use bt_steps::{Place, Sought, find_in_item};
 use bt_tuples::{ItemKeys, Spot3};
 use key_orders::{KeySpec, cmp_sep, key_orders_are_total, key_prefix};
@@ -28,31 +28,20 @@ fn is_dead(page: PageView<'_>, i: u16) -> bool
     matches!(page.item(i).flag, LineFlag::Dead)
 }
 
-/// What is looked for on a leaf: an entry, by the order of these columns, and the number that steers the search.
+/// What is looked for on a leaf: an entry, by the order of these columns.
 #[derive(Clone, Copy)]
 pub struct Seeker<'a> {
-    specs: &'a [KeySpec],
-    sought: Sought<'a>,
-    prefix: u64,
+    /// The key columns of the index.
+    pub specs: &'a [KeySpec],
+    /// The entry.
+    pub sought: Sought<'a>,
 }
 
 impl<'a> Seeker<'a> {
-    /// Who looks for an entry of an index with these key columns.
+    // How the entry stands to those of an item, as far as the first value of their key tells it at a glance. `prefix` is
+    // that of the entry's.
     #[inline]
-    pub fn new(specs: &'a [KeySpec], sought: Sought<'a>) -> Seeker<'a>
-        ensures { (result.specs.now ≡ specs.now) × (result.sought ≡ sought.entry) }
-    {
-        let prefix = key_prefix(specs, sought.key.as_slice());
-        Seeker {
-            specs,
-            sought,
-            prefix,
-        }
-    }
-
-    // How the entry stands to those of an item, as far as the first value of their key tells it at a glance.
-    #[inline]
-    fn glance(self, page: PageView<'_>, i: u16) -> Ordering
+    fn glance(self, prefix: u64, page: PageView<'_>, i: u16) -> Ordering
         requires page { page_rule_of PageKind.Tree (page_bytes page) ≡ None }
         requires first { 1 ≤ i }
         requires last { i ≤ count_of (page_bytes page) }
@@ -61,7 +50,7 @@ impl<'a> Seeker<'a> {
             return Ordering::Equal;
         };
         match first_value(page, i, spec.ctype) {
-            Some(value) => self.prefix.cmp(&key_prefix(self.specs, &[value])),
+            Some(value) => prefix.cmp(&key_prefix(self.specs, &[value])),
             None => Ordering::Equal,
         }
     }
@@ -81,10 +70,6 @@ impl<'a> Seeker<'a> {
             self.entry.sought.tid i 0 }
     {
         key_orders_are_total();
-        let seen = self.glance(page, i);
-        if seen.is_ne() {
-            return seen;
-        }
         let Ok(()) = keys.read(page, i, self.specs, &[], Spot3::LeafItem) else {
             return Ordering::Less;
         };
@@ -98,8 +83,48 @@ impl<'a> Seeker<'a> {
         Ordering::Equal
     }
 
-    /// Looks on a leaf for the entry from a data item on: by steps that double until they pass it, and then by halves.
-    pub fn find_onward(self, page: PageView<'_>, from: u16) -> Option<Place>
+    // Looks on a leaf for the entry from a data item on: by steps that double until they pass it, and then by halves.
+    fn find_onward<'p>(self, page: PageView<'p>, from: u16, keys: &mut ItemKeys<'p>) -> Option<Place>
+        requires page { page_rule_of PageKind.Tree (page_bytes page) ≡ None }
+        requires from { first_data (page_bytes page) ≤ from }
+        requires last { from ≤ count_of (page_bytes page) }
+        requires few { length self.specs.now ≤ 8 }
+        requires aligned { All HasAlignment (key_types self.specs.now) }
+        requires key { IsKey self.specs.now self.sought.key.now }
+        ensures { IfSome result (λ at. HasSought self.entry.specs.now (page_bytes page.entry)
+            self.entry.sought.key.now self.entry.sought.tid at.item at.nth) }
+    {
+        let prefix = key_prefix(self.specs, self.sought.key.as_slice());
+        let mut low = from;
+        let mut high = page.item_count() + 1;
+        let mut step = 1u16;
+        while high - low > 1 {
+            let middle = low + step.min((high - low) / 2);
+            let mut order = self.glance(prefix, page, middle);
+            if order.is_eq() {
+                order = self.order_at(page, middle, keys);
+                if order.is_eq() {
+                    return Some(Place {
+                        item: middle,
+                        nth: 0,
+                    });
+                }
+            }
+            if order.is_lt() {
+                high = middle;
+                step = u16::MAX;
+            } else {
+                low = middle;
+                step = step.saturating_mul(2);
+            }
+        }
+        let nth = find_in_item(page, low, self.specs, self.sought)?;
+        Some(Place { item: low, nth })
+    }
+
+    /// Looks on a leaf for the entry from a data item on: among the next items for one with its TID, and then by the order
+    /// of the keys.
+    pub fn find(self, page: PageView<'_>, from: u16) -> Option<Place>
         requires page { page_rule_of PageKind.Tree (page_bytes page) ≡ None }
         requires from { first_data (page_bytes page) ≤ from }
         requires last { from ≤ count_of (page_bytes page) }
@@ -110,29 +135,11 @@ impl<'a> Seeker<'a> {
             self.entry.sought.key.now self.entry.sought.tid at.item at.nth) }
     {
         let mut keys = ItemKeys::new();
-        let mut low = from;
-        let mut high = page.item_count() + 1;
-        let mut step = 1u16;
-        while high - low > 1 {
-            let middle = low + step.min((high - low) / 2);
-            match self.order_at(page, middle, &mut keys) {
-                Ordering::Less => {
-                    high = middle;
-                    step = u16::MAX;
-                }
-                Ordering::Equal => {
-                    return Some(Place {
-                        item: middle,
-                        nth: 0,
-                    })
-                }
-                Ordering::Greater => {
-                    low = middle;
-                    step = step.saturating_mul(2);
-                }
+        if let Some(item) = item_with(page, from, self.sought.tid) {
+            if self.order_at(page, item, &mut keys).is_eq() {
+                return Some(Place { item, nth: 0 });
             }
         }
-        let nth = find_in_item(page, low, self.specs, self.sought)?;
-        Some(Place { item: low, nth })
+        self.find_onward(page, from, &mut keys)
     }
 }
