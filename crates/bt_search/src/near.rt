@@ -84,7 +84,12 @@ impl<'a> Seeker<'a> {
     }
 
     // Looks on a leaf for the entry from a data item on: by steps that double until they pass it, and then by halves.
-    fn find_onward<'p>(self, page: PageView<'p>, from: u16, keys: &mut ItemKeys<'p>) -> Option<Place>
+    fn find_onward<'p>(
+        self,
+        page: PageView<'p>,
+        from: u16,
+        keys: &mut ItemKeys<'p>,
+    ) -> Option<Place>
         requires page { page_rule_of PageKind.Tree (page_bytes page) ≡ None }
         requires from { first_data (page_bytes page) ≤ from }
         requires last { from ≤ count_of (page_bytes page) }
