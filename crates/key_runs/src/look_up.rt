@@ -87,15 +87,30 @@ pub fn look_up_places<L: LookUp>(
     Ok(())
 }
 
-// Reads a byte of each of the next rows, so that the processor fetches them together and not one by one. What is
+// How many bytes lie between two lines of the processor's cache, and how many lines of a row are touched.
+const LINE: usize = 64;
+
+const LINES: usize = 3;
+
+// Reads a byte of each of the first lines that the row at a place lies in.
+#[inline]
+fn touch_row(arena: &[u8], at: usize) -> u8 {
+    let mut seen = 0u8;
+    for line in 0..LINES {
+        if let Some(byte) = arena.get(at.saturating_add(line * LINE)) {
+            seen ^= *byte;
+        }
+    }
+    seen
+}
+
+// Reads some bytes of each of the next rows, so that the processor fetches them together and not one by one. What is
 // read is kept by the caller, since the compiler would drop a reading that nobody wants.
 fn touch(arena: &[u8], order: &[Place], from: usize) -> u8 {
     let end = order.len().min(from.saturating_add(AHEAD));
     let mut seen = 0u8;
     for i in from..end {
-        if let Some(byte) = arena.get(order[i].at as usize) {
-            seen ^= *byte;
-        }
+        seen ^= touch_row(arena, order[i].at as usize);
     }
     seen
 }
