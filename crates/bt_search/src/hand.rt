@@ -14,6 +14,7 @@ use crate::cache::PageCache;
 use crate::near::Seeker;
 use crate::spot::Spot;
 use bt_levels::SoundTree;
+use bt_meta::opaque;
 use bt_steps::{Sought, is_live_leaf};
 use outside::NoMemory;
 use page_layout::{PageKind, PageView};
@@ -72,6 +73,28 @@ impl LeafInHand {
         ensures { result ≡ self.now.block }
     {
         self.block
+    }
+
+    /// The block of the leaf's right sibling, 0 where it has none, or where no leaf is in hand.
+    pub fn right(&self) -> u32 {
+        if self.block == 0 {
+            return 0;
+        }
+        opaque(PageView::new(&self.bytes)).next
+    }
+
+    /// Whether an entry stands behind the last item of the leaf, as far as the first value of its key tells it at a
+    /// glance. Nothing is promised of that.
+    pub fn ends_before(&self, tree: &SoundTree, sought: Sought<'_>) -> bool {
+        if self.block == 0 {
+            return false;
+        }
+        let page = PageView::new(&self.bytes);
+        let seeker = Seeker {
+            specs: tree.specs(),
+            sought,
+        };
+        seeker.is_behind(page, page.item_count())
     }
 
     /// Looks for an entry on the leaf, from the item on from which look-ups go on: among the next ones, where that of the

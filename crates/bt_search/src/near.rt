@@ -55,6 +55,16 @@ impl<'a> Seeker<'a> {
         }
     }
 
+    /// Whether the entry isn't below an item of a leaf, as far as that is told at a glance.
+    pub fn is_behind(self, page: PageView<'_>, i: u16) -> bool
+        requires page { page_rule_of PageKind.Tree (page_bytes page) ≡ None }
+        requires first { 1 ≤ i }
+        requires last { i ≤ count_of (page_bytes page) }
+    {
+        let prefix = key_prefix(self.specs, self.sought.key.as_slice());
+        self.glance(prefix, page, i).is_ge()
+    }
+
     // How the entry stands to the first one of a data item of a leaf. It counts as below what can't be read, and below
     // itself where it is killed.
     #[inline]

@@ -15,6 +15,10 @@ use Rattle.heap_indexed.specs.declared.joined.LookUps.{LookUps}
 abbrev pub look_up_visits : Names → SoundTree → ℕ
 look_up_visits names tree = way_length names tree + 1
 
+-- the visits that were made, and those that were saved and may still be made
+abbrev pub visits_spent : LookUps → ℕ
+visits_spent look_ups = look_ups.visits.count + look_ups.saved
+
 -- the index that the names hold has an unkilled entry with this key and this TID
 abbrev pub has_entry : Names → SoundTree → List Value → Tid → Bool
 has_entry names tree = has_alive (specs_of tree) (image_of names tree)

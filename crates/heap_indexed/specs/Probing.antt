@@ -10,7 +10,7 @@ use Rattle.bt_levels.specs.Sound.{HoldsTree, specs_of}
 use Rattle.key_runs.specs.Marks.{Entries}
 use Rattle.heap_indexed.specs.declared.joined.LookUps.{LookUps}
 use Rattle.heap_indexed.specs.declared.prober.Prober.{Prober}
-use Rattle.heap_indexed.specs.Looking.{AreOf, has_entry, look_up_visits}
+use Rattle.heap_indexed.specs.Looking.{AreOf, has_entry, look_up_visits, visits_spent}
 
 -- what contracts see of a prober: the index, what the files show, what look-ups go through, and the names of the
 -- references through which it asks the files and uses that
@@ -55,7 +55,7 @@ pub record LeadsTo (n : ℕ) (p q : Probing) : Type 0 where
   pub passed : AskedWithin {T = Failed} {E = Failed} None p.seen q.seen (Ok failed) failed
   pub pages : (names : Names) → IsReady names p → AreOf names p.tree q.through
   pub visits : (names : Names) → IsReady names p
-      → q.through.visits.count ≤ p.through.visits.count + n * look_up_visits names p.tree
+      → visits_spent q.through ≤ visits_spent p.through + n * look_up_visits names p.tree
 
 -- the count of faults rose
 abbrev pub Explains : Probing → Probing → Type 0

@@ -11,7 +11,7 @@ use Rattle.key_orders.specs.declared.columns.Value.{Value}
 use Rattle.bt_levels.specs.declared.sound.SoundTree.{SoundTree}
 use Rattle.bt_levels.specs.Sound.{HoldsTree, specs_of}
 use Rattle.key_runs.specs.Marks.{Entries}
-use Rattle.heap_indexed.specs.Looking.{AreOf, has_entry, look_up_visits}
+use Rattle.heap_indexed.specs.Looking.{AreOf, has_entry, look_up_visits, visits_spent}
 use Rattle.heap_indexed.specs.Probing.{Explains, IsReady, LeadsTo, Means, Probing, Takes}
 
 no_visit : (a b : ℕ) → a ≤ a + 0 * b
@@ -40,7 +40,7 @@ stays p = record {
   look_ups = refl;
   passed = Passed-none;
   pages = λ names r. r.pages;
-  visits = λ names r. no_visit p.through.visits.count (look_up_visits names p.tree);
+  visits = λ names r. no_visit (visits_spent p.through) (look_up_visits names p.tree);
 }
 
 pub goes_on : (m n : ℕ) (p q s : Probing) → LeadsTo m p q → LeadsTo n q s → LeadsTo (m + n) p s
@@ -53,9 +53,9 @@ goes_on m n p q s a b = record {
       subst (λ (t : SoundTree). AreOf names t s.through) a.tree (b.pages names (ready_after m names p q a r));
   visits = λ names r.
       let later = subst (λ (t : SoundTree).
-      s.through.visits.count ≤ q.through.visits.count + n * look_up_visits names t) a.tree
+      (visits_spent s.through) ≤ (visits_spent q.through) + n * look_up_visits names t) a.tree
       (b.visits names (ready_after m names p q a r)) in
-      more_visits m n p.through.visits.count q.through.visits.count s.through.visits.count
+      more_visits m n (visits_spent p.through) (visits_spent q.through) (visits_spent s.through)
       (look_up_visits names p.tree) (a.visits names r) later;
 }
 
@@ -67,7 +67,7 @@ more m n p q le a = record {
   passed = a.passed;
   pages = a.pages;
   visits = λ names r.
-      spared m n p.through.visits.count q.through.visits.count (look_up_visits names p.tree) le (a.visits names r);
+      spared m n (visits_spent p.through) (visits_spent q.through) (look_up_visits names p.tree) le (a.visits names r);
 }
 
 pub keeps : (n : ℕ) (p q : Probing) (found : Entries) → LeadsTo n p q → Means p found → Means q found

@@ -9,7 +9,7 @@ ghost use Rattle.bt_levels.specs.Sound.{file_of};
 ghost use Rattle.heap_check.specs.Rows.{rows_of};
 ghost use Rattle.indexed_rules.specs.Lists.{entries_lists, indexed_lists, rows_lists};
 ghost use Rattle.heap_indexed.specs.Joined.{BelongTogether, HoldTogether};
-ghost use Rattle.heap_indexed.specs.Looking.{AreOf, look_up_visits};
+ghost use Rattle.heap_indexed.specs.Looking.{AreOf, look_up_visits, visits_spent};
 
 use crate::joined::{IndexedHeap, LookUps, RUN_BLOCKS, new_hand, new_look_ups};
 use crate::nearness::Nearness;
@@ -67,8 +67,8 @@ fn probe_in_turn<F: Files>(
     requires of { IfTold F.seen files.old (λ names. AreOf names at.tree.now look_ups.old) }
     ensures lists { IfTold F.seen files.old (λ names. AddsIn report_lists result report.old report.new
         (rows_lists at.entry.case.now names (number_of (file_of at.entry.tree.now)))) }
-    ensures visits { IfTold F.seen files.old (λ names. OnOk result (look_ups.new.visits.count ≤
-        look_ups.old.visits.count
+    ensures visits { IfTold F.seen files.old (λ names. OnOk result (visits_spent look_ups.new ≤
+        visits_spent look_ups.old
         + length (rows_of at.entry.case.now names) * look_up_visits names at.entry.tree.now)) }
     ensures of { IfTold F.seen files.old (λ names. AreOf names at.entry.tree.now look_ups.new) }
     ensures asked { Asked F.seen files.old files.new result PageFault.ReadFault }
@@ -105,8 +105,8 @@ pub fn probe_rows<F: Files>(
     requires room { look_ups.old.visits.count ≤ 2 ^ 62 }
     ensures lists { IfTold F.seen files.old (λ names. AddsIn report_lists result report.old report.new
         (rows_lists at.entry.case.now names (number_of (file_of at.entry.tree.now)))) }
-    ensures visits { IfTold F.seen files.old (λ names. OnOk result (look_ups.new.visits.count ≤
-        look_ups.old.visits.count
+    ensures visits { IfTold F.seen files.old (λ names. OnOk result (visits_spent look_ups.new ≤
+        visits_spent look_ups.old
         + length (rows_of at.entry.case.now names) * look_up_visits names at.entry.tree.now)) }
     ensures of { IfTold F.seen files.old (λ names. AreOf names at.entry.tree.now look_ups.new) }
     ensures only { IfErr result (λ e. e ≡ CheckFault.ReadFault ⊎ e ≡ CheckFault.NoMemory) }

@@ -35,18 +35,21 @@ pub struct IndexedTable<'a> {
 }
 
 /// What look-ups in an index go through: pages of it that are kept, a leaf of it in hand, on which the next look-up
-/// goes on, if leaves are taken in hand at all, and the count of visits to pages.
+/// goes on, if leaves are taken in hand at all, the count of visits to pages, and how many visits were saved: each
+/// look-up that found its entry on the leaf in hand made fewer than it might have, and one visit more to a leaf's right
+/// sibling takes one of them.
 #[derive(Drop)]
 pub struct LookUps {
     pub cache: PageCache,
     pub hand: Option<LeafInHand>,
     pub visits: Visits,
+    pub saved: u64,
 }
 
 impl LookUps {
     /// Takes the leaf of an entry that was found in hand, if leaves are taken in hand: it was looked at last.
     pub fn take(&mut self, found: Option<Spot>)
-        ensures visits { self.new.visits ≡ self.old.visits }
+        ensures visits { (self.new.visits ≡ self.old.visits) × (self.new.saved ≡ self.old.saved) }
         ensures of { (names : Held) (tree : Sound) → IfSome found (λ at. at.block < block_count tree)
             → AreOf names tree self.old → AreOf names tree self.new }
     {
@@ -77,7 +80,7 @@ fn hand_for(alloc: Global, blocks: u32) -> Result<Option<LeafInHand>, NoMemory>
 
 /// Look-ups that go through no page yet, for the rows of a heap of so many blocks.
 pub fn new_look_ups(alloc: Global, blocks: u32) -> Result<LookUps, NoMemory>
-    ensures count { IfOk result (λ l. l.visits.count ≡ 0) }
+    ensures count { IfOk result (λ l. (l.visits.count ≡ 0) × (l.saved ≡ 0)) }
     ensures of { IfOk result (λ l. (names : Held) (tree : Sound) → AreOf names tree l) }
 {
     let cache = PageCache::new(alloc, CACHE_PAGES)?;
@@ -86,6 +89,7 @@ pub fn new_look_ups(alloc: Global, blocks: u32) -> Result<LookUps, NoMemory>
         cache,
         hand,
         visits: Visits { count: 0 },
+        saved: 0,
     })
 }
 

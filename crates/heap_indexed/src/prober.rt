@@ -1,22 +1,24 @@
 //! Look-ups of rows in an index.
-ghost use Rattle.std.specs.Prelude.{◌≡◌, ◌≤◌, ◌+◌, true};
+ghost use Rattle.std.specs.Prelude.{◌≡◌, ◌<◌, ◌≤◌, ◌+◌, IfSome, false, true};
 ghost use Rattle.outside.specs.Outside.{Asked, IfTold, Names as Held, Tells};
 ghost use Rattle.rel_files.specs.Faults.{read_fault};
 ghost use Rattle.key_orders.specs.Keys.{IsKey};
-ghost use Rattle.bt_levels.specs.Sound.{HoldsTree, specs_of};
+ghost use Rattle.bt_levels.specs.Sound.{HoldsTree, block_count, specs_of};
 ghost use Rattle.bt_search.specs.Lookups.{way_length};
-ghost use Rattle.heap_indexed.specs.Looking.{AreOf, has_entry, look_up_visits};
+ghost use Rattle.heap_indexed.specs.Looking.{AreOf, has_entry, look_up_visits, visits_spent};
 ghost use Rattle.heap_indexed.specs.Probing.{Explains, LeadsTo, Means, Takes, probing};
 ghost use Rattle.heap_indexed.specs.ProbingLaws.{goes_on, keeps, more, since, stays, still};
 
 use crate::joined::LookUps;
 use bt_levels::SoundTree;
-use bt_search::{Visits, find, spots_are_of_entries};
+use bt_search::{Spot, Visits, find, spots_are_of_entries};
 use bt_steps::Sought;
 use key_orders::{KeyRefs, Tid, key_orders_are_total};
 use key_runs::LookUp;
 use outside::Files;
+use page_layout::PageView;
 use rel_files::ReadFault;
+use tree_image::first_data;
 
 // Counts visits.
 fn count_visits(visits: &mut Visits, more: u64)
@@ -26,11 +28,11 @@ fn count_visits(visits: &mut Visits, more: u64)
 }
 
 // Looks for an entry on the leaf in hand, if there is one.
-fn look_in_hand(tree: &SoundTree, sought: Sought<'_>, look_ups: &mut LookUps) -> bool
+fn find_in_hand(tree: &SoundTree, sought: Sought<'_>, look_ups: &mut LookUps) -> bool
     requires key { IsKey (specs_of tree.now) sought.key.now }
     ensures found { result ≡ true → (names : Held) → HoldsTree names tree.now → AreOf names tree.now look_ups.old
         → has_entry names tree.now sought.entry.key.now sought.entry.tid ≡ true }
-    ensures visits { look_ups.new.visits.count ≤ look_ups.old.visits.count + 1 }
+    ensures visits { visits_spent look_ups.new ≡ visits_spent look_ups.old }
     ensures of { (names : Held) → AreOf names tree.now look_ups.old → AreOf names tree.now look_ups.new }
 {
     spots_are_of_entries();
@@ -42,8 +44,96 @@ fn look_in_hand(tree: &SoundTree, sought: Sought<'_>, look_ups: &mut LookUps) ->
         return false;
     }
     let found = hand.find(tree, sought);
-    count_visits(&mut look_ups.visits, 1);
     found.is_some()
+}
+
+// Looks for an entry on the leaf in hand, which is a visit. A hit saves one.
+fn look_in_hand(tree: &SoundTree, sought: Sought<'_>, look_ups: &mut LookUps) -> bool
+    requires key { IsKey (specs_of tree.now) sought.key.now }
+    ensures found { result ≡ true → (names : Held) → HoldsTree names tree.now → AreOf names tree.now look_ups.old
+        → has_entry names tree.now sought.entry.key.now sought.entry.tid ≡ true }
+    ensures visits { visits_spent look_ups.new ≤ visits_spent look_ups.old + 2 }
+    ensures missed { result ≡ false → visits_spent look_ups.new ≤ visits_spent look_ups.old + 1 }
+    ensures of { (names : Held) → AreOf names tree.now look_ups.old → AreOf names tree.now look_ups.new }
+{
+    if look_ups.block_in_hand() == 0 {
+        return false;
+    }
+    count_visits(&mut look_ups.visits, 1);
+    if !find_in_hand(tree, sought, look_ups) {
+        return false;
+    }
+    look_ups.saved = look_ups.saved.saturating_add(1);
+    true
+}
+
+// The block of the right sibling of the leaf in hand, where the entry stands behind that leaf and a visit was saved.
+fn sibling_to_visit(tree: &SoundTree, sought: Sought<'_>, look_ups: &LookUps) -> Option<u32>
+    ensures saved { IfSome result (λ b. 0 < look_ups.now.saved) }
+    ensures inside { IfSome result (λ b. b < block_count tree.now) }
+{
+    let Some(hand) = &look_ups.hand else {
+        return None;
+    };
+    if look_ups.saved == 0 || !hand.ends_before(tree, sought) {
+        return None;
+    }
+    let right = hand.right();
+    if right == 0 || right >= tree.blocks() {
+        return None;
+    }
+    Some(right)
+}
+
+// Takes the right sibling of the leaf in hand, where the entry may stand there: for a visit that was saved. Whether it
+// was looked at.
+fn step_right<F: Files>(
+    tree: &SoundTree,
+    files: &mut F,
+    sought: Sought<'_>,
+    look_ups: &mut LookUps,
+) -> Result<bool, ReadFault>
+    requires holds { IfTold F.seen files.old (λ names. HoldsTree names tree.now) }
+    requires of { IfTold F.seen files.old (λ names. AreOf names tree.now look_ups.old) }
+    ensures visits { visits_spent look_ups.new ≤ visits_spent look_ups.old }
+    ensures of { IfTold F.seen files.old (λ names. AreOf names tree.now look_ups.new) }
+    ensures asked { Asked F.seen files.old files.new result read_fault }
+{
+    let Some(block) = sibling_to_visit(tree, sought, look_ups) else {
+        return Ok(false);
+    };
+    look_ups.saved -= 1;
+    count_visits(&mut look_ups.visits, 1);
+    let item = first_data(PageView::new(look_ups.cache.page(tree, files, block)?));
+    look_ups.take(Some(Spot {
+        block,
+        item,
+        nth: 0,
+    }));
+    Ok(true)
+}
+
+// Looks for an entry on the right sibling of the leaf in hand, where it may stand there and a visit was saved.
+fn look_right<F: Files>(
+    tree: &SoundTree,
+    files: &mut F,
+    sought: Sought<'_>,
+    look_ups: &mut LookUps,
+) -> Result<bool, ReadFault>
+    requires holds { IfTold F.seen files.old (λ names. HoldsTree names tree.now) }
+    requires key { IsKey (specs_of tree.now) sought.key.now }
+    requires of { IfTold F.seen files.old (λ names. AreOf names tree.now look_ups.old) }
+    ensures found { Tells F.seen files.old result (λ found names. found ≡ true
+        → has_entry names tree.now sought.entry.key.now sought.entry.tid ≡ true) }
+    ensures visits { visits_spent look_ups.new ≤ visits_spent look_ups.old }
+    ensures of { IfTold F.seen files.old (λ names. AreOf names tree.now look_ups.new) }
+    ensures asked { Asked F.seen files.old files.new result read_fault }
+{
+    if !step_right(tree, files, sought, look_ups)? {
+        return Ok(false);
+    }
+    let found = find_in_hand(tree, sought, look_ups);
+    Ok(found)
 }
 
 // Looks an entry up on the way from the fast root, and takes its leaf in hand.
@@ -59,7 +149,7 @@ fn look_from_root<F: Files>(
     ensures found { Tells F.seen files.old result (λ found names.
         found ≡ has_entry names tree.now sought.entry.key.now sought.entry.tid) }
     ensures visits { IfTold F.seen files.old (λ names.
-        look_ups.new.visits.count ≤ look_ups.old.visits.count + way_length names tree.now) }
+        visits_spent look_ups.new ≤ visits_spent look_ups.old + way_length names tree.now) }
     ensures of { IfTold F.seen files.old (λ names. AreOf names tree.now look_ups.new) }
     ensures asked { Asked F.seen files.old files.new result read_fault }
 {
@@ -75,8 +165,8 @@ fn look_from_root<F: Files>(
     Ok(at.is_some())
 }
 
-/// Whether an index has an entry that isn't killed. It is looked for on the leaf in hand first, and if it isn't there,
-/// on the way from the fast root.
+/// Whether an index has an entry that isn't killed. It is looked for on the leaf in hand first, and if it isn't there, on
+/// that leaf's right sibling, where it may stand there, and on the way from the fast root.
 pub fn look_up<F: Files>(
     tree: &SoundTree,
     files: &mut F,
@@ -89,11 +179,14 @@ pub fn look_up<F: Files>(
     ensures found { Tells F.seen files.old result (λ found names.
         found ≡ has_entry names tree.now sought.entry.key.now sought.entry.tid) }
     ensures visits { IfTold F.seen files.old (λ names.
-        look_ups.new.visits.count ≤ look_ups.old.visits.count + look_up_visits names tree.now) }
+        visits_spent look_ups.new ≤ visits_spent look_ups.old + look_up_visits names tree.now) }
     ensures of { IfTold F.seen files.old (λ names. AreOf names tree.now look_ups.new) }
     ensures asked { Asked F.seen files.old files.new result read_fault }
 {
     if look_in_hand(tree, sought, look_ups) {
+        return Ok(true);
+    }
+    if look_right(tree, files, sought, look_ups)? {
         return Ok(true);
     }
     look_from_root(tree, files, sought, look_ups)

@@ -8,7 +8,7 @@ ghost use Rattle.reports.specs.Added.{report_lists};
 ghost use Rattle.bt_levels.specs.Sound.{HoldsTree};
 ghost use Rattle.heap_files.specs.Files.{heap_in};
 ghost use Rattle.heap_check.specs.RowCursor.{IsCursorOf, rows_ahead};
-ghost use Rattle.heap_indexed.specs.Looking.{AreOf};
+ghost use Rattle.heap_indexed.specs.Looking.{AreOf, visits_spent};
 ghost use Rattle.heap_indexed.specs.Waiting.{AreKeyed, IsWalk, Settles, columns_in, count_left, owed_ahead, owed_by};
 ghost use Rattle.heap_indexed.specs.Waiting.{owed_in, rows_in, tree_in, visits_for};
 
@@ -56,9 +56,9 @@ impl Walk<'_> {
         ensures next { Tells F.seen files.old result (λ found names. found ≡ true
             → length (rows_ahead names cursor.old) ≡ length (rows_ahead names cursor.new) + 1) }
         ensures end { Tells F.seen files.old result (λ found names. found ≡ false → rows_ahead names cursor.new ≡ []) }
-        ensures visits { IfTold F.seen files.old (λ names. OnOk result (look_ups.new.visits.count
+        ensures visits { IfTold F.seen files.old (λ names. OnOk result (visits_spent look_ups.new
             + visits_for names (tree_in self.old) (count_left names self.new cursor.new)
-            ≤ look_ups.old.visits.count + visits_for names (tree_in self.old) (count_left names self.old cursor.old))) }
+            ≤ visits_spent look_ups.old + visits_for names (tree_in self.old) (count_left names self.old cursor.old))) }
         ensures walk { IsWalk self.new cursor.new }
         ensures at { self.new.at ≡ self.old.at }
         ensures rows { IfTold F.seen files.old (λ names. IsCursorOf names cursor.new) }
@@ -95,9 +95,9 @@ impl Walk<'_> {
             length (rows_ahead names cursor.old) ≤ 2042 * count_of (heap_in self.old.at.heap.now)) }
         ensures lists { IfTold F.seen files.old (λ names. Settles result report.old report.new
             (owed_by names self.old cursor.old) (owed_in names (tree_in self.new) self.new.waiting)) }
-        ensures visits { IfTold F.seen files.old (λ names. OnOk result (look_ups.new.visits.count
+        ensures visits { IfTold F.seen files.old (λ names. OnOk result (visits_spent look_ups.new
             + visits_for names (tree_in self.old) (length (rows_in self.new.waiting))
-            ≤ look_ups.old.visits.count + visits_for names (tree_in self.old) (count_left names self.old cursor.old))) }
+            ≤ visits_spent look_ups.old + visits_for names (tree_in self.old) (count_left names self.old cursor.old))) }
         ensures keyed { AreKeyed (tree_in self.new) self.new.waiting }
         ensures at { self.new.at ≡ self.old.at }
         ensures of { IfTold F.seen files.old (λ names. AreOf names (tree_in self.old) look_ups.new) }
@@ -129,8 +129,8 @@ impl Walk<'_> {
             length (rows_ahead names cursor.old) ≤ 2042 * count_of (heap_in self.old.at.heap.now)) }
         ensures lists { IfTold F.seen files.old (λ names.
             AddsIn report_lists result report.old report.new (owed_ahead names (tree_in self.old) cursor.old)) }
-        ensures visits { IfTold F.seen files.old (λ names. OnOk result (look_ups.new.visits.count
-            ≤ look_ups.old.visits.count + visits_for names (tree_in self.old) (length (rows_ahead names cursor.old)))) }
+        ensures visits { IfTold F.seen files.old (λ names. OnOk result (visits_spent look_ups.new
+            ≤ visits_spent look_ups.old + visits_for names (tree_in self.old) (length (rows_ahead names cursor.old)))) }
         ensures of { IfTold F.seen files.old (λ names. AreOf names (tree_in self.old) look_ups.new) }
         ensures asked { Asked F.seen files.old files.new result PageFault.ReadFault }
     {

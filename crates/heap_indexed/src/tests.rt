@@ -137,6 +137,7 @@ fn visits_on(alloc: Global, files: &mut Silent, at: IndexedHeap<'_>) -> Result<u
         cache: PageCache::new(alloc, 1)?,
         hand: None,
         visits: Visits { count: 0 },
+        saved: 0,
     };
     probe_rows(alloc, files, at, &mut look_ups, &mut report)?;
     if report.counts() != (0, 0) {

@@ -15,7 +15,7 @@ ghost use Rattle.key_runs.specs.Rows.{KeepsRows, gathered_row, with_row};
 ghost use Rattle.heap_check.specs.declared.rows.LiveRow.{LiveRow as Row};
 ghost use Rattle.indexed_rules.specs.Lists.{missing_rule};
 ghost use Rattle.indexed_rules.specs.Rows.{key_in};
-ghost use Rattle.heap_indexed.specs.Looking.{AreOf, has_entry, look_up_visits};
+ghost use Rattle.heap_indexed.specs.Looking.{AreOf, has_entry, look_up_visits, visits_spent};
 ghost use Rattle.heap_indexed.specs.Waiting.{AreKeyed, IsFound, IsRowOf, Settles, lists_of, lists_of_row, owed_in};
 ghost use Rattle.heap_indexed.specs.Waiting.{rows_in, run_lists, visits_for};
 
@@ -92,8 +92,8 @@ fn look_up_run<F: Files>(
     ensures kept { KeepsRows run.old run.new }
     ensures missing { IfTold F.seen files.old (λ names. OnOk result
         (run.new.missing ≡ map (is_missing (has_entry names tree.now)) run.old.rows)) }
-    ensures visits { IfTold F.seen files.old (λ names. look_ups.new.visits.count
-        ≤ look_ups.old.visits.count + length run.old.rows * look_up_visits names tree.now) }
+    ensures visits { IfTold F.seen files.old (λ names. visits_spent look_ups.new
+        ≤ visits_spent look_ups.old + length run.old.rows * look_up_visits names tree.now) }
     ensures of { IfTold F.seen files.old (λ names. AreOf names tree.now look_ups.new) }
     ensures asked { Asked F.seen files.old files.new result read_fault }
 {
@@ -195,8 +195,8 @@ impl Waiting {
             AddsIn report_lists result report.old report.new (owed_in names tree.now self.old)) }
         ensures done { OnOk result (rows_in self.new ≡ []) }
         ensures keyed { AreKeyed tree.now self.new }
-        ensures visits { IfTold F.seen files.old (λ names. look_ups.new.visits.count
-            ≤ look_ups.old.visits.count + visits_for names tree.now (length (rows_in self.old))) }
+        ensures visits { IfTold F.seen files.old (λ names. visits_spent look_ups.new
+            ≤ visits_spent look_ups.old + visits_for names tree.now (length (rows_in self.old))) }
         ensures of { IfTold F.seen files.old (λ names. AreOf names tree.now look_ups.new) }
         ensures asked { Asked F.seen files.old files.new result PageFault.ReadFault }
     {
@@ -236,7 +236,7 @@ impl Waiting {
             (gathered_row row.entry.place.tid row.entry.place.root row.entry.key.now))) }
         ensures run { self.new.run ≡ self.old.run }
         ensures visits { IfTold F.seen files.old (λ names.
-            look_ups.new.visits.count ≤ look_ups.old.visits.count + visits_for names row.entry.tree.now 1) }
+            visits_spent look_ups.new ≤ visits_spent look_ups.old + visits_for names row.entry.tree.now 1) }
         ensures of { IfTold F.seen files.old (λ names. AreOf names row.entry.tree.now look_ups.new) }
         ensures asked { Asked F.seen files.old files.new result PageFault.ReadFault }
     {
@@ -270,9 +270,9 @@ impl Waiting {
             (gathered_row row.entry.place.tid row.entry.place.root row.entry.key.now)))
             (owed_in names row.entry.tree.now self.new)) }
         ensures keyed { AreKeyed row.entry.tree.now self.new }
-        ensures visits { IfTold F.seen files.old (λ names. OnOk result (look_ups.new.visits.count
+        ensures visits { IfTold F.seen files.old (λ names. OnOk result (visits_spent look_ups.new
             + visits_for names row.entry.tree.now (length (rows_in self.new))
-            ≤ look_ups.old.visits.count + visits_for names row.entry.tree.now (length (rows_in self.old) + 1))) }
+            ≤ visits_spent look_ups.old + visits_for names row.entry.tree.now (length (rows_in self.old) + 1))) }
         ensures of { IfTold F.seen files.old (λ names. AreOf names row.entry.tree.now look_ups.new) }
         ensures asked { Asked F.seen files.old files.new result PageFault.ReadFault }
     {
@@ -305,9 +305,9 @@ impl Waiting {
             → Settles result report.old report.new
             (joined (owed_in names row.entry.at.tree.now self.old) (lists_of_row names row.entry.at.tree.now first))
             (owed_in names row.entry.at.tree.now self.new)) }
-        ensures visits { IfTold F.seen files.old (λ names. OnOk result (look_ups.new.visits.count
+        ensures visits { IfTold F.seen files.old (λ names. OnOk result (visits_spent look_ups.new
             + visits_for names row.entry.at.tree.now (length (rows_in self.new))
-            ≤ look_ups.old.visits.count + visits_for names row.entry.at.tree.now (length (rows_in self.old) + 1))) }
+            ≤ visits_spent look_ups.old + visits_for names row.entry.at.tree.now (length (rows_in self.old) + 1))) }
         ensures keyed { AreKeyed row.entry.at.tree.now self.new }
         ensures of { IfTold F.seen files.old (λ names. AreOf names row.entry.at.tree.now look_ups.new) }
         ensures asked { Asked F.seen files.old files.new result PageFault.ReadFault }

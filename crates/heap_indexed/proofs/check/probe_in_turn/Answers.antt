@@ -14,7 +14,7 @@ use Rattle.heap_files.specs.Files.{heap_in}
 use Rattle.heap_check.specs.Rows.{rows_of}
 use Rattle.heap_check.specs.declared.rows.LiveRow.{LiveRow}
 use Rattle.indexed_rules.specs.Lists.{rows_lists}
-use Rattle.heap_indexed.specs.Looking.{look_up_visits}
+use Rattle.heap_indexed.specs.Looking.{look_up_visits, visits_spent}
 use Rattle.heap_indexed.specs.Waiting.{AreAskedFrom, columns_in}
 use Rattle.heap_indexed.proofs.Cases.{rows-are}
 use Rattle.heap_indexed.proofs.Keys.{asked-all, columns-there, sound-keys}
@@ -72,7 +72,7 @@ returns-clause-lists g c = λ names told.
 
 pub returns-clause-visits : goal.returns-clause-visits
 returns-clause-visits g c = λ names told.
-    subst (λ (rs : List LiveRow). OnOk c.judge_all.result (c.judge_all.new.look_ups.visits.count ≤ c.args.look_ups.now.visits.count + length rs * look_up_visits names c.args.at.tree.now))
+    subst (λ (rs : List LiveRow). OnOk c.judge_all.result ((visits_spent c.judge_all.new.look_ups) ≤ (visits_spent c.args.look_ups.now) + length rs * look_up_visits names c.args.at.tree.now))
     (c.in_ok-cursor.ensures.all names) (c.judge_all.ensures.visits names told)
 
 pub judge_all-requires-clause-walk : goal.judge_all-requires-clause-walk

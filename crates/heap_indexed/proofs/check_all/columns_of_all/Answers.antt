@@ -1,4 +1,4 @@
-use Rattle.std.proofs.Common.{◌≡◌, ◌∙◌, ◌++◌, List, ℕ, ap, sym, arith}
+use Rattle.std.proofs.Common.{◌∙◌, ◌++◌, sym, arith}
 use Rattle.heap_indexed.specs.Waiting.{columns_in}
 use Rattle.heap_indexed.proofs.Columns.{columns-next}
 use Rattle.heap_indexed.proofs.check_all.columns_of_all.Goals as goal

@@ -1,4 +1,4 @@
-use Rattle.std.proofs.Common.{◌∙◌, sym}
+use Rattle.std.proofs.Common.{◌∙◌}
 use Rattle.heap_indexed.proofs.Entries.{looked-up, spot-inside}
 use Rattle.heap_indexed.proofs.prober.look_from_root.Goals as goal
 

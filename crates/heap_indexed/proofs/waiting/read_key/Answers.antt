@@ -6,7 +6,7 @@ use Rattle.key_orders.specs.Values.{value_shown}
 use Rattle.case_file.specs.Record.{CaseRecord}
 use Rattle.case_file.specs.Sound.{IsSoundKey}
 use Rattle.bt_levels.specs.Sound.{specs_of}
-use Rattle.heap_indexed.proofs.Keys.{FitSoFar, IsKeySoFar, any-spec, asked-column, asked-count, fit-all, fit-next, so-far-all, so-far-next, so-far-packed, value-fits}
+use Rattle.heap_indexed.proofs.Keys.{FitSoFar, IsKeySoFar, any-spec, asked-column, fit-all, fit-next, so-far-all, so-far-next, so-far-packed, value-fits}
 use Rattle.heap_indexed.proofs.waiting.read_key.Goals as goal
 
 pub returns-in-Packed-clause-key : goal.returns-in-Packed-clause-key

@@ -1,12 +1,11 @@
-use Rattle.std.proofs.Common.{◌≡◌, ◌∙◌, ◌<◌, ◌≤◌, ◌∷◌, ◌++◌, [], List, length, subst, sym, arith}
-use Rattle.std.specs.Prelude.{OnOk}
+use Rattle.std.proofs.Common.{◌∙◌, ◌∷◌, ◌++◌, [], subst, sym, arith}
 use Rattle.outside.proofs.Asking.{Passed-next}
 use Rattle.bt_levels.specs.Sound.{HoldsTree}
 use Rattle.bt_levels.specs.declared.sound.SoundTree.{SoundTree}
 use Rattle.heap_check.specs.RowCursor.{asked_at}
 use Rattle.heap_indexed.specs.Joined.{BelongTogether}
 use Rattle.heap_indexed.specs.Joins.{HasPagesOf, IsDone, IsReady}
-use Rattle.heap_indexed.proofs.Each.{above-set, below-all, below-set, each-at, each-set, still-before}
+use Rattle.heap_indexed.proofs.Each.{above-set, below-set, each-at, each-set, still-before}
 use Rattle.heap_indexed.proofs.joined.IndexedTable.judge_row.Goals as goal
 
 pub judge_row-requires-clause-ready : goal.judge_row-requires-clause-ready

@@ -1,4 +1,4 @@
-use Rattle.std.proofs.Common.{◌≡◌, ◌+◌, ◌≤◌, [], List, length}
+use Rattle.std.proofs.Common.{◌≡◌, ◌+◌, ◌≤◌, [], length}
 use Rattle.outside.specs.Outside.{IfTold, Passed}
 use Rattle.heap_check.specs.RowCursor.{IsCursorOf, asked_at, case_at, rows_ahead}
 use Rattle.heap_indexed.specs.Joins.{EachFor, HasPagesOf, HaveGone, IsDone, IsReady}

@@ -6,7 +6,7 @@ use Rattle.reports.specs.Added.{joined, report_lists}
 use Rattle.heap_check.specs.declared.row_cursor.RowPlace.{RowPlace}
 use Rattle.heap_check.specs.declared.rows.LiveRow.{LiveRow}
 use Rattle.heap_check.specs.RowCursor.{IsPlaceOfFirst, rows_ahead}
-use Rattle.heap_indexed.specs.Looking.{look_up_visits}
+use Rattle.heap_indexed.specs.Looking.{look_up_visits, visits_spent}
 use Rattle.heap_indexed.specs.Waiting.{owed_by, owed_for, owed_in, rows_in, tree_in}
 use Rattle.heap_indexed.proofs.Settling.{Settles-exit, left-is, owed-is}
 use Rattle.heap_indexed.proofs.Walks.{first-row, row-cut, row-step, spent}
@@ -72,7 +72,7 @@ pub returns-clause-visits : goal.returns-clause-visits
 returns-clause-visits g c = λ names told.
     let old = c.args.self.now in
     let more = returns-clause-next g c names told refl in
-    spent c.judge_row.new.look_ups.visits.count c.args.look_ups.now.visits.count (length (rows_in c.judge_row.new.self)) (length (rows_in old.waiting)) (length (rows_ahead names c.pass.new.self)) (length (rows_ahead names c.args.cursor.now)) (look_up_visits names (tree_in old))
+    spent (visits_spent c.judge_row.new.look_ups) (visits_spent c.args.look_ups.now) (length (rows_in c.judge_row.new.self)) (length (rows_in old.waiting)) (length (rows_ahead names c.pass.new.self)) (length (rows_ahead names c.args.cursor.now)) (look_up_visits names (tree_in old))
     (c.in_ok-judge_row.ensures.visits names (c.find.ensures.asked.same ∙ told)) more
 
 pub returns-clause-rows : goal.returns-clause-rows

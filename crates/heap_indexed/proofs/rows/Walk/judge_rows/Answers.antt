@@ -6,7 +6,7 @@ use Rattle.bt_levels.specs.Sound.{HoldsTree}
 use Rattle.reports.specs.Added.{report_lists}
 use Rattle.heap_check.specs.RowCursor.{rows_ahead}
 use Rattle.heap_indexed.specs.declared.joined.IndexedHeap.{IndexedHeap}
-use Rattle.heap_indexed.specs.Looking.{AreOf, look_up_visits}
+use Rattle.heap_indexed.specs.Looking.{AreOf, look_up_visits, visits_spent}
 use Rattle.heap_indexed.specs.Waiting.{count_left, owed_by, owed_in, tree_in}
 use Rattle.heap_indexed.proofs.Settling.{Settles-exit, left-is}
 use Rattle.heap_indexed.proofs.Walks.{ahead-end, none-left}
@@ -57,7 +57,7 @@ rows-preserved g c =
       lists = λ names told. Leaves-then report_lists (inv.lists names told) (next.lists names (inv.asked.same ∙ told));
       visits = λ names told.
           let step =
-          subst (λ (at : IndexedHeap). c.judge_next.new.look_ups.visits.count + count_left names c.judge_next.new.self c.judge_next.new.cursor * look_up_visits names at.tree.now ≤ c.rows.look_ups.visits.count + count_left names c.rows.self c.rows.cursor * look_up_visits names at.tree.now) inv.at
+          subst (λ (at : IndexedHeap). (visits_spent c.judge_next.new.look_ups) + count_left names c.judge_next.new.self c.judge_next.new.cursor * look_up_visits names at.tree.now ≤ (visits_spent c.rows.look_ups) + count_left names c.rows.self c.rows.cursor * look_up_visits names at.tree.now) inv.at
           (next.visits names (inv.asked.same ∙ told)) in
           let before = inv.visits names told in
           omega arith;

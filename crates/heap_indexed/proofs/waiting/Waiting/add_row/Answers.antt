@@ -4,7 +4,7 @@ use Rattle.outside.proofs.Adding.{Begins-cut, Leaves-added, Leaves-none}
 use Rattle.reports.specs.Added.{joined, nothing, report_lists}
 use Rattle.reports.specs.Lists.{Lists}
 use Rattle.key_runs.specs.Rows.{Gathered, GatheredRow, gathered_row}
-use Rattle.heap_indexed.specs.Looking.{look_up_visits}
+use Rattle.heap_indexed.specs.Looking.{look_up_visits, visits_spent}
 use Rattle.heap_indexed.specs.Waiting.{lists_of, owed_in, rows_in}
 use Rattle.heap_indexed.proofs.Settling.{Settles-added, Settles-exit, Settles-then, left-is, owed-is}
 use Rattle.heap_indexed.proofs.Walks.{owed-none, owed-push, owed-same, visits-none, visits-one}
@@ -86,12 +86,12 @@ returns-then-push-2-clause-visits g c = λ names told.
     let r = gathered_row c.args.row.place.tid c.args.row.place.root c.args.row.key.now in
     let one : rows_in c.push-2.new.self ≡ r ∷ [] =
     ap (λ (run : Gathered). run.rows) c.if-push-2.ensures.added ∙ ap (λ (rs : List GatheredRow). rs ++ r ∷ []) c.in_ok-finish.ensures.done in
-    visits-one c.finish.new.look_ups.visits.count c.args.look_ups.now.visits.count (length (rows_in c.push.new.self)) (length (rows_in c.args.self.now)) (length (rows_in c.push-2.new.self)) (look_up_visits names c.args.row.tree.now)
+    visits-one (visits_spent c.finish.new.look_ups) (visits_spent c.args.look_ups.now) (length (rows_in c.push.new.self)) (length (rows_in c.args.self.now)) (length (rows_in c.push-2.new.self)) (look_up_visits names c.args.row.tree.now)
     (c.in_ok-finish.ensures.visits names told) (ap (λ (run : Gathered). length run.rows) c.if-push.ensures.full) (ap length one)
 
 pub returns-clause-visits : goal.returns-clause-visits
 returns-clause-visits g c = λ names told.
     let none : rows_in c.probe-2.new.self ≡ [] =
     ap (λ (run : Gathered). run.rows) (c.probe-2.ensures.run ∙ c.if-push-2.ensures.full) ∙ c.in_ok-finish.ensures.done in
-    visits-none c.probe-2.result c.probe-2.new.look_ups.visits.count c.finish.new.look_ups.visits.count c.args.look_ups.now.visits.count (length (rows_in c.push.new.self)) (length (rows_in c.args.self.now)) (length (rows_in c.probe-2.new.self)) (look_up_visits names c.args.row.tree.now)
+    visits-none c.probe-2.result (visits_spent c.probe-2.new.look_ups) (visits_spent c.finish.new.look_ups) (visits_spent c.args.look_ups.now) (length (rows_in c.push.new.self)) (length (rows_in c.args.self.now)) (length (rows_in c.probe-2.new.self)) (look_up_visits names c.args.row.tree.now)
     (c.probe-2.ensures.visits names (c.finish.ensures.asked.same ∙ told)) (c.in_ok-finish.ensures.visits names told) (ap (λ (run : Gathered). length run.rows) c.if-push.ensures.full) (ap length none)

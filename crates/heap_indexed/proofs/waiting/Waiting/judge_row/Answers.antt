@@ -1,10 +1,6 @@
-use Rattle.std.proofs.Common.{◌≡◌, ◌∙◌, ap, sym, subst}
+use Rattle.std.proofs.Common.{◌≡◌, ◌∙◌, sym, subst}
 use Rattle.std.specs.Prelude.{Some, None}
-use Rattle.std.specs.List.{AllByRecursion}
-use Rattle.outside.specs.Adds.{Begins}
 use Rattle.outside.proofs.Adding.{Begins-same}
-use Rattle.key_orders.specs.declared.columns.KeySpec.{KeySpec}
-use Rattle.case_file.specs.Sound.{IsSoundKey}
 use Rattle.reports.specs.Added.{joined, report_lists}
 use Rattle.reports.specs.Lists.{Lists}
 use Rattle.reports.specs.declared.places.Place.TheVariants.{Tuple}

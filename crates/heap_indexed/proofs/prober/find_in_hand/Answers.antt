@@ -2,7 +2,7 @@ use Rattle.std.proofs.Common.{◌∙◌, sym, subst}
 use Rattle.std.specs.Prelude.{IfSome, Option}
 use Rattle.bt_search.specs.InHand.{InHand, IsHandOf}
 use Rattle.heap_indexed.proofs.Entries.{in-hand-is}
-use Rattle.heap_indexed.proofs.prober.look_in_hand.Goals as goal
+use Rattle.heap_indexed.proofs.prober.find_in_hand.Goals as goal
 
 pub returns-clause-found : goal.returns-clause-found
 returns-clause-found c = λ some names holds of.
