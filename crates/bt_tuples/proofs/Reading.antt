@@ -40,7 +40,7 @@ outcome-broken told values broken meaning is wrong = sym (λ i. outcome_by (is i
 
 -- The meaning of such a tuple
 
-meaning-is : (specs : List KeySpec) (more : List MoreSpec) (tuple : List ℕ) (killed : Bool) (values : List Value) → values_in specs more tuple ≡ Ok values → meaning_of specs more tuple killed ≡ meaning_by (tree_head_of tuple).kind (length specs) tuple killed values
+pub meaning-is : (specs : List KeySpec) (more : List MoreSpec) (tuple : List ℕ) (killed : Bool) (values : List Value) → values_in specs more tuple ≡ Ok values → meaning_of specs more tuple killed ≡ meaning_by (tree_head_of tuple).kind (length specs) tuple killed values
 unfolding meaning_of
 meaning-is specs more tuple killed values is = ap (λ told. meaning_by (tree_head_of tuple).kind (length specs) tuple killed (values_or_none told)) is
 

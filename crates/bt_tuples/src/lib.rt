@@ -5,6 +5,7 @@
 //! suffix truncation and on deduplication.
 #![tactic(auto)]
 
+mod entries;
 mod forms;
 mod heads;
 mod items;
@@ -15,6 +16,7 @@ mod tests;
 mod tids;
 mod tuples;
 
+pub use entries::is_plain_entry;
 pub use items::{ItemFault, Spot3, TreeItem, tree_item};
 pub use keys::ItemKeys;
 pub use laws::item_rules_are_exact;

@@ -9,6 +9,7 @@ ghost use Rattle.bt_meta.specs.Heads.{tree_head_of};
 ghost use Rattle.bt_tuples.specs.Items.{Item, meaning_of, outcome_by, tuple_outcome};
 ghost use Rattle.bt_tuples.specs.Keys.{BeginsWithKey, key_count};
 ghost use Rattle.bt_tuples.specs.Rules.{breaks_tids, breaks_tids_by, is_pivot};
+ghost use Rattle.bt_tuples.specs.Plain.{IsPlainHead};
 ghost use Rattle.bt_tuples.specs.Shown.{outcome_with};
 ghost use Rattle.bt_tuples.specs.Tuples.{body_begin, body_end, keeps_tid, kept_tid, number_of, values_in};
 
@@ -247,6 +248,22 @@ fn read_key<'p>(
     }
 }
 
+// The head of a plain tuple of a leaf without null bits that breaks none of the rules B6, B7 and B9.
+#[inline(always)]
+pub(crate) fn plain_head(tuple: &[u8]) -> Option<TreeHead>
+    requires long { 8 ≤ length tuple.now }
+    ensures { IfSome result (IsPlainHead tuple.now) }
+{
+    let head = tree_head(tuple);
+    if !is_plain(head.kind) || has_null_bits(head) || head.item == 0 {
+        return None;
+    }
+    if usize::from(size_of(head)) != tuple.len() {
+        return None;
+    }
+    Some(head)
+}
+
 // Reads the values of a plain tuple of a leaf without null bits, in an index without included columns, where
 // it breaks none of the rules B6 to B9 and has no compressed value. Then it answers its head. A second way
 // to what `read_any_tuple` answers, for its speed alone: nearly all items of an index are such tuples.
@@ -269,13 +286,7 @@ fn read_plain_tuple<'p>(
     ensures count { IfSome result (λ head. length key.new ≡ length specs.now) }
     ensures fits { IfSome result (λ head. fits_columns specs.now key.new ≡ true) }
 {
-    let head = tree_head(tuple);
-    if !is_plain(head.kind) || has_null_bits(head) || head.item == 0 {
-        return None;
-    }
-    if usize::from(size_of(head)) != tuple.len() {
-        return None;
-    }
+    let head = plain_head(tuple)?;
     match read_whole_key(specs, tuple, head, key) {
         Err(_) => None,
         Ok(()) => Some(head),

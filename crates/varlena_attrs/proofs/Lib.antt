@@ -6,5 +6,6 @@ pub mod Faults
 pub mod First
 pub mod Ends
 pub mod Keying
+pub mod PlainKeys
 pub mod KeyAttributes
 pub mod InTurn

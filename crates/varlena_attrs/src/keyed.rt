@@ -65,7 +65,7 @@ struct IndexColumns<'p> {
 
 // The value at a place of a tuple; a compressed one isn't read.
 #[inline]
-fn value_at<'p>(ctype: ColType, body: &'p [u8], place: AttrPlace) -> ValueRef<'p>
+pub(crate) fn value_at<'p>(ctype: ColType, body: &'p [u8], place: AttrPlace) -> ValueRef<'p>
     requires within { IsWithin (length body.now) place }
     requires long { HasPlainLength ctype place }
     ensures value { value_shown result ≡ attribute_value ctype (shown_at body.now place) }

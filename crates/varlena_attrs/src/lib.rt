@@ -15,6 +15,7 @@ mod keyed;
 mod places;
 mod plain;
 mod reading;
+mod same;
 #[cfg(test)]
 mod tests;
 
@@ -29,3 +30,4 @@ pub use keyed::{
 };
 pub use places::{Attr, AttrPlace, ToastPointer, pointer_at};
 pub use reading::{Attrs, attributes, attributes_are_unique};
+pub use same::has_plain_key;

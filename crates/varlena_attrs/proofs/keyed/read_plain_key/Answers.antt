@@ -15,7 +15,8 @@ use Rattle.varlena_attrs.specs.KeyedShown.{HasPlainLength, packed_here, told_aft
 use Rattle.varlena_attrs.specs.Reading.{attribute_at, stored_at}
 use Rattle.varlena_attrs.specs.Shown.{shown_at}
 use Rattle.varlena_attrs.proofs.Ends.{stored_there}
-use Rattle.varlena_attrs.proofs.Keying.{fits_push, key_aligned, key_types-drop, past_column, plain_fits, told_end, told_none}
+use Rattle.varlena_attrs.proofs.Keying.{fits_push, key_aligned, key_types-drop, past_column, told_end, told_none}
+use Rattle.varlena_attrs.proofs.PlainKeys.{long_there, none_packed, step_there}
 use Rattle.varlena_attrs.proofs.keyed.read_plain_key.Goals as goal
 
 -- before the first column and after the last one
@@ -36,33 +37,12 @@ plain_piece-requires-clause-known c = key_aligned c.args.specs.now c.loop-spec.s
 pub plain_piece-requires-clause-within : goal.plain_piece-requires-clause-within
 plain_piece-requires-clause-within c = c.loop-spec.invariant.within
 
--- the bytes of a value that is found so are as many as its type asks for
-long_there : (ctype : ColType) (body : List ℕ) (place start len : ℕ) (found : Found) → HasAlignment ctype → start + len ≤ length body → stored_at ctype body place ≡ Ok (Plain (take len (drop start body)), start + len) → found ≡ record { place = at.Plain start len; next = start + len } → HasPlainLength ctype found.place
-long_there ctype body place start len found known within step is =
-    subst (λ (f : Found). HasPlainLength ctype f.place) (sym is)
-    (plain_fits Stored ctype body place (start + len) (at.Plain start len) known within (sym step))
-
 pub value_at-requires-clause-long : goal.value_at-requires-clause-long
 value_at-requires-clause-long c =
     long_there (get_or c.args.specs.now c.loop-spec.spec-index _).ctype c.args.body.now c.loop-spec.place c.in-Some.piece.start c.in-Some.piece.len c.found-found.result (key_aligned c.args.specs.now c.loop-spec.spec-index _ c.loop-spec-test.true c.requires.aligned) c.in-Some.ensures.within c.in-Some.ensures.step c.found-found.ensures
 
 pub push-requires : goal.push-requires
 push-requires c = omega (arith, c.loop-spec.invariant.count, c.loop-spec-test.true, c.requires.few)
-
--- a column of a tuple without null bits is there
-there : (natts k : ℕ) → k < natts → presence_of None natts k ≡ Stored
-unfolding is_null
-there natts k lt = stored_there None natts k lt refl
-
-step_there : (ctype : ColType) (natts k : ℕ) (body : List ℕ) (place start len : ℕ) (found : Found) → k < natts → stored_at ctype body place ≡ Ok (Plain (take len (drop start body)), start + len) → found ≡ record { place = at.Plain start len; next = start + len }
-    → ◌≡◌ {A = InlineStep} (Ok (shown_at body found.place, found.next)) (inline_step (k + 1) (attribute_at (presence_of None natts k) ctype body place))
-step_there ctype natts k body place start len found lt step is =
-    ap (λ (f : Found). Ok (shown_at body f.place, f.next)) is
-    ∙ sym (ap (λ (p : Presence). inline_step (k + 1) (attribute_at p ctype body place)) (there natts k lt)
-    ∙ ap (inline_step (k + 1)) step)
-
-none_packed : (found : Found) (start len column : ℕ) (body : List ℕ) → found ≡ record { place = at.Plain start len; next = start + len } → None ≡ packed_here (is_packed (shown_at body found.place)) column
-none_packed found start len column body is = rw is refl
 
 pub loop-spec-preserved : goal.loop-spec-preserved
 loop-spec-preserved c =

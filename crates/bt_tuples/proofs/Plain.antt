@@ -1,0 +1,75 @@
+-- A plain tuple of a leaf without null bits, whose values are told.
+use Rattle.std.proofs.Common.{◌≡◌, ◌≢◌, ℕ, ◌≤◌, Bool, true, false, List, [], ◌++◌, length, take, drop, refl, ap, sym, subst, ◌∙◌, append-nil, arith}
+use Rattle.std.specs.Prelude.{not, nat_lt, ◌==◌, None, Ok, Some}
+use Rattle.std.proofs.lemmas.List.{drop_all, take_all}
+use Rattle.std.proofs.lemmas.Bool.{cond-false, eq-eqb, le-ltb, ne_eqb}
+use Rattle.key_orders.specs.declared.columns.ColType.{ColType}
+use Rattle.key_orders.specs.declared.columns.KeySpec.{KeySpec}
+use Rattle.key_orders.specs.declared.columns.Value.{Value}
+use Rattle.key_orders.specs.declared.Tid.{Tid}
+use Rattle.varlena_attrs.specs.Keyed.{KeyValues, key_types, key_values}
+use Rattle.bt_meta.specs.declared.records.HeadKind.{HeadKind}
+use Rattle.bt_meta.specs.declared.records.HeadKind.TheVariants as kind
+use Rattle.bt_meta.specs.declared.records.TreeHead.{TreeHead}
+use Rattle.bt_meta.specs.Heads.{tree_head_of}
+use Rattle.bt_tuples.specs.declared.items.ItemFault.TheVariants.{Broken}
+use Rattle.bt_tuples.specs.declared.items.Spot3.TheVariants.{LeafItem}
+use Rattle.page_layout.specs.declared.rules.Rule.TheVariants.{B6, B7, B8}
+use Rattle.std.specs.Prelude.{Err}
+use Rattle.bt_tuples.specs.Items.{Item, Plain, meaning_by, meaning_of, outcome_by, tuple_outcome}
+use Rattle.bt_tuples.specs.Plain.{IsPlainHead}
+use Rattle.bt_tuples.specs.Rules.{begins_past_end, breaks_form, breaks_size, breaks_tids, breaks_tids_by}
+use Rattle.bt_tuples.specs.Tuples.{body_begin, body_end, body_in, columns_by, end_by, has_null_bits, null_bits_in, plain_tid, size_of, values_in}
+use Rattle.bt_tuples.proofs.Reading.{meaning-is, outcome-read}
+
+module _ (specs : List KeySpec) (tuple : List ℕ) (head : TreeHead) (h : IsPlainHead tuple head) (long : 8 ≤ length tuple) where
+  plain_kind : (tree_head_of tuple).kind ≡ kind.Plain
+  plain_kind = ap (λ (t : TreeHead). t.kind) (sym h.is) ∙ h.kind
+
+  none : has_null_bits (tree_head_of tuple) ≡ false
+  none = ap has_null_bits (sym h.is) ∙ h.no_nulls
+
+  same_size : breaks_size tuple ≡ false
+  same_size = ap not (eq-eqb (size_of (tree_head_of tuple)) (length tuple) (ap size_of (sym h.is) ∙ h.size))
+
+  right_form : breaks_form LeafItem (length specs) false (tree_head_of tuple) ≡ false
+  right_form = subst (λ (t : TreeHead). breaks_form LeafItem (length specs) false t ≡ false) h.is (by head h.kind)
+    where
+      by : (t : TreeHead) → t.kind ≡ kind.Plain → breaks_form LeafItem (length specs) false t ≡ false
+      by t is = rw is refl
+
+  begins : begins_past_end tuple ≡ false
+  begins =
+      let to : body_end (tree_head_of tuple) (length tuple) ≡ length tuple = ap (λ (k : HeadKind). end_by k (tree_head_of tuple) (length tuple)) plain_kind in
+      let from : body_begin (tree_head_of tuple) ≡ 8 = cond-false (has_null_bits (tree_head_of tuple)) 16 8 none in
+      (λ i. nat_lt (to i) (from i)) ∙ le-ltb (length tuple) 8 long
+
+  right_tid : breaks_tids tuple ≡ false
+  right_tid =
+      let some : (tree_head_of tuple).item ≢ 0 = subst (λ (t : TreeHead). t.item ≢ 0) h.is h.some in
+      ap (λ (k : HeadKind). breaks_tids_by k tuple) plain_kind ∙ ne_eqb (tree_head_of tuple).item 0 some
+
+  module _ (key : List Value) (told : key_values (key_types specs) (body_in tuple) None ≡ Ok key) where
+    pub values : values_in specs [] tuple ≡ Ok key
+    unfolding values_in
+    values =
+        let nulls : null_bits_in tuple ≡ None = cond-false (has_null_bits (tree_head_of tuple)) (Some (take 4 (drop 8 tuple))) None none in
+        (λ i. key_values (columns_by (plain_kind i) (tree_head_of tuple) specs []) (body_in tuple) (nulls i))
+        ∙ ap (λ (types : List ColType). key_values types (body_in tuple) None) (append-nil (key_types specs)) ∙ told
+
+    meaning : (killed : Bool) (tid : Tid) → length key ≡ length specs → plain_tid (tree_head_of tuple) ≡ tid → meaning_of specs [] tuple killed ≡ Plain key [] tid killed
+    meaning killed tid count is =
+        let all : length key ≤ length specs = omega (arith, count) in
+        meaning-is specs [] tuple killed key values
+        ∙ ap (λ (k : HeadKind). meaning_by k (length specs) tuple killed key) plain_kind
+        ∙ (λ i. Plain (take_all (length specs) key all i) (drop_all (length specs) key all i) (is i) killed)
+
+    -- it is one entry, with its key and its TID
+    pub outcome : (killed : Bool) (tid : Tid) → length key ≡ length specs → plain_tid (tree_head_of tuple) ≡ tid → tuple_outcome specs [] LeafItem tuple killed ≡ Ok (Plain key [] tid killed)
+    unfolding tuple_outcome
+    outcome killed tid count is =
+        cond-false (breaks_size tuple) (Err (Broken B6)) _ same_size
+        ∙ cond-false (breaks_form LeafItem (length specs) false (tree_head_of tuple)) (Err (Broken B7)) _ right_form
+        ∙ cond-false (begins_past_end tuple) (Err (Broken B8)) _ begins
+        ∙ sym (outcome-read (values_in specs [] tuple) key (breaks_tids tuple) (meaning_of specs [] tuple killed) values right_tid)
+        ∙ ap Ok (meaning killed tid count is)

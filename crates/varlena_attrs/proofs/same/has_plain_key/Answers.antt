@@ -1,0 +1,77 @@
+use Rattle.std.proofs.Common.{◌≡◌, ◌+◌, ◌<◌, ◌≤◌, ◌++◌, ◌∷◌, ℕ, List, [], drop, take, get_or, length, refl, sym, ap, subst, ◌∙◌, arith}
+use Rattle.std.specs.Prelude.{None, Ok, false}
+use Rattle.std.proofs.lemmas.List.{get_or-map, length-map, take_all, take_more}
+use Rattle.key_orders.specs.declared.columns.ColType.{ColType}
+use Rattle.key_orders.specs.declared.columns.ColType.TheVariants.{Bool as BoolType}
+use Rattle.key_orders.specs.declared.columns.KeySpec.{KeySpec}
+use Rattle.key_orders.specs.declared.columns.Value.{Value}
+use Rattle.key_orders.specs.declared.columns.ValueRef.TheVariants as ref
+use Rattle.key_orders.specs.Values.{value_shown}
+use Rattle.varlena_attrs.specs.Keyed.{is_packed, key_types, read_inline}
+use Rattle.varlena_attrs.specs.KeyedShown.{told_after}
+use Rattle.varlena_attrs.specs.Shown.{shown_at}
+use Rattle.varlena_attrs.proofs.Keying.{key_aligned, key_types-drop, past_column, told_end, told_none}
+use Rattle.varlena_attrs.proofs.PlainKeys.{long_there, none_packed, step_there}
+use Rattle.varlena_attrs.proofs.same.has_plain_key.Goals as goal
+
+pub loop-k-init : goal.loop-k-init
+loop-k-init c = record {
+  told = sym (told_none (key_types c.args.specs.now) (length c.args.specs.now) c.args.body.now None (length-map c.args.specs.now (λ k. k.ctype)));
+  within = omega arith;
+}
+
+pub plain_piece-requires-clause-known : goal.plain_piece-requires-clause-known
+plain_piece-requires-clause-known c = key_aligned c.args.specs.now c.loop-k.k _ c.loop-k-test.true c.requires.aligned
+
+pub value_at-requires-clause-long : goal.value_at-requires-clause-long
+value_at-requires-clause-long c =
+    long_there (get_or c.args.specs.now c.loop-k.k _).ctype c.args.body.now c.loop-k.place c.in-Some.piece.start c.in-Some.piece.len c.found-found.result (key_aligned c.args.specs.now c.loop-k.k _ c.loop-k-test.true c.requires.aligned) c.in-Some.ensures.within c.in-Some.ensures.step c.found-found.ensures
+
+pub loop-k-preserved : goal.loop-k-preserved
+loop-k-preserved c =
+    let specs = c.args.specs.now in
+    let body = c.args.body.now in
+    let k = c.loop-k.k in
+    let none : KeySpec = record { column = 0; ctype = BoolType; desc = false; nulls_first = false } in
+    let ctype = (get_or specs k none).ctype in
+    let rest = key_types (drop (k + 1) specs) in
+    let found = c.found-found.result in
+    let piece = c.in-Some.piece in
+    let values = c.as_slice-values.result.now in
+    let shown = value_shown c.value_at.result in
+    let key = c.args.key.now in
+    let many : length values ≡ length specs = c.if-values-specs.false in
+    let long : length key ≡ length values = ap length (sym c.as_slice-values.ensures.values) ∙ length-map values value_shown in
+    let lt : k < length key = let t = c.loop-k-test.true in omega (arith, t, many, long) in
+    let here : get_or key k shown ≡ shown =
+    ap (λ (vs : List Value). get_or vs k shown) (sym c.as_slice-values.ensures.values)
+    ∙ get_or-map value_shown values k ref.Null shown (let t = c.loop-k-test.true in omega (arith, t, many)) ∙ sym c.if-not-is_same.ensures in
+    let more : take (k + 1) key ≡ take k key ++ shown ∷ [] = take_more key k shown lt ∙ ap (λ (v : Value). take k key ++ v ∷ []) here in
+    let step = step_there ctype (length specs) k body c.loop-k.place piece.start piece.len found c.loop-k-test.true c.in-Some.ensures.step c.found-found.ensures in
+    record {
+      told =
+          c.loop-k.invariant.told
+          ∙ ap (λ (ts : List ColType). told_after (take k key) None k ts (read_inline ts None (length specs) body k c.loop-k.place)) (key_types-drop specs k none c.loop-k-test.true)
+          ∙ past_column (take k key) None k ctype rest None (length specs) body c.loop-k.place found.next (shown_at body found.place) shown None step c.value_at.ensures.value (none_packed found piece.start piece.len (k + 1) body c.found-found.ensures)
+          ∙ ap (λ (vs : List Value). told_after vs None (k + 1) rest (read_inline rest None (length specs) body (k + 1) found.next)) (sym more);
+      within = rw c.found-found.ensures c.in-Some.ensures.within;
+    }
+
+pub returns-clause-count : goal.returns-clause-count
+returns-clause-count c =
+    let values = c.as_slice-values.result.now in
+    let many : length values ≡ length c.args.specs.now = c.if-values-specs.false in
+    ap length (sym c.as_slice-values.ensures.values) ∙ length-map values value_shown ∙ many
+
+pub returns-clause-value : goal.returns-clause-value
+returns-clause-value c =
+    let specs = c.args.specs.now in
+    let values = c.as_slice-values.result.now in
+    let key = c.args.key.now in
+    let k = c.loop-k.k in
+    let many : length values ≡ length specs = c.if-values-specs.false in
+    let long : length key ≡ length values = ap length (sym c.as_slice-values.ensures.values) ∙ length-map values value_shown in
+    let end : length specs ≤ k = omega (arith, c.loop-k-test.false) in
+    c.loop-k.invariant.told
+    ∙ told_end specs c.args.body.now (take k key) k c.loop-k.place end
+    ∙ ap Ok (take_all k key (omega (arith, many, long, end)))

@@ -1,0 +1,53 @@
+//! Whether an index tuple has the values of a key, asked of its bytes as they lie.
+ghost use Rattle.std.specs.Prelude.{◌≡◌, ◌≤◌, Ok, None, length, All};
+ghost use Rattle.std.specs.Bool.{OnTrue};
+ghost use Rattle.key_orders.specs.Types.{HasAlignment};
+ghost use Rattle.key_orders.specs.Values.{value_shown};
+ghost use Rattle.varlena_attrs.specs.Keyed.{key_types, key_values};
+
+use crate::keyed::value_at;
+use crate::plain::plain_piece;
+use key_orders::{KeyRefs, KeySpec, ValueRef};
+
+// Whether two values are the same.
+#[inline(always)]
+fn is_same(a: ValueRef<'_>, b: ValueRef<'_>) -> bool
+    ensures { OnTrue result (value_shown a.entry ≡ value_shown b.entry) }
+{
+    match (a, b) {
+        (ValueRef::Null, ValueRef::Null) => true,
+        (ValueRef::Bool(x), ValueRef::Bool(y)) => x == y,
+        (ValueRef::Int(x), ValueRef::Int(y)) => x == y,
+        (ValueRef::Bytes(x), ValueRef::Bytes(y)) => x == y,
+        _ => false,
+    }
+}
+
+/// Whether an index tuple without null bits, which has this body, has the values of this key as its first ones, where
+/// each of them is found by the least that tells it: a value of a fixed length, or a varlena with a header of one byte.
+/// `false` says nothing.
+#[inline]
+pub fn has_plain_key(specs: &[KeySpec], body: &[u8], key: &KeyRefs<'_>) -> bool
+    requires few { length specs.now ≤ 8 }
+    requires aligned { All HasAlignment (key_types specs.now) }
+    ensures value { OnTrue result (key_values (key_types specs.now) body.now None ≡ Ok key.now) }
+    ensures count { OnTrue result (length key.now ≡ length specs.now) }
+{
+    let values = key.as_slice();
+    if values.len() != specs.len() {
+        return false;
+    }
+    let mut place = 0;
+    for k in 0..specs.len() {
+        let ctype = specs[k].ctype;
+        let Some(piece) = plain_piece(ctype, body, place) else {
+            return false;
+        };
+        let found = piece.found();
+        if !is_same(value_at(ctype, body, found.place), values[k]) {
+            return false;
+        }
+        place = found.next;
+    }
+    true
+}
