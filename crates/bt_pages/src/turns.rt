@@ -41,7 +41,8 @@ pub fn read_item<'p>(
     requires before { IsCarried specs.now more.now (page_bytes page) (at.number - 1) before.now }
     ensures plain { is_plain specs.now more.now (page_bytes page.entry) at.number ≡ is_some result }
     ensures low { IfSome result (λ low. low ≡ breaks_order specs.now more.now (page_bytes page.entry) at.number) }
-    ensures last { IfSome result (λ low. IsCarried specs.now more.now (page_bytes page.entry) at.number keys.new.first) }
+    ensures last { IfSome result (λ low.
+        IsCarried specs.now more.now (page_bytes page.entry) at.number keys.new.first) }
 {
     match keys.read(page, at.number, specs, more, at.spot) {
         Err(_) => None,

@@ -1,5 +1,6 @@
-//! A glimpse of an item: of the first value of its key, by which a search on a leaf goes its way, and of its TID, by which
-//! it is found without one. Nothing is promised of them: what the search comes to is read and compared as ever.
+//! A glimpse of an item: of the first value of its key, by which a search on a leaf goes its way, and of its
+//! TID, by which it is found without one. Nothing is promised of them: what the search comes to is read and
+//! compared as ever.
 ghost use Rattle.std.specs.Prelude.{◌≡◌, ◌<◌, ◌≤◌, None, IfSome};
 ghost use Rattle.page_layout.specs.Page.{count_of, page_rule_of};
 ghost use Rattle.page_layout.specs.View.{page_bytes};
@@ -54,7 +55,8 @@ pub fn first_value<'p>(page: PageView<'p>, i: u16, ctype: ColType) -> Option<Val
     }
 }
 
-// Whether an item of a tree page begins with these bytes of a TID: its block, the higher half first, and its line pointer.
+// Whether an item of a tree page begins with these bytes of a TID: its block, the higher half first, and its
+// line pointer.
 #[inline]
 fn has_tid(page: PageView<'_>, i: u16, block: u32, item: u16) -> bool
     requires page { page_rule_of PageKind.Tree (page_bytes page) ≡ None }

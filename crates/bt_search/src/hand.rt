@@ -97,9 +97,9 @@ impl LeafInHand {
         seeker.is_behind(page, page.item_count())
     }
 
-    /// Looks for an entry on the leaf, from the item on from which look-ups go on: among the next ones, where that of the
-    /// next key stands, by its TID, and then by the order of the keys. Look-ups go on from its item then. `None` says
-    /// nothing: the entry may stand elsewhere.
+    /// Looks for an entry on the leaf, from the item on from which look-ups go on: among the next ones, where that
+    /// of the next key stands, by its TID, and then by the order of the keys. Look-ups go on from its item then.
+    /// `None` says nothing: the entry may stand elsewhere.
     pub fn find(&mut self, tree: &SoundTree, sought: Sought<'_>) -> Option<Spot>
         requires key { IsKey (specs_of tree.now) sought.key.now }
         ensures found { IfSome result (λ at. (names : Held) → IsHandOf names tree.now self.old

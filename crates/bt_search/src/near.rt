@@ -1,5 +1,6 @@
 //! Looks for an entry onward from another one, on the same leaf.
 ghost use Rattle.std.specs.Prelude.{◌≡◌, ◌≤◌, None, All, IfSome, length};
+ghost use Rattle.std.specs.Bool.{OnTrue};
 ghost use Rattle.std.specs.declared.cmp.Ordering.TheVariants.{Equal};
 ghost use Rattle.page_layout.specs.Page.{count_of, item_of, page_rule_of};
 ghost use Rattle.page_layout.specs.View.{page_bytes};
@@ -12,7 +13,7 @@ ghost use Rattle.bt_steps.specs.Sought.{HasSought};
 
 use crate::glimpse::{first_value, item_with};
 use bt_steps::{Place, Sought, find_in_item};
-use bt_tuples::{ItemKeys, Spot3};
+use bt_tuples::{ItemKeys, Spot3, is_plain_entry};
 use key_orders::{KeySpec, cmp_sep, key_orders_are_total, key_prefix};
 use page_layout::{LineFlag, PageKind, PageView};
 use std::cmp::Ordering;
@@ -38,8 +39,8 @@ pub struct Seeker<'a> {
 }
 
 impl<'a> Seeker<'a> {
-    // How the entry stands to those of an item, as far as the first value of their key tells it at a glance. `prefix` is
-    // that of the entry's.
+    // How the entry stands to those of an item, as far as the first value of their key tells it at a glance.
+    // `prefix` is that of the entry's.
     #[inline]
     fn glance(self, prefix: u64, page: PageView<'_>, i: u16) -> Ordering
         requires page { page_rule_of PageKind.Tree (page_bytes page) ≡ None }
@@ -93,6 +94,25 @@ impl<'a> Seeker<'a> {
         Ordering::Equal
     }
 
+    // Whether the entry is a data item of a leaf that isn't killed, as far as its bytes tell it as they lie.
+    #[inline]
+    fn is_at(self, page: PageView<'_>, i: u16) -> bool
+        requires page { page_rule_of PageKind.Tree (page_bytes page) ≡ None }
+        requires first { 1 ≤ i }
+        requires from { first_data (page_bytes page) ≤ i }
+        requires last { i ≤ count_of (page_bytes page) }
+        requires few { length self.specs.now ≤ 8 }
+        requires aligned { All HasAlignment (key_types self.specs.now) }
+        ensures { OnTrue result (HasSought self.entry.specs.now (page_bytes page.entry) self.entry.sought.key.now
+            self.entry.sought.tid i 0) }
+    {
+        let is_killed = is_dead(page, i);
+        if is_killed {
+            return false;
+        }
+        is_plain_entry(page, i, self.specs, self.sought.key, self.sought.tid)
+    }
+
     // Looks on a leaf for the entry from a data item on: by steps that double until they pass it, and then by halves.
     fn find_onward<'p>(
         self,
@@ -137,8 +157,8 @@ impl<'a> Seeker<'a> {
         Some(Place { item: low, nth })
     }
 
-    /// Looks on a leaf for the entry from a data item on: among the next items for one with its TID, and then by the order
-    /// of the keys.
+    /// Looks on a leaf for the entry from a data item on: among the next items for one with its TID, and then by
+    /// the order of the keys.
     pub fn find(self, page: PageView<'_>, from: u16) -> Option<Place>
         requires page { page_rule_of PageKind.Tree (page_bytes page) ≡ None }
         requires from { first_data (page_bytes page) ≤ from }
@@ -151,7 +171,7 @@ impl<'a> Seeker<'a> {
     {
         let mut keys = ItemKeys::new();
         if let Some(item) = item_with(page, from, self.sought.tid) {
-            if self.order_at(page, item, &mut keys).is_eq() {
+            if self.is_at(page, item) {
                 return Some(Place { item, nth: 0 });
             }
         }

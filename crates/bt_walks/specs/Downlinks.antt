@@ -94,8 +94,8 @@ IsSoundHand specs more page Nothing = Unit {0}
 IsSoundHand specs more page (Root b) = Unit {0}
 IsSoundHand specs more page (Item i) = IsInner specs more page i
 
--- these downlinks are left, where the pages of the level above, which has this number, that are left to be read, and all
--- below it, are at most m
+-- these downlinks are left, where the pages of the level above, which has this number, that are left to be read,
+-- and all below it, are at most m
 pub record Reads (tree : Tree) (dead : ℕ → Bool) (level m : ℕ) (downlinks : Downlinks) (left : List TreeDownlink)
     : Type 0 where
   pub hand : IsSoundHand tree.specs tree.more downlinks.page downlinks.hand

@@ -12,8 +12,8 @@ use Rattle.bt_walks.specs.Budget.{pages_below}
 abbrev pub IsOfLevel : {S E : Type 0} → Index S E → (level : ℕ) → ℕ → Type 0
 IsOfLevel x level b = IsInUse x b × ((x.page b).level ≡ level)
 
--- behind the cursor these downlinks are left; the pages of this level that are left to be read, and all below it, are at
--- most m
+-- behind the cursor these downlinks are left; the pages of this level that are left to be read, and all below it,
+-- are at most m
 pub record IsReading {S E : Type 0} (x : Index S E) (dead : ℕ → Bool) (level m : ℕ) (cursor : Cursor S)
     (left : List (Downlink S)) : Type 0 where
   pub pages : ℕ

@@ -70,8 +70,8 @@ dead_of levels = is_in levels.dead
 abbrev pub standing_of : Levels → ℕ → Bool
 standing_of levels = is_in levels.stands
 
--- how often the index may still be read: for walks over pages, for steps to the left, which take two reads each, and for
--- downlinks
+-- how often the index may still be read: for walks over pages, for steps to the left, which take two reads each,
+-- and for downlinks
 abbrev pub walks_of : Levels → ℕ
 walks_of levels = levels.walks_left
 
@@ -160,8 +160,8 @@ pub record BeginsChain (tree : Tree) (level first : ℕ) : Type 0 where
   pub leads : Leads (to_right (image_of tree)) first (chain_from tree first)
   pub of_level : AllByRecursion (IsOfLevel (image_of tree) level) (chain_from tree first)
 
--- past all pages of a level, whose downlinks these are: the walk of tree_rules, what the two sets have gained, and enough
--- for the walks below
+-- past all pages of a level, whose downlinks these are: the walk of tree_rules, what the two sets have gained, and
+-- enough for the walks below
 pub record HasWalked (tree : Tree) (level : ℕ) (ds : List TreeDownlink) (first : ℕ) (old new : Levels)
     (carried : LevelWalk) : Type 0 where
   pub walk : TreeWalk

@@ -14,7 +14,8 @@ ghost use Rattle.bt_walks.specs.Shape.{IsShapeOf};
 ghost use Rattle.bt_walks.specs.Trees.{HasColumns, HoldsPages, first_broken_in, image_of};
 ghost use Rattle.bt_walks.specs.Downlinks.{TreeDownlink, turns_of};
 ghost use Rattle.bt_walks.specs.Reading.{IsReading};
-ghost use Rattle.bt_walks.specs.Walked.{AreLevelsJudged, ChangesDownlinks, HasEnough, IsReady, IsSameIndex, IsTreeJudged};
+ghost use Rattle.bt_walks.specs.Walked.{AreLevelsJudged, ChangesDownlinks, HasEnough};
+ghost use Rattle.bt_walks.specs.Walked.{IsReady, IsSameIndex, IsTreeJudged};
 ghost use Rattle.bt_walks.specs.Walked.{StandsBefore, budget_of, dead_of, fastroot_of, standing_of, tree_of, upper_of};
 
 use crate::block_set::BlockSet;

@@ -7,7 +7,8 @@ ghost use Rattle.bt_walks.specs.Budget.{TakesReads};
 ghost use Rattle.bt_walks.specs.Downlinks.{TreeDownlink};
 ghost use Rattle.bt_walks.specs.Reading.{IsOfLevel};
 ghost use Rattle.bt_walks.specs.Trees.{HoldsPages, image_of};
-ghost use Rattle.bt_walks.specs.Walked.{HasEnough, IsLevelJudged, IsReady, IsSameIndex, StandsBefore, budget_of, tree_of};
+ghost use Rattle.bt_walks.specs.Walked.{HasEnough, IsLevelJudged, IsReady};
+ghost use Rattle.bt_walks.specs.Walked.{IsSameIndex, StandsBefore, budget_of, tree_of};
 
 use crate::first_page::first_page;
 use crate::levels::Levels;

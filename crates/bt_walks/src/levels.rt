@@ -24,7 +24,8 @@ ghost use Rattle.bt_walks.specs.Reading.{IsOfLevel};
 ghost use Rattle.bt_walks.specs.Trees.{HoldsPages, image_of, order_in, same_in};
 ghost use Rattle.bt_walks.specs.Walked.{BeginsChain, ChangesBound, ChangesDownlinks, ChangesPage, ChangesSets};
 ghost use Rattle.bt_walks.specs.Walked.{HasMarked, HasPassed, HasWalked, IsReady, IsSameIndex, IsWalking, KeepsBudget};
-ghost use Rattle.bt_walks.specs.Walked.{StandsBefore, TreeWalk, budget_of, chain_from, lower_of, page_in, steps_of, tree_of};
+ghost use Rattle.bt_walks.specs.Walked.{StandsBefore, TreeWalk, budget_of, chain_from};
+ghost use Rattle.bt_walks.specs.Walked.{lower_of, page_in, steps_of, tree_of};
 ghost use Rattle.bt_walks.specs.Walked.{upper_of, walks_of};
 
 use crate::block_set::BlockSet;

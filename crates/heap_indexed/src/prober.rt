@@ -165,8 +165,8 @@ fn look_from_root<F: Files>(
     Ok(at.is_some())
 }
 
-/// Whether an index has an entry that isn't killed. It is looked for on the leaf in hand first, and if it isn't there, on
-/// that leaf's right sibling, where it may stand there, and on the way from the fast root.
+/// Whether an index has an entry that isn't killed. It is looked for on the leaf in hand first, and if it isn't
+/// there, on that leaf's right sibling, where it may stand there, and on the way from the fast root.
 pub fn look_up<F: Files>(
     tree: &SoundTree,
     files: &mut F,
