@@ -1,18 +1,19 @@
 -- Which files of a case are judged, and which case is refused for its files.
-use Rattle.std.specs.Prelude.{◌≡◌, ℕ, List, Option, Some, None, IfSome}
+use Rattle.std.specs.Prelude.{◌≡◌, ℕ, Bool, List, Option, Some, None, IfSome}
 use Rattle.std.specs.Option.{option_or}
 use Rattle.attach_files.specs.Refusals.{IsNamed, block_limit, file_refusal}
 use Rattle.outside.specs.Outside.{Names}
 use Rattle.rel_files.specs.Relation.{FindsFront, IsRelationOf}
 use Rattle.rel_files.specs.declared.relation.Relation.{Relation}
 use Rattle.case_file.specs.Record.{CaseRecord}
+use Rattle.root_set.specs.Targets.{targets_of}
 use Rattle.vis_map.specs.Bits.{map_pages_for}
 use Rattle.toast_chunks.specs.declared.map.Chunk.{Chunk}
 use Rattle.reports.specs.declared.fault.CheckFault.{CheckFault}
 use Rattle.reports.specs.declared.fault.Which.TheVariants.{Heap, Toast}
 use Rattle.heap_files.specs.declared.files.HeapFiles.{HeapFiles}
 use Rattle.heap_files.specs.declared.files.SoundHeap.{SoundHeap}
-use Rattle.heap_files.specs.Case.{heap_blocks}
+use Rattle.heap_files.specs.Case.{heap_blocks, heap_page}
 use Rattle.heap_files.specs.Found.{chunks_of}
 use Rattle.heap_files.specs.Map.{map_name}
 
@@ -71,7 +72,13 @@ toast_in sound = sound.files.toast
 abbrev pub chunks_in : SoundHeap → List Chunk
 chunks_in sound = sound.chunks
 
--- a heap without findings and without doubts, over these names: its files, and the chunks of its TOAST table
+-- and the set of its line pointers that an index entry may name
+abbrev pub targets_in : SoundHeap → List (List Bool)
+targets_in sound = sound.targets
+
+-- a heap without findings and without doubts, over these names: its files, the chunks of its TOAST table, and the line
+-- pointers of its pages that an index entry may name
 pub record IsSoundHeapOf (case : CaseRecord) (names : Names) (sound : SoundHeap) : Type 0 where
   pub files : AreFilesOf case names sound.files
   pub chunks : sound.chunks ≡ chunks_of case names
+  pub targets : sound.targets ≡ targets_of (heap_page case names) (heap_blocks case names)

@@ -1,8 +1,10 @@
 -- The file of a table that the code judges: what is at hand of it, and what is found of it.
-use Rattle.std.specs.Prelude.{ℕ}
+use Rattle.std.specs.Prelude.{ℕ, List}
 use Rattle.std.specs.Option.{option_copied}
 use Rattle.outside.specs.Outside.{Names}
+use Rattle.rel_files.specs.Blocks.{block_of}
 use Rattle.rel_files.specs.Relation.{IsAttached, base_of, count_of, long_of, size_of}
+use Rattle.rel_files.specs.declared.relation.Relation.{Relation}
 use Rattle.heap_pages.specs.Found.{FoundLists}
 use Rattle.heap_pages.specs.Table.{chunks_seen, table_seen}
 use Rattle.heap_pages.specs.declared.table.TableRules.{TableRules}
@@ -17,6 +19,10 @@ pub record AreAtHand (names : Names) (file : TableFile) (hand : MapPage) : Type 
   pub relation : IsAttached names file.relation.now
   pub map : IsMapAttached names (option_copied file.map)
   pub page : IsOptionalMapInHand names (option_copied file.map) hand
+
+-- its pages
+abbrev pub pages_in : Names → Relation → ℕ → List ℕ
+pages_in names relation block = block_of names (base_of relation) (size_of relation) block
 
 abbrev pub found_of_block : Names → TableRules → TableFile → ℕ → FoundLists
 found_of_block names table file block =

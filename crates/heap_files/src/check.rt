@@ -5,10 +5,11 @@ ghost use Rattle.outside.specs.Outside.{Asked, IfTold, Tells};
 ghost use Rattle.liveness.specs.LogFiles.{log_files_of};
 ghost use Rattle.reports.specs.Added.{joined, nothing, report_lists};
 ghost use Rattle.heap_pages.specs.Found.{both_found};
-ghost use Rattle.heap_files.specs.Case.{log_files_in, oid_in};
+ghost use Rattle.heap_files.specs.Case.{heap_blocks, heap_page, log_files_in, oid_in};
 ghost use Rattle.heap_files.specs.Found.{IsQuiet, case_found, chunks_given, lists_in, map_found, parts_found};
 ghost use Rattle.heap_files.specs.Found.{toast_found};
 ghost use Rattle.heap_files.specs.Relations.{segment_found};
+ghost use Rattle.heap_files.specs.Targets.{HasTargets};
 ghost use Rattle.heap_pages.specs.Table.{chunks_seen, toast_oid_seen};
 ghost use Rattle.heap_files.specs.CaseLogs.{log_files_kept};
 ghost use Rattle.heap_files.specs.Files.{AreFilesOf, BelongTo, IsSoundHeapOf, files_of};
@@ -17,7 +18,7 @@ ghost use Rattle.heap_files.specs.MapPage.{IsOptionalMapInHand};
 use crate::files::{HeapFiles, SoundHeap};
 use crate::logs::CaseLogs;
 use crate::map::MapPage;
-use crate::relations::{Hands, TableFile, judge_table};
+use crate::relations::{Hands, JudgedFile, TableFile, judge_table};
 use case_file::Case;
 use heap_pages::{Found, TableKind, TableRules, ToastTable};
 use liveness::{Memory, Remembering, Transactions};
@@ -123,7 +124,7 @@ fn judge_toast<F: Transactions>(
             };
             let mut hands = Hands::new(alloc)?;
             judge_table(files, &table, file, &mut hands)?;
-            Ok(hands.into_found())
+            Ok(hands.into_judged().found)
         }
     }
 }
@@ -174,19 +175,21 @@ fn put_together(map: Report, heap: Found, toast: Found) -> Result<Found, NoMemor
     })
 }
 
-// What is found of the map, the heap and the TOAST table of a case. The TOAST table is judged first, since the
-// heap's values are asked of its chunks, and comes last in the lists.
+// What is found of the map, the heap and the TOAST table of a case, and what an index entry may name of the heap. The
+// TOAST table is judged first, since the heap's values are asked of its chunks, and comes last in the lists.
 fn judge_in_turn<F: Transactions>(
     alloc: Global,
     files: &mut F,
     case: &Case,
     logs: &CaseLogs,
     at: &HeapFiles,
-) -> Result<Found, PageFault>
+) -> Result<JudgedFile, PageFault>
     requires told { IfTold F.seen files.old (λ names. AreFilesOf case.now names at.now) }
     requires belong { BelongTo case.now at.now }
     requires logs { log_files_kept logs.now ≡ log_files_in case.now }
-    ensures found { Tells F.seen files.old result (λ found names. found ≡ parts_found case.now names) }
+    ensures found { Tells F.seen files.old result (λ judged names. judged.found ≡ parts_found case.now names) }
+    ensures targets { Tells F.seen files.old result (λ judged names.
+        HasTargets (heap_page case.now names) (heap_blocks case.now names) judged.targets) }
     ensures asked { Asked F.seen files.old files.new result PageFault.ReadFault }
 {
     let toast = judge_toast(alloc, files, case, logs, at)?;
@@ -201,7 +204,11 @@ fn judge_in_turn<F: Transactions>(
         map: at.map.as_ref(),
     };
     judge_table(files, &table, file, &mut hands)?;
-    Ok(put_together(listed, hands.into_found(), toast)?)
+    let heap = hands.into_judged();
+    Ok(JudgedFile {
+        found: put_together(listed, heap.found, toast)?,
+        targets: heap.targets,
+    })
 }
 
 // The same over files of which it is remembered what was found of transactions.
@@ -210,10 +217,12 @@ fn judge_files<F: Files>(
     files: &mut F,
     case: &Case,
     at: &HeapFiles,
-) -> Result<Found, PageFault>
+) -> Result<JudgedFile, PageFault>
     requires told { IfTold F.seen files.old (λ names. AreFilesOf case.now names at.now) }
     requires belong { BelongTo case.now at.now }
-    ensures found { Tells F.seen files.old result (λ found names. found ≡ parts_found case.now names) }
+    ensures found { Tells F.seen files.old result (λ judged names. judged.found ≡ parts_found case.now names) }
+    ensures targets { Tells F.seen files.old result (λ judged names.
+        HasTargets (heap_page case.now names) (heap_blocks case.now names) judged.targets) }
     ensures asked { Asked F.seen files.old files.new result PageFault.ReadFault }
 {
     let logs = CaseLogs::new(alloc, case)?;
@@ -276,9 +285,13 @@ pub fn check_heap<F: Files>(
     ensures only { IfErr result (λ e. e ≡ CheckFault.ReadFault ⊎ e ≡ CheckFault.NoMemory) }
     ensures asked { Asked F.seen files.old files.new result CheckFault.ReadFault }
 {
-    let found = judge_files(alloc, files, case, &at)?;
+    let JudgedFile { found, targets } = judge_files(alloc, files, case, &at)?;
     match add_found(report, found)? {
         None => Ok(None),
-        Some(chunks) => Ok(Some(SoundHeap { files: at, chunks })),
+        Some(chunks) => Ok(Some(SoundHeap {
+            files: at,
+            chunks,
+            targets,
+        })),
     }
 }

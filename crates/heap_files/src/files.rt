@@ -12,6 +12,7 @@ use case_file::Case;
 use outside::{Files, NoMemory};
 use rel_files::{AttachFault, Relation};
 use reports::{CheckFault, Which};
+use root_set::RootSet;
 use std::alloc::Global;
 use toast_chunks::ToastMap;
 use vis_map::map_pages_for;
@@ -27,16 +28,17 @@ pub struct HeapFiles {
 }
 
 /// The files of a case's table, in which nothing was found and nothing stayed unjudged, with the
-/// chunks of the TOAST table.
+/// chunks of the TOAST table, and the line pointers of the heap that an index entry may name.
 #[derive(Drop)]
 pub struct SoundHeap {
     pub(crate) files: HeapFiles,
     pub(crate) chunks: ToastMap,
+    pub(crate) targets: RootSet,
 }
 
 impl SoundHeap {
     ghost use Rattle.std.specs.Option.{option_copied};
-    ghost use Rattle.heap_files.specs.Files.{chunks_in, heap_in, toast_in};
+    ghost use Rattle.heap_files.specs.Files.{chunks_in, heap_in, targets_in, toast_in};
 
     /// The heap's relation.
     pub fn heap(&self) -> &Relation
@@ -57,6 +59,13 @@ impl SoundHeap {
         ensures { result.now ≡ chunks_in self.now }
     {
         &self.chunks
+    }
+
+    /// The line pointers of the heap that an index entry may name.
+    pub fn targets(&self) -> &RootSet
+        ensures { result.now ≡ targets_in self.now }
+    {
+        &self.targets
     }
 }
 

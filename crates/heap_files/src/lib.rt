@@ -7,6 +7,7 @@ mod laws;
 mod logs;
 mod map;
 mod relations;
+mod targets;
 
 pub use check::check_heap;
 pub use files::{HeapFiles, SoundHeap};

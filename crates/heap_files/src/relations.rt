@@ -1,19 +1,23 @@
 //! Judges the blocks of a table's file.
-ghost use Rattle.std.specs.Prelude.{◌≡◌, ◌<◌, None, IfOk, OnOk};
+ghost use Rattle.std.specs.Prelude.{◌≡◌, ◌+◌, ◌<◌, [], None, IfOk, OnOk};
 ghost use Rattle.outside.specs.Outside.{Asked, IfTold};
 ghost use Rattle.rel_files.specs.Relation.{count_of};
 ghost use Rattle.heap_pages.specs.Found.{both_found, nothing_found, only_listed};
 ghost use Rattle.heap_pages.specs.Table.{AreReadable, rel_of};
 ghost use Rattle.heap_files.specs.Relations.{segment_found};
 ghost use Rattle.heap_files.specs.TableFiles.{AreAtHand, found_of_block, found_of_blocks, found_of_table};
+ghost use Rattle.heap_files.specs.TableFiles.{pages_in};
+ghost use Rattle.heap_files.specs.Targets.{HasTargets};
 
 use crate::map::MapPage;
+use crate::targets::add_targets;
 use heap_pages::{Found, PageInHand, TableKind, TableRules, Work, judge_table_page};
 use liveness::Transactions;
 use outside::NoMemory;
 use page_layout::{PageView, Rule};
 use rel_files::Relation;
 use reports::{PageFault, Place};
+use root_set::RootSet;
 use std::alloc::Global;
 
 /// The file of a table, with the visibility map of its blocks, where it has one.
@@ -23,12 +27,21 @@ pub(crate) struct TableFile<'a> {
     pub(crate) map: Option<&'a Relation>,
 }
 
-/// What is in hand while a table is judged: a page of it, a page of its visibility map, and what was found.
+/// What is in hand while a table is judged: a page of it, a page of its visibility map, what was found, and which
+/// of its line pointers an index entry may name.
 #[derive(Drop)]
 pub(crate) struct Hands {
     pub(crate) page: [u8; 8192],
     pub(crate) map: MapPage,
     pub(crate) work: Work,
+    pub(crate) targets: RootSet,
+}
+
+/// What was found of a table, and which of its line pointers an index entry may name.
+#[derive(Drop)]
+pub(crate) struct JudgedFile {
+    pub(crate) found: Found,
+    pub(crate) targets: RootSet,
 }
 
 impl Hands {
@@ -36,24 +49,30 @@ impl Hands {
     pub(crate) fn new(alloc: Global) -> Result<Hands, NoMemory>
         ensures map { IfOk result (λ hands. hands.map.block ≡ None) }
         ensures found { IfOk result (λ hands. hands.work.found ≡ nothing_found) }
+        ensures targets { IfOk result (λ hands. hands.targets ≡ []) }
     {
         Ok(Hands {
             page: [0u8; 8192],
             map: MapPage::new(),
             work: Work::new(alloc)?,
+            targets: RootSet::new(alloc),
         })
     }
 
-    /// What was found.
-    pub(crate) fn into_found(self) -> Found
-        ensures { result ≡ self.work.found }
+    /// What was found, and what an index entry may name.
+    pub(crate) fn into_judged(self) -> JudgedFile
+        ensures found { result.found ≡ self.work.found }
+        ensures targets { result.targets ≡ self.targets }
     {
-        let Hands { work, .. } = self;
-        work.into_found()
+        let Hands { work, targets, .. } = self;
+        JudgedFile {
+            found: work.into_found(),
+            targets,
+        }
     }
 }
 
-// Reads a block of a table into the page, and judges it.
+// Reads a block of a table into the page, judges it, and adds its line pointers to those of the blocks before.
 fn judge_block<F: Transactions>(
     files: &mut F,
     table: &TableRules<'_>,
@@ -66,6 +85,9 @@ fn judge_block<F: Transactions>(
     requires at_hand { IfTold F.seen files.old (λ names. AreAtHand names file hands.old.map) }
     ensures found { OnOk result (IfTold F.seen files.old (λ names.
         hands.new.work.found ≡ both_found hands.old.work.found (found_of_block names table.now file.entry block))) }
+    ensures targets { IfTold F.seen files.old (λ names.
+        HasTargets (pages_in names file.entry.relation.now) block hands.old.targets
+        → OnOk result (HasTargets (pages_in names file.entry.relation.now) (block + 1) hands.new.targets)) }
     ensures at_hand { IfTold F.seen files.old (λ names. AreAtHand names file.entry hands.new.map) }
     ensures asked { Asked F.seen files.old files.new result PageFault.ReadFault }
 {
@@ -77,7 +99,9 @@ fn judge_block<F: Transactions>(
         table,
         PageInHand { view, block, bits },
         &mut hands.work,
-    )
+    )?;
+    add_targets(&mut hands.targets, view)?;
+    Ok(())
 }
 
 // Reads and judges the blocks of a table, one after the other.
@@ -92,6 +116,9 @@ fn judge_blocks<F: Transactions>(
     requires at_hand { IfTold F.seen files.old (λ names. AreAtHand names file hands.old.map) }
     ensures found { OnOk result (IfTold F.seen files.old (λ names.
         hands.new.work.found ≡ both_found hands.old.work.found (found_of_blocks names table.now file.entry))) }
+    ensures targets { IfTold F.seen files.old (λ names.
+        HasTargets (pages_in names file.entry.relation.now) 0 hands.old.targets → OnOk result
+        (HasTargets (pages_in names file.entry.relation.now) (count_of file.entry.relation.now) hands.new.targets)) }
     ensures asked { Asked F.seen files.old files.new result PageFault.ReadFault }
 {
     for block in 0..file.relation.blocks() {
@@ -121,6 +148,9 @@ pub(crate) fn judge_table<F: Transactions>(
     requires at_hand { IfTold F.seen files.old (λ names. AreAtHand names file hands.old.map) }
     ensures found { OnOk result (IfTold F.seen files.old (λ names.
         hands.new.work.found ≡ both_found hands.old.work.found (found_of_table names table.now file.entry))) }
+    ensures targets { IfTold F.seen files.old (λ names.
+        HasTargets (pages_in names file.entry.relation.now) 0 hands.old.targets → OnOk result
+        (HasTargets (pages_in names file.entry.relation.now) (count_of file.entry.relation.now) hands.new.targets)) }
     ensures asked { Asked F.seen files.old files.new result PageFault.ReadFault }
 {
     add_segment(

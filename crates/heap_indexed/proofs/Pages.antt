@@ -8,24 +8,20 @@ use Rattle.page_layout.specs.Page.{count_of, has_bad_places, has_good_places, ha
 use Rattle.page_layout.specs.declared.page.PageKind.TheVariants.{Heap}
 use Rattle.page_layout.specs.declared.rules.Rule.{Rule}
 use Rattle.page_layout.specs.declared.rules.Rule.TheVariants.{P1, P2, P3, P4}
-use Rattle.rel_files.specs.Blocks.{block_of}
 use Rattle.rel_files.specs.Relation.{count_of as blocks_in}
 use Rattle.key_orders.specs.declared.Tid.{Tid}
 use Rattle.case_file.specs.Record.{CaseRecord}
 use Rattle.reports.specs.Added.{each_upto}
-use Rattle.root_set.specs.Targets.{is_in, is_target, targets_of}
+use Rattle.root_set.specs.Targets.{TellsOfPages, is_in}
 use Rattle.heap_pages.specs.declared.verdict.ItemVerdict.{ItemVerdict}
 use Rattle.heap_pages.specs.declared.verdict.ItemVerdict.TheVariants.{Passes, Breaks, InDoubt}
 use Rattle.heap_pages.specs.Verdicts.{item_verdict}
 use Rattle.heap_files.specs.Case.{heap_blocks, heap_page, table_of}
-use Rattle.heap_files.specs.Found.{IsQuiet}
-use Rattle.heap_files.specs.Files.{BelongTo, IsSoundHeapOf, files_of, heap_in}
+use Rattle.heap_files.specs.Files.{BelongTo, IsSoundHeapOf, files_of, heap_in, targets_in}
 use Rattle.heap_files.specs.declared.files.SoundHeap.{SoundHeap}
 use Rattle.heap_check.specs.declared.rows.LiveRow.{LiveRow}
 use Rattle.heap_check.specs.Rows.{block_rows, item_rows, page_rows, row_at, row_by, rows_by_rule, rows_of}
-use Rattle.heap_check.proofs.QuietHeap.{page_passes}
 use Rattle.indexed_rules.specs.Entries.{may_be_named}
-use Rattle.heap_indexed.specs.Targets.{KeepPageRules, heap_block}
 
 -- A page without a broken rule has at most 2042 items
 
@@ -102,18 +98,10 @@ module _ (case : CaseRecord) (names : Names) where
 -- The blocks of a sound heap
 
 module _ (case : CaseRecord) (names : Names) (heap : SoundHeap) (belong : BelongTo case (files_of heap)) (sound : IsSoundHeapOf case names heap) where
-  pub block-is : (block : ℕ) → heap_block names heap block ≡ heap_page case names block
-  block-is block = λ i. block_of names (belong.heap.named i) (belong.heap.sized i) block
-
   pub count-is : blocks_in (heap_in heap) ≡ heap_blocks case names
   unfolding heap_blocks
   count-is = sound.files.heap.count
 
-  pub keep-rules : IsQuiet case names → KeepPageRules names heap
-  keep-rules quiet block below =
-      ap (page_rule_of Heap) (block-is block) ∙ (page_passes case names quiet block (subst (λ (n : ℕ). block < n) count-is below)).header
-
   -- the set says of each entry whether it may be named
-  pub set-says : (set : List (List Bool)) → set ≡ targets_of (heap_block names heap) (blocks_in (heap_in heap)) → ((tid : Tid) → is_in (targets_of (heap_block names heap) (blocks_in (heap_in heap))) tid ≡ (nat_lt tid.block (blocks_in (heap_in heap)) && is_target (heap_block names heap tid.block) tid.item)) → (tid : Tid) → is_in set tid ≡ may_be_named case names tid
-  set-says set is tells tid =
-      ap (λ (s : List (List Bool)). is_in s tid) is ∙ tells tid ∙ (λ i. nat_lt tid.block (count-is i) && is_target (block-is tid.block i) tid.item)
+  pub set-says : (set : List (List Bool)) → set ≡ targets_in heap → ((tid : Tid) → TellsOfPages (heap_page case names) (heap_blocks case names) tid) → (tid : Tid) → is_in set tid ≡ may_be_named case names tid
+  set-says set is tells tid = ap (λ (s : List (List Bool)). is_in s tid) (is ∙ sound.targets) ∙ tells tid

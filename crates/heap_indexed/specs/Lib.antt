@@ -3,5 +3,4 @@ pub mod Looking
 pub mod Probing
 pub mod ProbingLaws
 pub mod Waiting
-pub mod Targets
 pub mod Joins

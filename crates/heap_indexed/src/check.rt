@@ -14,7 +14,6 @@ ghost use Rattle.heap_indexed.specs.Looking.{AreOf, look_up_visits, visits_spent
 use crate::joined::{IndexedHeap, LookUps, RUN_BLOCKS, new_hand, new_look_ups};
 use crate::nearness::Nearness;
 use crate::rows::{Walk, columns_of};
-use crate::targets::targets_in;
 use crate::waiting::Waiting;
 use heap_check::RowCursor;
 use index_targets::check_targets;
@@ -50,8 +49,7 @@ fn check_entries<F: Files>(
 {
     set_tells_of_pages();
     let mut hand = new_hand(alloc)?;
-    let targets = targets_in(alloc, files, at.heap, &mut hand)?;
-    check_targets(files, at.tree, &targets, &mut hand, report)
+    check_targets(files, at.tree, at.heap.targets(), &mut hand, report)
 }
 
 // Judges the rows of a heap one after another.

@@ -12,7 +12,6 @@ ghost use Rattle.heap_indexed.specs.Waiting.{columns_in};
 use crate::joined::{IndexedTable, new_hand};
 use crate::joins::Join;
 use crate::rows::columns_of;
-use crate::targets::targets_in;
 use bt_levels::SoundTree;
 use heap_check::RowCursor;
 use key_orders::KeySpec;
@@ -100,12 +99,11 @@ fn reports_on<F: Files>(
     set_tells_of_pages();
     at.case.sound();
     let mut hand = new_hand(alloc)?;
-    let targets = targets_in(alloc, files, at.heap, &mut hand)?;
     let mut joins = new_joins(alloc, at.heap.heap().blocks(), at.trees)?;
     let columns = columns_of_all(alloc, at.trees)?;
     let mut cursor = RowCursor::new(alloc, at.case, at.heap, &columns)?;
     at.judge_rows(alloc, files, &mut joins, &mut cursor)?;
-    at.finish(files, &mut joins, &targets, &mut hand)?;
+    at.finish(files, &mut joins, at.heap.targets(), &mut hand)?;
     let reports = reports_of(alloc, joins)?;
     Ok(reports)
 }

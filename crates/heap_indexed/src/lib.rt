@@ -11,7 +11,6 @@ mod prober;
 mod rows;
 #[cfg(test)]
 mod tables;
-mod targets;
 #[cfg(test)]
 mod tests;
 mod waiting;

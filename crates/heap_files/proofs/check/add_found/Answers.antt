@@ -1,7 +1,6 @@
 use Rattle.std.proofs.Common.{rules, ◌≡◌, List, [], ◌∷◌, length, refl, arith}
 use Rattle.outside.proofs.Adding.{Adds-exit, Begins-same}
 use Rattle.reports.specs.Added.{nothing, report_lists}
-use Rattle.reports.specs.Lists.{Lists}
 use Rattle.heap_pages.specs.Found.{FoundLists}
 use Rattle.heap_files.specs.Found.{lists_in}
 use Rattle.heap_files.proofs.check.add_found.Goals as goal

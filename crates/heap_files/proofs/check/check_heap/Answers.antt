@@ -6,6 +6,7 @@ use Rattle.reports.specs.Lists.{Lists}
 use Rattle.heap_pages.specs.Found.{FoundLists}
 use Rattle.heap_files.specs.Found.{case_found}
 use Rattle.heap_files.proofs.CaseLists.{nothing_added, nothing_is_quiet, owed_of, quiet_is_nothing}
+use Rattle.heap_files.proofs.TargetLaws.{quiet_keeps}
 use Rattle.heap_files.proofs.check.check_heap.Goals as goal
 
 some_is_none : false ≡ true → ⊥
@@ -45,4 +46,10 @@ returns-in-Some-clause-quiet g c names told =
 pub returns-in-Some-clause-sound : goal.returns-in-Some-clause-sound
 returns-in-Some-clause-sound g c names told =
     let chunks = rw c.in-Some.is at c.in_ok-add_found.ensures.chunks in
-    record { files = c.requires.told names told; chunks = chunks ∙ ap (λ (f : FoundLists). f.chunks) (c.in_ok-found.ensures.found names told) }
+    let some = rw c.in-Some.is at c.in_ok-add_found.ensures.none in
+    let quiet = nothing_is_quiet c.args.case.now names (sym (owed_of c.args.case.now names _ (c.in_ok-found.ensures.found names told)) ∙ some.0 refl) in
+    record {
+      files = c.requires.told names told;
+      chunks = chunks ∙ ap (λ (f : FoundLists). f.chunks) (c.in_ok-found.ensures.found names told);
+      targets = c.in_ok-found.ensures.targets names told (quiet_keeps c.args.case.now names quiet);
+    }

@@ -1,12 +1,16 @@
-use Rattle.std.proofs.Common.{◌∙◌, ◌≤◌, ap, arith, sym}
+use Rattle.std.proofs.Common.{◌∙◌, ◌≤◌, Bool, List, ap, arith, subst, sym}
 use Rattle.std.proofs.lemmas.List.{length-map}
 use Rattle.std.specs.Option.{option_copied}
+use Rattle.rel_files.specs.Relation.{count_of}
 use Rattle.case_file.specs.declared.case.Column.{Column}
 use Rattle.heap_pages.specs.Found.{FoundLists}
 use Rattle.heap_files.specs.Found.{chunks_given}
+use Rattle.heap_files.specs.TableFiles.{pages_in}
+use Rattle.heap_files.specs.Targets.{HasTargets}
 use Rattle.heap_pages.specs.Table.{chunks_seen, table_with, toast_oid_seen}
 use Rattle.heap_files.proofs.CaseRules.{bits_are, chunks_are_given, from_nothing, heap_is_case, heap_rules_are, lists_from_nothing, map_is_attached, parts_are}
 use Rattle.heap_files.proofs.ColumnLaws.{columns_aligned}
+use Rattle.heap_files.proofs.TargetLaws.{of_heap}
 use Rattle.heap_files.proofs.check.judge_in_turn.Goals as goal
 
 pub judge_map-requires-clause-told : goal.judge_map-requires-clause-told
@@ -42,6 +46,14 @@ returns-clause-found g c names told =
     let table = heap_rules_are c.args.case.now names c.heap_rules-table.result c.heap_rules-table.ensures.kind (c.heap_rules-table.ensures.columns ∙ (c.new-columns.ensures ∙ c.column_types.ensures)) (ap toast_oid_seen c.heap_rules-table.ensures.toast ∙ c.toast_table.ensures.oid) (c.heap_rules-table.ensures.logs ∙ c.requires.logs) in
     let chunks = ap chunks_seen c.heap_rules-table.ensures.toast ∙ (c.toast_table.ensures.chunks ∙ (ap (chunks_given c.args.case.now.toast) (c.chunks_in.ensures ∙ ap (λ (f : FoundLists). f.chunks) toast) ∙ chunks_are_given c.args.case.now names)) in
     let bits = bits_are c.args.case.now names (option_copied c.as_ref.result) some (rw (← c.as_ref.ensures.value) at files.map) (rw (← c.as_ref.ensures.value) at c.requires.belong.map) in
-    let heap = c.into_found.ensures ∙ from_nothing _ _ _ _ c.in_ok-hands.ensures.found (c.in_ok-judge_table.ensures.found names after_map)
+    let heap = c.into_judged-heap.ensures.found ∙ from_nothing _ _ _ _ c.in_ok-hands.ensures.found (c.in_ok-judge_table.ensures.found names after_map)
     (heap_is_case c.args.case.now names _ _ _ c.args.at.now.heap table chunks bits c.requires.belong.heap files.heap) in
     c.in_ok-put_together.ensures ∙ parts_are c.args.case.now names _ _ _ lists heap toast
+
+pub returns-clause-targets : goal.returns-clause-targets
+returns-clause-targets g c names told =
+    let after_map = c.in_ok-judge_map.ensures.asked.same ∙ (c.in_ok-toast.ensures.asked.same ∙ told) in
+    let files = c.requires.told names told in
+    let has = c.in_ok-judge_table.ensures.targets names after_map (λ keep. c.in_ok-hands.ensures.targets) in
+    of_heap c.args.case.now names c.args.at.now.heap c.into_judged-heap.result.targets c.requires.belong.heap files.heap
+    (subst (λ (set : List (List Bool)). HasTargets (pages_in names c.args.at.now.heap) (count_of c.args.at.now.heap) set) (sym c.into_judged-heap.ensures.targets) has)

@@ -19,5 +19,5 @@ unfolding table_with
 returns-in_ok-judge_table-in-Some-clause-found g c names told =
     let table = toast_rules_are c.args.case.now names c.toast_rules-table.result c.toast_rules-table.ensures.kind (c.toast_rules-table.ensures.columns ∙ c.new-columns.ensures) c.toast_rules-table.ensures.toast (c.toast_rules-table.ensures.logs ∙ c.requires.logs) in
     let is = toast_of c.args.case.now names c.in-Some.relation (rw c.in-Some.is at (c.requires.told names told).toast) (rw c.in-Some.is at c.requires.belong.toast) in
-    c.into_found.ensures ∙ from_nothing _ _ _ _ c.in_ok-hands-in-Some.ensures.found (c.in_ok-judge_table-in-Some.ensures.found names told)
+    c.into_judged.ensures.found ∙ from_nothing _ _ _ _ c.in_ok-hands-in-Some.ensures.found (c.in_ok-judge_table-in-Some.ensures.found names told)
     (toast_is_case c.args.case.now names _ _ _ c.in-Some.relation table (ap chunks_seen c.toast_rules-table.ensures.toast) (unmapped_is names) is)

@@ -7,6 +7,7 @@ use Rattle.heap_files.proofs.relations.judge_blocks.Goals as goal
 pub loop-block-init : goal.loop-block-init
 loop-block-init g c = record {
   found = λ names told. loop-none found_parts _ _;
+  targets = λ names told has. has;
   at_hand = c.requires.at_hand;
   asked = Passed-none;
 }
@@ -14,6 +15,7 @@ loop-block-init g c = record {
 pub loop-block-preserved : goal.loop-block-preserved
 loop-block-preserved g c = record {
   found = λ names told. loop-next found_parts _ _ _ _ _ (c.loop-block.invariant.found names told) (c.in_ok-judge_block.ensures.found names (c.loop-block.invariant.asked.same ∙ told));
+  targets = λ names told has. c.in_ok-judge_block.ensures.targets names (c.loop-block.invariant.asked.same ∙ told) (c.loop-block.invariant.targets names told has);
   at_hand = λ names told. c.in_ok-judge_block.ensures.at_hand names (c.loop-block.invariant.asked.same ∙ told);
   asked = Passed-next c.loop-block.invariant.asked c.in_ok-judge_block.ensures.asked;
 }

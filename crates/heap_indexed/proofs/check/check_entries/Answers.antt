@@ -1,17 +1,15 @@
-use Rattle.std.proofs.Common.{◌∙◌, Bool, List, sym, subst}
+use Rattle.std.proofs.Common.{Bool, List, subst}
 use Rattle.outside.specs.Adds.{AddsIn}
 use Rattle.outside.proofs.Adding.{Adds-exit, Begins-none}
-use Rattle.rel_files.specs.Relation.{count_of}
 use Rattle.reports.specs.Added.{report_lists}
 use Rattle.reports.specs.Lists.{Lists}
 use Rattle.bt_levels.specs.Files.{number_of}
 use Rattle.bt_levels.specs.Sound.{file_of}
 use Rattle.root_set.specs.Targets.{is_in}
-use Rattle.heap_files.specs.Files.{heap_in}
+use Rattle.heap_files.specs.Case.{heap_blocks, heap_page}
 use Rattle.indexed_rules.specs.Lists.{entries_lists}
-use Rattle.heap_indexed.specs.Targets.{heap_block}
 use Rattle.heap_indexed.proofs.Cases.{entries-are}
-use Rattle.heap_indexed.proofs.Pages.{keep-rules, set-says}
+use Rattle.heap_indexed.proofs.Pages.{set-says}
 use Rattle.heap_indexed.proofs.check.check_entries.Goals as goal
 
 pub returns-in_err-hand-clause-lists : goal.returns-in_err-hand-clause-lists
@@ -19,26 +17,16 @@ returns-in_err-hand-clause-lists g c = λ names told.
     let owed = entries_lists c.args.at.case.now names (number_of (file_of c.args.at.tree.now)) in
     Adds-exit report_lists c.from_residual.result _ c.args.report.now c.args.report.now owed c.from_residual.ensures.1 (Begins-none report_lists c.args.report.now owed)
 
-pub targets_in-requires-clause-rules : goal.targets_in-requires-clause-rules
-targets_in-requires-clause-rules g c = λ names told.
-    let hold = c.requires.hold names told in
-    keep-rules c.args.at.case.now names c.args.at.heap.now c.requires.belong.heap hold.heap hold.quiet
-
-pub returns-in_err-targets-clause-lists : goal.returns-in_err-targets-clause-lists
-returns-in_err-targets-clause-lists g c = λ names told.
-    let owed = entries_lists c.args.at.case.now names (number_of (file_of c.args.at.tree.now)) in
-    Adds-exit report_lists c.from_residual-in_err-targets.result _ c.args.report.now c.args.report.now owed c.from_residual-in_err-targets.ensures.1 (Begins-none report_lists c.args.report.now owed)
-
 pub check_targets-requires : goal.check_targets-requires
-check_targets-requires g c = record { holds = λ names told. (c.requires.hold names (sym c.targets_in.ensures.asked.same ∙ told)).tree }
+check_targets-requires g c = record { holds = λ names told. (c.requires.hold names told).tree }
 
 pub returns-clause-lists : goal.returns-clause-lists
 returns-clause-lists g c = λ names told.
     let case = c.args.at.case.now in
     let heap = c.args.at.heap.now in
     let hold = c.requires.hold names told in
-    let set : List (List Bool) = c.in_ok-targets.targets in
-    let says = set-says case names heap c.requires.belong.heap hold.heap set (c.in_ok-targets.ensures.set names told) (c.set_tells_of_pages.ensures.tells (heap_block names heap) (count_of (heap_in heap))) in
+    let set : List (List Bool) = c.targets.result.now in
+    let says = set-says case names heap c.requires.belong.heap hold.heap set c.targets.ensures (c.set_tells_of_pages.ensures.tells (heap_page case names) (heap_blocks case names)) in
     subst (λ (l : Lists). AddsIn report_lists c.check_targets.result c.args.report.now c.check_targets.new.report l)
     (entries-are case names c.args.at.tree.now c.requires.belong.index hold.file (is_in set) says)
-    (c.check_targets.ensures.lists names (c.targets_in.ensures.asked.same ∙ told))
+    (c.check_targets.ensures.lists names told)
