@@ -11,7 +11,7 @@ ghost use Rattle.indexed_rules.specs.Lists.{entries_lists, indexed_lists, rows_l
 ghost use Rattle.heap_indexed.specs.Joined.{BelongTogether, HoldTogether};
 ghost use Rattle.heap_indexed.specs.Looking.{AreOf, look_up_visits, visits_spent};
 
-use crate::joined::{IndexedHeap, LookUps, RUN_BLOCKS, new_hand, new_look_ups};
+use crate::joined::{IndexedHeap, LookUps, RUN_BLOCKS, RUN_BYTES, new_hand, new_look_ups};
 use crate::nearness::Nearness;
 use crate::rows::{Walk, columns_of};
 use crate::waiting::Waiting;
@@ -22,9 +22,6 @@ use outside::{Files, NoMemory};
 use reports::{CheckFault, PageFault, Report};
 use root_set::set_tells_of_pages;
 use std::alloc::Global;
-
-// The bytes that the rows that wait may use: 48 MiB.
-const RUN_BYTES: u32 = 50_331_648;
 
 // A run of the rows of a heap, which holds none where each is to be looked up as it comes.
 fn run_for(alloc: Global, blocks: u32) -> Result<KeyRun, NoMemory>

@@ -15,6 +15,10 @@ use std::alloc::Global;
 /// The rows of a heap of fewer blocks are each looked up by itself, as they come.
 pub const RUN_BLOCKS: u32 = 64;
 
+/// The bytes that the rows that wait may use, those for all indexes together: 58 MiB. What else `all` takes is little,
+/// and 64 MiB hold it.
+pub const RUN_BYTES: u32 = 60_817_408;
+
 // How many pages of an index are kept.
 const CACHE_PAGES: usize = 64;
 

@@ -15,7 +15,7 @@ ghost use Rattle.heap_indexed.specs.Joins.{IsDone, IsJudged, IsReady, leaves_of}
 ghost use Rattle.heap_indexed.specs.Looking.{AreOf};
 ghost use Rattle.heap_indexed.specs.Waiting.{AreKeyed, IsAt, owed_in, rows_in};
 
-use crate::joined::{IndexedHeap, IndexedTable, LookUps, RUN_BLOCKS, new_look_ups};
+use crate::joined::{IndexedHeap, IndexedTable, LookUps, RUN_BLOCKS, RUN_BYTES, new_look_ups};
 use crate::nearness::Nearness;
 use crate::waiting::{FoundRow, Waiting};
 use bt_levels::SoundTree;
@@ -33,10 +33,8 @@ const MAX_ITEMS: u64 = 2042;
 // After how many rows memory is given to those indexes in whose order they don't come, and after how many more again.
 const SHARE_ROWS: u64 = 1024;
 
-// The bytes that these share the first time: 48 MiB; and those of which it shows later, all together: 8 MiB.
-const RUN_BYTES: u32 = 50_331_648;
-
-const LATE_BYTES: u32 = 8_388_608;
+// The bytes that those share of which it shows later, all together: 4 MiB.
+const LATE_BYTES: u32 = 4_194_304;
 
 /// What is in work for one index while the rows of its heap are gone through.
 #[derive(Drop)]

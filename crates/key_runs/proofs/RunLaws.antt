@@ -1,6 +1,8 @@
 -- The tables of a run, as they are read, and as they grow by a row.
 use Rattle.std.proofs.Common.{◌≡◌, ℕ, suc, ◌+◌, ◌*◌, ◌/◌, ◌<◌, ◌≤◌, ◌^◌, Bool, true, false, List, [], ◌∷◌, ◌++◌, length, map, take, drop, get_or, refl, sym, ap, ◌∙◌, subst, arith, append-nil, length-append, zero-add}
-use Rattle.std.specs.Prelude.{All, nat_le}
+use Rattle.std.specs.Prelude.{All, cond, nat_le, nat_lt}
+use Rattle.std.specs.Int.{to_le_bytes}
+use mir.Syntax.{w32}
 use Rattle.std.proofs.lemmas.Bool.{leb-true}
 use Rattle.std.proofs.lemmas.List.Folds.{flat_map-map}
 use Rattle.std.specs.List.{flat_map, sum_by}
@@ -44,7 +46,11 @@ length-stored_value : (v : Value) → length (stored_value v) ≡ value_bytes v
 length-stored_value Null = refl
 length-stored_value (BoolValue b) = refl
 length-stored_value (Int z) = refl
-length-stored_value (Bytes bytes) = omega arith
+length-stored_value (Bytes bytes) = by (nat_lt (length bytes) 256)
+  where
+    by : (is_short : Bool) → length (cond is_short (5 ∷ length bytes ∷ bytes) (4 ∷ (to_le_bytes w32 (length bytes) ++ bytes))) ≡ cond is_short 2 5 + length bytes
+    by true = omega arith
+    by false = omega arith
 
 length-stored_values : (vs : List Value) → length (flat_map stored_value vs) ≡ sum_by value_bytes vs
 length-stored_values [] = refl

@@ -1,6 +1,6 @@
 -- What is stored is read back, whatever stands behind it.
 use Rattle.std.proofs.Common.{◌≡◌, ℕ, suc, ◌+◌, ◌-◌, ◌<◌, ◌≤◌, ◌^◌, true, false, List, [], ◌∷◌, ◌++◌, length, map, take, drop, refl, sym, ap, ◌∙◌, subst, arith, append_assoc, length-append}
-use Rattle.std.specs.Prelude.{All, min, nat_lt, ℤ}
+use Rattle.std.specs.Prelude.{All, Bool as BoolType, cond, min, nat_lt, ℤ}
 use Rattle.std.specs.List.{flat_map}
 use Rattle.std.specs.Int.{cast_signed, cast_unsigned, from_le_bytes, to_le_bytes}
 use Rattle.std.proofs.lemmas.Bool.{cond-false, le-ltb}
@@ -48,7 +48,11 @@ value_back (BoolValue false) rest h = refl
 value_back (Int z) rest h =
     int_back (to_le_bytes w64 (cast_unsigned w64 z)) rest refl
     ∙ ap (λ (x : ℤ). (Int x, rest)) (ap (cast_signed w64) (from_le_bytes-to_le_bytes_8 (cast_unsigned w64 z) (Fits-of_z h).fits) ∙ to_z-of_z w64 z h)
-value_back (Bytes bytes) rest h = bytes_back (to_le_bytes w32 (length bytes)) bytes rest refl (from_le_bytes-to_le_bytes_4 (length bytes) h)
+value_back (Bytes bytes) rest h = by (nat_lt (length bytes) 256)
+  where
+    by : (is_short : BoolType) → value_read (cond is_short (5 ∷ length bytes ∷ bytes) (4 ∷ (to_le_bytes w32 (length bytes) ++ bytes)) ++ rest) ≡ (Bytes bytes, rest)
+    by true = sized_back (length bytes) bytes rest refl
+    by false = bytes_back (to_le_bytes w32 (length bytes)) bytes rest refl (from_le_bytes-to_le_bytes_4 (length bytes) h)
 
 pub values_back : (vs : List Value) (rest : List ℕ) → All IsStorable vs → values_read (length vs) (flat_map stored_value vs ++ rest) ≡ vs
 values_back [] rest h = refl

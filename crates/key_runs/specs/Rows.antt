@@ -1,5 +1,5 @@
 -- The rows that a run has gathered, as contracts see them, and the bytes that they use of its budget.
-use Rattle.std.specs.Prelude.{ℕ, ◌≡◌, ◌+◌, Bool, false, List, [], ◌∷◌, ◌++◌, length}
+use Rattle.std.specs.Prelude.{ℕ, ◌≡◌, ◌+◌, Bool, false, cond, nat_lt, List, [], ◌∷◌, ◌++◌, length}
 use Rattle.std.specs.List.{sum_by}
 use Rattle.key_orders.specs.declared.Tid.{Tid}
 use Rattle.key_orders.specs.declared.columns.Value.{Value}
@@ -33,12 +33,12 @@ pub record KeepsRows (old new : Gathered) : Type 0 where
   pub rows : new.rows ≡ old.rows
   pub budget : new.budget ≡ old.budget
 
--- the bytes of a value: 1 that says what it is, 8 of a number, and 4 of the length of a text
+-- the bytes of a value: 1 that says what it is, 8 of a number, and of a text 1 of its length, or 4 from 256 on
 abbrev pub value_bytes : Value → ℕ
 value_bytes Null = 1
 value_bytes (BoolValue b) = 1
 value_bytes (Int z) = 9
-value_bytes (Bytes bytes) = 5 + length bytes
+value_bytes (Bytes bytes) = cond (nat_lt (length bytes) 256) 2 5 + length bytes
 
 -- the bytes of a row: 36 (12 to find it in the order of the heap and 16 in that of the keys, 1 for the mark, 6 for the
 -- root, 1 for the number of values), and those of its values

@@ -5,8 +5,9 @@ ghost use Rattle.std.specs.List.{flat_map};
 ghost use Rattle.std.specs.Int.{to_le_bytes};
 ghost use mir.Syntax.{w16, w32};
 ghost use Rattle.key_orders.specs.Values.{value_shown};
-ghost use Rattle.key_runs.specs.Stored.{IsStorable, shown_bytes, stored_key, stored_value};
-ghost use Rattle.key_runs.specs.Stored.{bytes_read, int_read, item_read, key_read, root_read, sized_read, tagged_read};
+ghost use Rattle.key_runs.specs.Stored.{IsStorable, shown_bytes, stored_bytes, stored_key, stored_value};
+ghost use Rattle.key_runs.specs.Stored.{bytes_read, int_read, item_read, key_read, root_read, short_read, sized_read};
+ghost use Rattle.key_runs.specs.Stored.{tagged_read};
 ghost use Rattle.key_runs.specs.Stored.{value_read, values_read};
 
 use key_orders::{KeyRefs, MAX_KEY_COLUMNS, Tid, Value, ValueRef};
@@ -44,6 +45,16 @@ fn read_bytes(bytes: &[u8]) -> (ValueRef<'_>, &[u8])
     }
 }
 
+fn read_short(bytes: &[u8]) -> (ValueRef<'_>, &[u8])
+    ensures value { value_shown result.0 ≡ (short_read bytes.now).0 }
+    ensures rest { result.1.now ≡ (short_read bytes.now).1 }
+{
+    match bytes.split_first() {
+        Some((len, rest)) => read_sized(*len as usize, rest),
+        None => (ValueRef::Null, bytes),
+    }
+}
+
 fn read_tagged(tag: u8, bytes: &[u8]) -> (ValueRef<'_>, &[u8])
     ensures value { value_shown result.0 ≡ (tagged_read tag bytes.now).0 }
     ensures rest { result.1.now ≡ (tagged_read tag bytes.now).1 }
@@ -56,6 +67,8 @@ fn read_tagged(tag: u8, bytes: &[u8]) -> (ValueRef<'_>, &[u8])
         read_int(bytes)
     } else if tag == 4 {
         read_bytes(bytes)
+    } else if tag == 5 {
+        read_short(bytes)
     } else {
         (ValueRef::Null, bytes)
     }
@@ -167,13 +180,17 @@ fn write_int(arena: &mut Vec<u8>, n: i64)
 }
 
 fn write_bytes(arena: &mut Vec<u8>, bytes: &[u8])
-    requires room { vec_len arena.old + 5 + length bytes.now ≤ vec_capacity arena.old }
+    requires room { vec_len arena.old + length (stored_bytes bytes.now) ≤ vec_capacity arena.old }
     requires short { length bytes.now < 2 ^ 32 }
-    ensures items { arena.new.items ≡ arena.old.items ++ stored_value (Value.Bytes bytes.now) }
+    ensures items { arena.new.items ≡ arena.old.items ++ stored_bytes bytes.now }
     ensures capacity { vec_capacity arena.old ≤ vec_capacity arena.new }
 {
-    let b = (bytes.len() as u32).to_le_bytes();
-    push_bytes(arena, &[4, b[0], b[1], b[2], b[3]]);
+    if bytes.len() < 256 {
+        push_bytes(arena, &[5, bytes.len() as u8]);
+    } else {
+        let b = (bytes.len() as u32).to_le_bytes();
+        push_bytes(arena, &[4, b[0], b[1], b[2], b[3]]);
+    }
     push_bytes(arena, bytes);
 }
 
@@ -213,13 +230,23 @@ pub fn write_row(arena: &mut Vec<u8>, root: Tid, values: &[ValueRef<'_>])
     write_values(arena, values);
 }
 
+fn bytes_len(bytes: &[u8]) -> usize
+    ensures { result ≡ length (stored_bytes bytes.now) }
+{
+    if bytes.len() < 256 {
+        2 + bytes.len()
+    } else {
+        5 + bytes.len()
+    }
+}
+
 fn stored_len(v: ValueRef<'_>) -> usize
     ensures { result ≡ length (shown_bytes v.entry) }
 {
     match v {
         ValueRef::Null | ValueRef::Bool(_) => 1,
         ValueRef::Int(_) => 9,
-        ValueRef::Bytes(bytes) => 5 + bytes.len(),
+        ValueRef::Bytes(bytes) => bytes_len(bytes),
     }
 }
 
