@@ -39,10 +39,10 @@ fn plain(life: Life) -> Judged
 fn inserter_life<F: Transactions>(
     files: &mut F,
     logs: &Status3<'_>,
-    head: HeapHead,
+    head: &HeapHead,
 ) -> Result<Option<Life>, ReadFault>
     ensures told { Tells F.seen files.old result (λ life names.
-        life ≡ inserter_life (logs_of names (log_files_of logs.now)) head) }
+        life ≡ inserter_life (logs_of names (log_files_of logs.now)) head.now) }
     ensures asked { Asked F.seen files.old files.new result read_fault }
 {
     let x = head.xmin_seen();
@@ -130,10 +130,10 @@ fn judged_by_multi<F: Transactions>(
 fn deleter_judged<F: Transactions>(
     files: &mut F,
     logs: &Status3<'_>,
-    head: HeapHead,
+    head: &HeapHead,
 ) -> Result<Judged, ReadFault>
     ensures told { Tells F.seen files.old result (λ judged names.
-        judged ≡ deleter_judged (logs_of names (log_files_of logs.now)) head) }
+        judged ≡ deleter_judged (logs_of names (log_files_of logs.now)) head.now) }
     ensures asked { Asked F.seen files.old files.new result read_fault }
 {
     if head.is_xmax_invalid() || head.locked_only() {
@@ -165,9 +165,9 @@ pub fn life_in<F: Transactions>(
         UpdateSaysTrue names (log_files_of logs.now) head.now judged.update) }
     ensures asked { Asked F.seen files.old files.new result read_fault }
 {
-    match inserter_life(files, logs, *head)? {
+    match inserter_life(files, logs, head)? {
         Some(life) => Ok(plain(life)),
-        None => deleter_judged(files, logs, *head),
+        None => deleter_judged(files, logs, head),
     }
 }
 
