@@ -20,12 +20,13 @@ use Rattle.reports.specs.Added.{each_upto, finding_at}
 use Rattle.reports.specs.declared.places.Place.TheVariants.{Block, Item}
 use Rattle.reports.specs.declared.places.Rel.{Rel}
 use Rattle.heap_pages.specs.Found.{FoundLists, attributes_by, both_found, found_parts, item_found, item_state, left_by, live_attributes, nothing_found, only_listed, state_in, states_of}
-use Rattle.heap_pages.specs.Found.{verdict_lists}
+use Rattle.heap_pages.specs.Found.{bare_lists, verdict_lists}
 use Rattle.heap_pages.specs.Pages.{found_by_rule, page_found}
 use Rattle.heap_pages.specs.Table.{Table, rel_of}
-use Rattle.heap_pages.specs.Verdicts.{flag_verdict, item_verdict, normal_verdict}
+use Rattle.heap_pages.specs.Verdicts.{flag_verdict, item_verdict, normal_verdict, without_state}
 use Rattle.heap_pages.specs.declared.verdict.ItemVerdict.{ItemVerdict}
 use Rattle.heap_pages.specs.declared.verdict.ItemVerdict.TheVariants.{Passes}
+use Rattle.heap_pages.specs.declared.verdict.TupleVerdict.{TupleVerdict}
 use Rattle.heap_pages.proofs.Left.{none_left}
 
 -- what the attributes leave by a verdict, and then what the verdict lists
@@ -39,11 +40,12 @@ unfolding item_found live_attributes
 item_is table chunks block page i rel verdict r e =
     ap (λ (v : ItemVerdict). by_verdict table chunks block page i rel v) e ∙ ap (λ (x : Rel). by_verdict table chunks block page i x (item_verdict table page i)) r
 
-pub item_added : (table : Table) (chunks : List Chunk) (block : ℕ) (page : List ℕ) (i : ℕ) (rel : Rel) (verdict : ItemVerdict) (old mid new : FoundLists) → rel ≡ rel_of table.kind → verdict ≡ item_verdict table page i
-    → mid ≡ both_found old (left_by table.kind table.toast chunks block i (attributes_by (attributes_in table.columns (tuple_at page i)) verdict))
-    → new ≡ both_found mid (only_listed (verdict_lists (Item rel block i) verdict)) → new ≡ both_found old (item_found table chunks block page i)
-item_added table chunks block page i rel verdict old mid new r e left listed =
-    listed ∙ ap (λ (f : FoundLists). both_found f (only_listed (verdict_lists (Item rel block i) verdict))) left
+pub item_added : (table : Table) (chunks : List Chunk) (block : ℕ) (page : List ℕ) (i : ℕ) (rel : Rel) (verdict : ItemVerdict) (told : TupleVerdict) (old mid new : FoundLists) → rel ≡ rel_of table.kind → verdict ≡ item_verdict table page i
+    → told ≡ without_state verdict → mid ≡ both_found old (left_by table.kind table.toast chunks block i (attributes_by (attributes_in table.columns (tuple_at page i)) verdict))
+    → new ≡ both_found mid (only_listed (bare_lists (Item rel block i) told)) → new ≡ both_found old (item_found table chunks block page i)
+item_added table chunks block page i rel verdict told old mid new r e bare left listed =
+    listed ∙ ap (λ (v : TupleVerdict). both_found mid (only_listed (bare_lists (Item rel block i) v))) bare
+    ∙ ap (λ (f : FoundLists). both_found f (only_listed (verdict_lists (Item rel block i) verdict))) left
     ∙ found_parts.in_turn old (left_by table.kind table.toast chunks block i (attributes_by (attributes_in table.columns (tuple_at page i)) verdict)) (only_listed (verdict_lists (Item rel block i) verdict))
     ∙ ap (both_found old) (item_is table chunks block page i rel verdict r e)
 
@@ -51,9 +53,8 @@ state_is : (table : Table) (page : List ℕ) (i : ℕ) (verdict : ItemVerdict) �
 unfolding item_state
 state_is table page i verdict e = ap state_in e
 
-pub state_added : (table : Table) (page : List ℕ) (i : ℕ) (verdict : ItemVerdict) (old mid new : List ItemState) → verdict ≡ item_verdict table page i → mid ≡ old → new ≡ mid ++ state_in verdict → new ≡ old ++ item_state table page i
-state_added table page i verdict old mid new e same now =
-    now ∙ ap (λ (xs : List ItemState). xs ++ state_in verdict) same ∙ ap (λ (xs : List ItemState). old ++ xs) (state_is table page i verdict e)
+pub state_added : (table : Table) (page : List ℕ) (i : ℕ) (verdict : ItemVerdict) (old new : List ItemState) → verdict ≡ item_verdict table page i → new ≡ old ++ state_in verdict → new ≡ old ++ item_state table page i
+state_added table page i verdict old new e now = now ∙ ap (λ (xs : List ItemState). old ++ xs) (state_is table page i verdict e)
 
 -- the states that were put together are those of the page
 pub states_are : (table : Table) (page : List ℕ) (old new : List ItemState) → old ≡ [] → new ≡ old ++ each_upto one_list (item_state table page) (count_of page) → new ≡ states_of table page

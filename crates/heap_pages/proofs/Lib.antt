@@ -13,6 +13,7 @@ pub mod Overlaps
 pub mod PageLaws
 pub mod StateLaws
 pub mod TruthLaws
+pub mod TupleRules
 pub mod ValueLaws
 pub mod ValueRules
 pub mod Judged

@@ -256,10 +256,10 @@ meets_none_above page (suc n) place p ends above =
     none_by false true a m b n place e ends above = let later = above refl in grind (arith, common_steps)
 
 -- what the code's test of an item says of the page's item
-pub broken_item : (page : List ℕ) (i : ℕ) (header : PageHeader) (item : LinePtr) (test : Bool) → header ≡ header_of page → item ≡ item_of page i → test ≡ is_misplaced_heap_item header.upper item → test ≡ true → is_misplaced_heap_item (upper_of page) (item_of page i) ≡ true
+pub item_test : (page : List ℕ) (i : ℕ) (header : PageHeader) (item : LinePtr) (test : Bool) → header ≡ header_of page → item ≡ item_of page i → test ≡ is_misplaced_heap_item header.upper item → is_misplaced_heap_item (upper_of page) (item_of page i) ≡ test
 unfolding header_of
-broken_item page i header item test he it tested holds =
-    let upper : header.upper ≡ upper_of page = ap (λ (h : PageHeader). h.upper) he in cc
+item_test page i header item test he it tested =
+    sym (tested ∙ ap (λ (h : PageHeader). is_misplaced_heap_item h.upper item) he ∙ ap (is_misplaced_heap_item (upper_of page)) it)
 
 pub other_item : (page : List ℕ) (i : ℕ) (item : LinePtr) (flag : LineFlag) → item ≡ item_of page i → item.flag ≡ flag → is_normal flag ≡ false → is_normal (item_of page i).flag ≡ false
 other_item page i item flag it is none = rw (← it, is) none

@@ -26,11 +26,13 @@ use Rattle.reports.specs.Lists.{Lists}
 use Rattle.reports.specs.declared.places.Place.{Place}
 use Rattle.reports.specs.declared.places.Place.TheVariants.{Column, Item}
 use Rattle.heap_pages.specs.Table.{Table, rel_of}
-use Rattle.heap_pages.specs.Verdicts.{item_verdict}
+use Rattle.heap_pages.specs.Verdicts.{item_verdict, without_state}
 use Rattle.heap_pages.specs.declared.table.TableKind.{TableKind}
 use Rattle.heap_pages.specs.declared.table.TableKind.TheVariants as kind
 use Rattle.heap_pages.specs.declared.verdict.ItemVerdict.{ItemVerdict}
 use Rattle.heap_pages.specs.declared.verdict.ItemVerdict.TheVariants.{Passes, Breaks, InDoubt}
+use Rattle.heap_pages.specs.declared.verdict.TupleVerdict.{TupleVerdict}
+use Rattle.heap_pages.specs.declared.verdict.TupleVerdict.TheVariants as bare
 
 pub record FoundLists : Type 0 where
   pub listed : Lists
@@ -150,11 +152,14 @@ left_by what toast chunks block item list = record {
   chunks = chunks_left what block item list;
 }
 
--- what the verdict on a place says
+-- what the verdict on a place says, which is nothing of a state
+abbrev pub bare_lists : Place → TupleVerdict → Lists
+bare_lists place bare.Passes = nothing
+bare_lists place (bare.Breaks rule) = finding_at place (Some rule)
+bare_lists place (bare.InDoubt reason) = doubt_at place (Some reason)
+
 abbrev pub verdict_lists : Place → ItemVerdict → Lists
-verdict_lists place (Passes state) = nothing
-verdict_lists place (Breaks rule) = finding_at place (Some rule)
-verdict_lists place (InDoubt reason) = doubt_at place (Some reason)
+verdict_lists place verdict = bare_lists place (without_state verdict)
 
 -- these chunks stand in its TOAST table
 unfoldable pub item_found : Table → List Chunk → ℕ → List ℕ → ℕ → FoundLists

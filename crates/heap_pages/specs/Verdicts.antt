@@ -21,16 +21,25 @@ use Rattle.liveness.specs.declared.states.Life.{Life}
 use Rattle.liveness.specs.declared.states.Life.TheVariants as life
 use Rattle.reports.specs.declared.places.Reason.{Reason}
 use Rattle.reports.specs.declared.places.Reason.TheVariants as reason
+use Rattle.heap_pages.specs.declared.table.TableRules.{TableRules}
 use Rattle.heap_pages.specs.declared.verdict.ItemVerdict.{ItemVerdict}
 use Rattle.heap_pages.specs.declared.verdict.ItemVerdict.TheVariants.{Passes, Breaks, InDoubt}
+use Rattle.heap_pages.specs.declared.verdict.TupleVerdict.{TupleVerdict}
+use Rattle.heap_pages.specs.declared.verdict.TupleVerdict.TheVariants as bare
 use Rattle.heap_pages.specs.Storage.{overlaps_lower_item}
-use Rattle.heap_pages.specs.Table.{Table, logs_in}
+use Rattle.heap_pages.specs.Table.{Table, logs_in, toast_oid_seen}
 use Rattle.heap_pages.specs.Values.{values_rule}
 
 abbrev pub reason_of : Doubt → Reason
 reason_of doubt.U1 = reason.U1
 reason_of doubt.U2 = reason.U2
 reason_of doubt.U3 = reason.U3
+
+-- a verdict without the state of what passes
+abbrev pub without_state : ItemVerdict → TupleVerdict
+without_state (Passes state) = bare.Passes
+without_state (Breaks rule) = bare.Breaks rule
+without_state (InDoubt reason) = bare.InDoubt reason
 
 -- what the values of a live tuple say
 abbrev pub values_verdict : HeapHead → Judged → Option Rule → ItemVerdict
@@ -44,6 +53,11 @@ life_verdict oid columns tuple head judged life.Live =
 life_verdict oid columns tuple head judged life.Dead = Passes (Tuple head judged)
 life_verdict oid columns tuple head judged (life.Unjudged u) = InDoubt (reason_of u)
 life_verdict oid columns tuple head judged (life.Broken rule) = Breaks rule
+
+-- the same by the rules of a table, as the code has them
+abbrev pub verdict_by_life : TableRules → List ℕ → HeapHead → Judged → ItemVerdict
+verdict_by_life table tuple head judged =
+    life_verdict (toast_oid_seen table.toast) table.columns.now tuple head judged judged.life
 
 abbrev pub header_verdict : Table → List ℕ → HeapHead → Option Rule → ItemVerdict
 header_verdict table tuple head (Some rule) = Breaks rule

@@ -1,15 +1,14 @@
 //! What is found of a table while its pages are judged.
 ghost use Rattle.std.specs.Prelude.{◌≡◌, ◌++◌, ◌≤◌, Some, All, OnOk, length};
 ghost use Rattle.reports.specs.Added.{finding_at, joined};
-ghost use Rattle.heap_pages.specs.Found.{both_found, chunk_by, late_by, late_in, late_of, left_by, nothing_found};
-ghost use Rattle.heap_pages.specs.Found.{only_listed, verdict_lists};
-ghost use Rattle.heap_pages.specs.Found.{value_rule_late};
+ghost use Rattle.heap_pages.specs.Found.{bare_lists, both_found, chunk_by, late_by, late_in, late_of, left_by};
+ghost use Rattle.heap_pages.specs.Found.{nothing_found, only_listed, value_rule_late};
 ghost use Rattle.heap_pages.specs.Table.{chunks_seen, toast_oid_seen};
 ghost use Rattle.toast_chunks.specs.Rows.{row_of};
 ghost use Rattle.varlena_attrs.specs.Shown.{IsWithin, shown_at, shown_in};
 
 use crate::table::{TableKind, TableRules};
-use crate::verdict::ItemVerdict;
+use crate::verdict::TupleVerdict;
 use key_orders::Tid;
 use outside::NoMemory;
 use page_layout::Rule;
@@ -151,13 +150,17 @@ impl Found {
     }
 
     /// Adds what the verdict on the item at a place says.
-    pub(crate) fn add_verdict(&mut self, place: Place, verdict: ItemVerdict) -> Result<(), NoMemory>
-        ensures { OnOk result (self.new ≡ both_found self.old (only_listed (verdict_lists place verdict))) }
+    pub(crate) fn add_verdict(
+        &mut self,
+        place: Place,
+        verdict: TupleVerdict,
+    ) -> Result<(), NoMemory>
+        ensures { OnOk result (self.new ≡ both_found self.old (only_listed (bare_lists place verdict))) }
     {
         match verdict {
-            ItemVerdict::Passes(_) => Ok(()),
-            ItemVerdict::Breaks(rule) => self.listed.add_rule(place, Some(rule)),
-            ItemVerdict::InDoubt(reason) => self.listed.unjudged(reason, place),
+            TupleVerdict::Passes => Ok(()),
+            TupleVerdict::Breaks(rule) => self.listed.add_rule(place, Some(rule)),
+            TupleVerdict::InDoubt(reason) => self.listed.unjudged(reason, place),
         }
     }
 

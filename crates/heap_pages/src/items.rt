@@ -1,5 +1,5 @@
 //! Judges the items of a page, each by itself.
-ghost use Rattle.std.specs.Prelude.{◌≡◌, ◌++◌, ◌+◌, ◌-◌, ◌≤◌, [], ◌∷◌, length, true, IfOk, OnOk};
+ghost use Rattle.std.specs.Prelude.{◌≡◌, ◌++◌, ◌+◌, ◌-◌, ◌≤◌, [], ◌∷◌, length, true, OnOk};
 ghost use Rattle.outside.specs.Adds.{one_list};
 ghost use Rattle.outside.specs.Outside.{Asked, IfTold, Tells};
 ghost use Rattle.page_layout.specs.Items.{is_normal};
@@ -12,12 +12,12 @@ ghost use Rattle.heap_pages.specs.Found.{attributes_by, both_found, item_found, 
 ghost use Rattle.heap_pages.specs.Found.{left_by, state_in};
 ghost use Rattle.heap_pages.specs.Storage.{AreCells};
 ghost use Rattle.heap_pages.specs.Table.{AreReadable, chunks_seen, table_seen, toast_oid_seen};
-ghost use Rattle.heap_pages.specs.Verdicts.{normal_verdict};
+ghost use Rattle.heap_pages.specs.Verdicts.{normal_verdict, without_state};
 
 use crate::page::PageInHand;
 use crate::table::TableRules;
 use crate::tuple::judge_tuple;
-use crate::verdict::ItemVerdict;
+use crate::verdict::TupleVerdict;
 use crate::work::Work;
 use key_orders::Tid;
 use liveness::{ItemState, Transactions};
@@ -25,7 +25,7 @@ use outside::NoMemory;
 use page_layout::{LineFlag, Rule};
 use reports::{PageFault, Place};
 
-// Judges a normal item: where it lies, and then its tuple.
+// Judges a normal item: where it lies, and then its tuple. The state of one that passes is added.
 #[tactic(auto, using(crate::proofs::Left::nothing_left), unfolding(crate::specs::Verdicts::normal_verdict))]
 fn judge_normal<F: Transactions>(
     files: &mut F,
@@ -33,28 +33,31 @@ fn judge_normal<F: Transactions>(
     at: PageInHand<'_>,
     i: u16,
     work: &mut Work,
-) -> Result<ItemVerdict, PageFault>
+) -> Result<TupleVerdict, PageFault>
     requires columns { AreReadable table.now.columns.now }
     requires page { HasItems (page_bytes at.view) }
     requires first { 1 ≤ i }
     requires last { i ≤ count_of (page_bytes at.view) }
     requires normal { is_normal (item_of (page_bytes at.view) i).flag ≡ true }
     requires before { AreCells (page_bytes at.view) (i - 1) work.old.cells }
-    ensures told { Tells F.seen files.old result (λ verdict names.
-        verdict ≡ normal_verdict (table_seen names table.now) (page_bytes at.entry.view) i) }
-    ensures found { IfOk result (λ verdict. work.new.found ≡ both_found work.old.found
+    ensures told { Tells F.seen files.old result (λ verdict names. verdict
+        ≡ without_state (normal_verdict (table_seen names table.now) (page_bytes at.entry.view) i)) }
+    ensures found { OnOk result (IfTold F.seen files.old (λ names. work.new.found ≡ both_found work.old.found
         (left_by table.now.kind (toast_oid_seen table.now.toast) (chunks_seen table.now.toast) at.entry.block i
-        (attributes_by (attributes_in table.now.columns.now (tuple_at (page_bytes at.entry.view) i)) verdict))) }
+        (attributes_by (attributes_in table.now.columns.now (tuple_at (page_bytes at.entry.view) i))
+        (normal_verdict (table_seen names table.now) (page_bytes at.entry.view) i))))) }
+    ensures states { OnOk result (IfTold F.seen files.old (λ names. work.new.states.items ≡ work.old.states.items
+        ++ state_in (normal_verdict (table_seen names table.now) (page_bytes at.entry.view) i))) }
+    ensures more { length work.new.states.items ≤ length work.old.states.items + 1 }
     ensures after { AreCells (page_bytes at.entry.view) i work.new.cells }
-    ensures states { work.new.states.items ≡ work.old.states.items }
     ensures asked { Asked F.seen files.old files.new result PageFault.ReadFault }
 {
     let item = at.view.item(i);
     if item.is_misplaced_heap_item(at.view.header().upper) {
-        return Ok(ItemVerdict::Breaks(Rule::H1));
+        return Ok(TupleVerdict::Breaks(Rule::H1));
     }
     if work.cells.add(at.view, i) {
-        return Ok(ItemVerdict::Breaks(Rule::H2));
+        return Ok(TupleVerdict::Breaks(Rule::H2));
     }
     let tid = Tid {
         block: at.block,
@@ -71,17 +74,6 @@ fn push_state(states: &mut Vec<ItemState>, state: ItemState) -> Result<(), NoMem
 {
     states.push(state)?;
     Ok(())
-}
-
-// Adds the state of an item that passes.
-fn add_state(states: &mut Vec<ItemState>, verdict: ItemVerdict) -> Result<(), NoMemory>
-    ensures states { OnOk result (states.new.items ≡ states.old.items ++ state_in verdict) }
-    ensures more { length states.new.items ≤ length states.old.items + 1 }
-{
-    match verdict {
-        ItemVerdict::Passes(state) => push_state(states, state),
-        ItemVerdict::Breaks(_) | ItemVerdict::InDoubt(_) => Ok(()),
-    }
 }
 
 // Judges a normal item, and adds what is found of it and its state.
@@ -110,7 +102,6 @@ fn judge_normal_and_add<F: Transactions>(
     let verdict = judge_normal(files, table, at, i, work)?;
     let place = Place::Item(table.kind.rel(), at.block, i);
     work.found.add_verdict(place, verdict)?;
-    add_state(&mut work.states, verdict)?;
     Ok(())
 }
 

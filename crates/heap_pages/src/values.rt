@@ -22,8 +22,8 @@ use varlena_attrs::{AttrFault, AttrPlace, ToastPointer, pointer_at};
 const HASEXTERNAL: u16 = 0x0004;
 
 #[tactic(auto, unfolding(crate::specs::Values::has_externals))]
-fn has_externals(head: HeapHead) -> bool
-    ensures { result ≡ has_externals head }
+fn has_externals(head: &HeapHead) -> bool
+    ensures { result ≡ has_externals head.now }
 {
     has_bit(head.infomask, HASEXTERNAL)
 }
@@ -38,16 +38,16 @@ fn is_other_relation(oid: Option<u32>, relation: u32) -> bool
     }
 }
 
-fn is_stray_pointer(oid: Option<u32>, head: HeapHead, pointer: ToastPointer) -> bool
-    ensures { result ≡ is_stray_pointer oid head pointer }
+fn is_stray_pointer(oid: Option<u32>, head: &HeapHead, pointer: ToastPointer) -> bool
+    ensures { result ≡ is_stray_pointer oid head.now pointer }
 {
     !has_externals(head) || is_other_relation(oid, pointer.relation)
 }
 
 // The first of H19 and H20 that a pointer breaks.
 #[tactic(auto, unfolding(crate::specs::Values::pointer_rule_of))]
-fn pointer_rule_of(oid: Option<u32>, head: HeapHead, pointer: ToastPointer) -> Option<Rule>
-    ensures { result ≡ pointer_rule_of oid head pointer }
+fn pointer_rule_of(oid: Option<u32>, head: &HeapHead, pointer: ToastPointer) -> Option<Rule>
+    ensures { result ≡ pointer_rule_of oid head.now pointer }
 {
     if is_stray_pointer(oid, head, pointer) {
         return Some(Rule::H19);
@@ -58,9 +58,9 @@ fn pointer_rule_of(oid: Option<u32>, head: HeapHead, pointer: ToastPointer) -> O
     None
 }
 
-fn value_rule(oid: Option<u32>, head: HeapHead, body: &[u8], place: AttrPlace) -> Option<Rule>
+fn value_rule(oid: Option<u32>, head: &HeapHead, body: &[u8], place: AttrPlace) -> Option<Rule>
     requires { IsWithin (length body.now) place }
-    ensures { result ≡ value_rule oid head (shown_at body.now place) }
+    ensures { result ≡ value_rule oid head.now (shown_at body.now place) }
 {
     match place {
         AttrPlace::External { start } => pointer_rule_of(oid, head, pointer_at(body, start)),
@@ -72,12 +72,12 @@ fn value_rule(oid: Option<u32>, head: HeapHead, body: &[u8], place: AttrPlace) -
 // The first rule that one of a tuple's values breaks, column by column.
 fn first_value_rule(
     oid: Option<u32>,
-    head: HeapHead,
+    head: &HeapHead,
     body: &[u8],
     places: &[AttrPlace],
 ) -> Option<Rule>
     requires { All (IsWithin (length body.now)) places.now }
-    ensures { result ≡ first_value_rule oid head (shown_in body.now places.now) }
+    ensures { result ≡ first_value_rule oid head.now (shown_in body.now places.now) }
 {
     for place in places {
         match value_rule(oid, head, body, *place) {
@@ -90,10 +90,10 @@ fn first_value_rule(
 
 // Whether the values of a live tuple break no rule, and it leaves nothing, as most tuples do: it isn't a
 // chunk, and its values are all stored in line.
-fn leaves_nothing(table: &TableRules<'_>, tuple: &[u8], head: HeapHead) -> bool
-    requires header { head ≡ tuple_head_of tuple.now }
-    requires begins { 23 ≤ head.hoff }
-    requires within { head.hoff ≤ length tuple.now }
+fn leaves_nothing(table: &TableRules<'_>, tuple: &[u8], head: &HeapHead) -> bool
+    requires header { head.now ≡ tuple_head_of tuple.now }
+    requires begins { 23 ≤ head.now.hoff }
+    requires within { head.now.hoff ≤ length tuple.now }
     ensures { result ≡ leaves_nothing table.now.kind (attributes_in table.now.columns.now tuple.now) }
 {
     match table.kind {
@@ -109,17 +109,18 @@ fn leaves_nothing(table: &TableRules<'_>, tuple: &[u8], head: HeapHead) -> bool
 pub(crate) fn judge_values(
     table: &TableRules<'_>,
     tuple: &[u8],
-    head: HeapHead,
+    head: &HeapHead,
     tid: Tid,
     work: &mut Work,
 ) -> Result<Option<Rule>, NoMemory>
     requires columns { AreReadable table.now.columns.now }
-    requires header { head ≡ tuple_head_of tuple.now }
-    requires begins { 23 ≤ head.hoff }
-    requires within { head.hoff ≤ length tuple.now }
+    requires header { head.now ≡ tuple_head_of tuple.now }
+    requires begins { 23 ≤ head.now.hoff }
+    requires within { head.now.hoff ≤ length tuple.now }
     requires page { length tuple.now ≤ 8192 }
     ensures rule { IfOk result (λ rule.
-        rule ≡ values_rule (toast_oid_seen table.now.toast) head (attributes_in table.now.columns.now tuple.now)) }
+        rule ≡ values_rule (toast_oid_seen table.now.toast) head.now
+        (attributes_in table.now.columns.now tuple.now)) }
     ensures found { IfOk result (λ rule. work.new.found ≡ both_found work.old.found
         (left_by table.now.kind (toast_oid_seen table.now.toast) (chunks_seen table.now.toast) tid.block tid.item
         (kept_by_values rule (attributes_in table.now.columns.now tuple.now)))) }

@@ -6,7 +6,8 @@ use liveness::{Doubt, ItemState};
 use page_layout::Rule;
 use reports::Reason;
 
-/// What is found of a line pointer of a heap page and of the tuple that it points to.
+/// What is found of a line pointer of a heap page and of the tuple that it points to. Contracts speak of it;
+/// the code hands on a `TupleVerdict`, and adds the state of what passes to those of the page.
 #[derive(Clone, Copy, Debug, PartialEq, Eq)]
 pub enum ItemVerdict {
     /// It breaks no rule that is asked of it alone.
@@ -14,6 +15,14 @@ pub enum ItemVerdict {
     /// The first rule that it breaks.
     Breaks(Rule),
     /// It can't be judged.
+    InDoubt(Reason),
+}
+
+/// The same without the state of what passes, which is large.
+#[derive(Clone, Copy)]
+pub(crate) enum TupleVerdict {
+    Passes,
+    Breaks(Rule),
     InDoubt(Reason),
 }
 

@@ -15,10 +15,10 @@ use varlena_attrs::{AttrBuffer, AttrFault, ColumnLayout, TupleColumns};
 
 // The null bits, where there are some: from byte 23 up to the header's end.
 #[inline]
-fn nulls_of(tuple: &[u8], head: HeapHead) -> Option<&[u8]>
-    requires header { head ≡ tuple_head_of tuple.now }
-    requires begins { 23 ≤ head.hoff }
-    requires within { head.hoff ≤ length tuple.now }
+fn nulls_of<'p>(tuple: &'p [u8], head: &HeapHead) -> Option<&'p [u8]>
+    requires header { head.now ≡ tuple_head_of tuple.now }
+    requires begins { 23 ≤ head.now.hoff }
+    requires within { head.now.hoff ≤ length tuple.now }
     ensures { option_copied result ≡ nulls_of tuple.now }
 {
     if head.has_nulls() {
@@ -30,9 +30,9 @@ fn nulls_of(tuple: &[u8], head: HeapHead) -> Option<&[u8]>
 
 // What follows the header.
 #[inline]
-fn body_of(tuple: &[u8], head: HeapHead) -> &[u8]
-    requires header { head ≡ tuple_head_of tuple.now }
-    requires within { head.hoff ≤ length tuple.now }
+fn body_of<'p>(tuple: &'p [u8], head: &HeapHead) -> &'p [u8]
+    requires header { head.now ≡ tuple_head_of tuple.now }
+    requires within { head.now.hoff ≤ length tuple.now }
     ensures { result.now ≡ body_of tuple.now }
 {
     &tuple[head.hoff as usize..]
@@ -46,12 +46,12 @@ pub fn read_tuple<'p>(
     buffer: &mut AttrBuffer,
     columns: &[ColType],
     tuple: &'p [u8],
-    head: HeapHead,
+    head: &HeapHead,
 ) -> Result<&'p [u8], AttrFault>
     requires aligned { All HasAlignment columns.now }
-    requires header { head ≡ tuple_head_of tuple.now }
-    requires begins { 23 ≤ head.hoff }
-    requires within { head.hoff ≤ length tuple.now }
+    requires header { head.now ≡ tuple_head_of tuple.now }
+    requires begins { 23 ≤ head.now.hoff }
+    requires within { head.now.hoff ≤ length tuple.now }
     ensures body { IfOk result (λ body. body.now ≡ body_of tuple.now) }
     ensures value { IfOk result (λ body. attributes_in columns.now tuple.now ≡ Ok (shown_in body.now buffer.new)) }
     ensures within { IfOk result (λ body. All (IsWithin (length body.now)) buffer.new) }
@@ -87,7 +87,7 @@ pub fn try_read_tuple<'p>(
     if hoff < 23 || tuple.len() < hoff {
         return Ok(None);
     }
-    match read_tuple(buffer, columns, tuple, head) {
+    match read_tuple(buffer, columns, tuple, &head) {
         Ok(body) => Ok(Some(body)),
         Err(AttrFault::NoMemory) => Err(NoMemory),
         Err(_) => Ok(None),
@@ -111,8 +111,8 @@ pub fn tuple_columns<'p>(columns: &'p [ColType], tuple: &'p [u8]) -> Option<Tupl
     if tuple.len() < hoff || hoff < 23 {
         return None;
     }
-    let body = body_of(tuple, head);
-    let nulls = nulls_of(tuple, head);
+    let body = body_of(tuple, &head);
+    let nulls = nulls_of(tuple, &head);
     Some(TupleColumns::new(columns, body, nulls, head.natts()))
 }
 
@@ -120,10 +120,10 @@ pub fn tuple_columns<'p>(columns: &'p [ColType], tuple: &'p [u8]) -> Option<Tupl
 /// read, and all its values are stored in line: none stands in a TOAST table. It takes no memory.
 #[inline]
 #[tactic(auto, unfolding(crate::specs::Tuples::attributes_in))]
-pub fn are_inline(layout: &ColumnLayout<'_>, tuple: &[u8], head: HeapHead) -> bool
-    requires header { head ≡ tuple_head_of tuple.now }
-    requires begins { 23 ≤ head.hoff }
-    requires within { head.hoff ≤ length tuple.now }
+pub fn are_inline(layout: &ColumnLayout<'_>, tuple: &[u8], head: &HeapHead) -> bool
+    requires header { head.now ≡ tuple_head_of tuple.now }
+    requires begins { 23 ≤ head.now.hoff }
+    requires within { head.now.hoff ≤ length tuple.now }
     ensures { result ≡ are_inline (attributes_in layout.now tuple.now) }
 {
     layout.are_inline(body_of(tuple, head), nulls_of(tuple, head), head.natts())

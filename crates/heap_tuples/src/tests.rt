@@ -36,8 +36,8 @@ fn outcome(
     }
     let layout = ColumnLayout::new(&COLUMNS);
     let mut buffer = AttrBuffer::new(alloc);
-    let inline = are_inline(&layout, tuple, head);
-    match read_tuple(&mut buffer, &COLUMNS, tuple, head) {
+    let inline = are_inline(&layout, tuple, &head);
+    match read_tuple(&mut buffer, &COLUMNS, tuple, &head) {
         Ok(body) => Ok((Ok((body.len(), buffer.as_slice().last().copied())), inline)),
         Err(e) => Ok((Err(e), inline)),
     }
