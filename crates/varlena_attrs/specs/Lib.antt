@@ -7,5 +7,6 @@ pub mod Inline
 pub mod Laws
 pub mod Keyed
 pub mod KeyedShown
+pub mod FirstValues
 pub mod KeyLaws
 pub mod InTurn

@@ -30,4 +30,4 @@ pub use keyed::{
 };
 pub use places::{Attr, AttrPlace, ToastPointer, pointer_at};
 pub use reading::{Attrs, attributes, attributes_are_unique};
-pub use same::has_plain_key;
+pub use same::{has_plain_key, plain_first_value};

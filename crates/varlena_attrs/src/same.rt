@@ -1,9 +1,10 @@
-//! Whether an index tuple has the values of a key, asked of its bytes as they lie.
-ghost use Rattle.std.specs.Prelude.{◌≡◌, ◌≤◌, Ok, None, length, All};
+//! What the bytes of an index tuple tell of its key as they lie: whether it has the values of another, and its first.
+ghost use Rattle.std.specs.Prelude.{◌≡◌, ◌≤◌, Ok, None, IfSome, length, All};
 ghost use Rattle.std.specs.Bool.{OnTrue};
 ghost use Rattle.key_orders.specs.Types.{HasAlignment};
 ghost use Rattle.key_orders.specs.Values.{value_shown};
 ghost use Rattle.varlena_attrs.specs.Keyed.{key_types, key_values};
+ghost use Rattle.varlena_attrs.specs.FirstValues.{BeginsPlainKey};
 
 use crate::keyed::value_at;
 use crate::plain::plain_piece;
@@ -50,4 +51,27 @@ pub fn has_plain_key(specs: &[KeySpec], body: &[u8], key: &KeyRefs<'_>) -> bool
         place = found.next;
     }
     true
+}
+
+/// The first value of the key in an index tuple without null bits, which has this body, where each column of the key is
+/// found by the least that tells it: a value of a fixed length, or a varlena with a header of one byte. `None` says
+/// nothing.
+#[inline]
+pub fn plain_first_value<'p>(specs: &[KeySpec], body: &'p [u8]) -> Option<ValueRef<'p>>
+    requires few { length specs.now ≤ 8 }
+    requires aligned { All HasAlignment (key_types specs.now) }
+    ensures { IfSome result (λ v. BeginsPlainKey specs.now body.now (value_shown v)) }
+{
+    if specs.is_empty() {
+        return None;
+    }
+    let ctype = specs[0].ctype;
+    let found = plain_piece(ctype, body, 0)?.found();
+    let value = value_at(ctype, body, found.place);
+    let mut place = found.next;
+    for k in 1..specs.len() {
+        let piece = plain_piece(specs[k].ctype, body, place)?;
+        place = piece.start + piece.len;
+    }
+    Some(value)
 }

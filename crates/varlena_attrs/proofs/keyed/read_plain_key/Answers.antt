@@ -1,20 +1,13 @@
-use Rattle.std.proofs.Common.{◌≡◌, ◌+◌, ◌<◌, ◌≤◌, ℕ, List, [], drop, take, get_or, length, refl, sym, ap, subst, ◌∙◌, arith}
-use Rattle.std.specs.Prelude.{None, Ok, false}
+use Rattle.std.proofs.Common.{◌≡◌, ◌+◌, ℕ, List, [], drop, get_or, length, refl, sym, ap, ◌∙◌, arith}
+use Rattle.std.specs.Prelude.{None, false}
 use Rattle.std.proofs.lemmas.List.{length-append, length-map}
 use Rattle.key_orders.specs.declared.columns.ColType.{ColType}
 use Rattle.key_orders.specs.declared.columns.ColType.TheVariants.{Bool as BoolType}
 use Rattle.key_orders.specs.declared.columns.KeySpec.{KeySpec}
 use Rattle.key_orders.specs.declared.columns.Value.{Value}
-use Rattle.varlena_attrs.specs.declared.forms.Found.{Found}
-use Rattle.varlena_attrs.specs.declared.places.AttrPlace.TheVariants as at
-use Rattle.key_orders.specs.Types.{HasAlignment}
-use Rattle.varlena_attrs.specs.Attributes.{Presence, Stored, is_null, presence_of}
-use Rattle.varlena_attrs.specs.Forms.{Plain}
-use Rattle.varlena_attrs.specs.Keyed.{InlineStep, inline_step, is_packed, key_types, read_inline}
-use Rattle.varlena_attrs.specs.KeyedShown.{HasPlainLength, packed_here, told_after}
-use Rattle.varlena_attrs.specs.Reading.{attribute_at, stored_at}
+use Rattle.varlena_attrs.specs.Keyed.{key_types, read_inline}
+use Rattle.varlena_attrs.specs.KeyedShown.{told_after}
 use Rattle.varlena_attrs.specs.Shown.{shown_at}
-use Rattle.varlena_attrs.proofs.Ends.{stored_there}
 use Rattle.varlena_attrs.proofs.Keying.{fits_push, key_aligned, key_types-drop, past_column, told_end, told_none}
 use Rattle.varlena_attrs.proofs.PlainKeys.{long_there, none_packed, step_there}
 use Rattle.varlena_attrs.proofs.keyed.read_plain_key.Goals as goal

@@ -1,4 +1,4 @@
-use Rattle.std.proofs.Common.{◌≡◌, ◌+◌, ◌<◌, ◌≤◌, ◌++◌, ◌∷◌, ℕ, List, [], drop, take, get_or, length, refl, sym, ap, subst, ◌∙◌, arith}
+use Rattle.std.proofs.Common.{◌≡◌, ◌+◌, ◌<◌, ◌≤◌, ◌++◌, ◌∷◌, List, [], drop, take, get_or, length, sym, ap, ◌∙◌, arith}
 use Rattle.std.specs.Prelude.{None, Ok, false}
 use Rattle.std.proofs.lemmas.List.{get_or-map, length-map, take_all, take_more}
 use Rattle.key_orders.specs.declared.columns.ColType.{ColType}
@@ -7,7 +7,7 @@ use Rattle.key_orders.specs.declared.columns.KeySpec.{KeySpec}
 use Rattle.key_orders.specs.declared.columns.Value.{Value}
 use Rattle.key_orders.specs.declared.columns.ValueRef.TheVariants as ref
 use Rattle.key_orders.specs.Values.{value_shown}
-use Rattle.varlena_attrs.specs.Keyed.{is_packed, key_types, read_inline}
+use Rattle.varlena_attrs.specs.Keyed.{key_types, read_inline}
 use Rattle.varlena_attrs.specs.KeyedShown.{told_after}
 use Rattle.varlena_attrs.specs.Shown.{shown_at}
 use Rattle.varlena_attrs.proofs.Keying.{key_aligned, key_types-drop, past_column, told_end, told_none}

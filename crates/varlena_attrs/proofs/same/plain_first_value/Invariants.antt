@@ -1,0 +1,11 @@
+use Rattle.std.proofs.Common.{◌≤◌, length}
+use Rattle.key_orders.specs.Values.{value_shown}
+use Rattle.varlena_attrs.specs.FirstValues.{BeginsSoFar}
+use Rattle.varlena_attrs.proofs.same.plain_first_value.Given as goal
+
+-- the value is the first of those so far
+abbrev pub invariant-loop-k : goal.invariant-loop-k
+invariant-loop-k l = record {
+  begins : BeginsSoFar l.specs l.body l.k l.place (value_shown l.value);
+  within : l.place ≤ length l.body;
+}
