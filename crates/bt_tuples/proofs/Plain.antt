@@ -1,13 +1,13 @@
 -- A plain tuple of a leaf without null bits, whose values are told.
-use Rattle.std.proofs.Common.{◌≡◌, ◌≢◌, ℕ, ◌≤◌, Bool, true, false, List, [], ◌++◌, length, take, drop, refl, ap, sym, subst, ◌∙◌, append-nil, arith}
-use Rattle.std.specs.Prelude.{not, nat_lt, ◌==◌, None, Ok, Some}
+use Rattle.std.proofs.Common.{◌≡◌, ◌≢◌, ℕ, ◌≤◌, Bool, false, List, [], length, take, drop, refl, ap, sym, subst, ◌∙◌, append-nil, arith}
+use Rattle.std.specs.Prelude.{not, nat_lt, None, Ok, Some}
 use Rattle.std.proofs.lemmas.List.{drop_all, take_all}
 use Rattle.std.proofs.lemmas.Bool.{cond-false, eq-eqb, le-ltb, ne_eqb}
 use Rattle.key_orders.specs.declared.columns.ColType.{ColType}
 use Rattle.key_orders.specs.declared.columns.KeySpec.{KeySpec}
 use Rattle.key_orders.specs.declared.columns.Value.{Value}
 use Rattle.key_orders.specs.declared.Tid.{Tid}
-use Rattle.varlena_attrs.specs.Keyed.{KeyValues, key_types, key_values}
+use Rattle.varlena_attrs.specs.Keyed.{key_types, key_values}
 use Rattle.bt_meta.specs.declared.records.HeadKind.{HeadKind}
 use Rattle.bt_meta.specs.declared.records.HeadKind.TheVariants as kind
 use Rattle.bt_meta.specs.declared.records.TreeHead.{TreeHead}
@@ -16,7 +16,7 @@ use Rattle.bt_tuples.specs.declared.items.ItemFault.TheVariants.{Broken}
 use Rattle.bt_tuples.specs.declared.items.Spot3.TheVariants.{LeafItem}
 use Rattle.page_layout.specs.declared.rules.Rule.TheVariants.{B6, B7, B8}
 use Rattle.std.specs.Prelude.{Err}
-use Rattle.bt_tuples.specs.Items.{Item, Plain, meaning_by, meaning_of, outcome_by, tuple_outcome}
+use Rattle.bt_tuples.specs.Items.{Plain, meaning_by, meaning_of, tuple_outcome}
 use Rattle.bt_tuples.specs.Plain.{IsPlainHead}
 use Rattle.bt_tuples.specs.Rules.{begins_past_end, breaks_form, breaks_size, breaks_tids, breaks_tids_by}
 use Rattle.bt_tuples.specs.Tuples.{body_begin, body_end, body_in, columns_by, end_by, has_null_bits, null_bits_in, plain_tid, size_of, values_in}

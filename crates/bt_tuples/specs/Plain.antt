@@ -1,14 +1,40 @@
 -- A plain tuple of a leaf without null bits, as nearly all are.
-use Rattle.std.specs.Prelude.{◌≡◌, ◌≢◌, ℕ, false, List, length}
-use Rattle.bt_meta.specs.declared.records.HeadKind.TheVariants.{Plain}
+use Rattle.std.specs.Prelude.{◌≡◌, ◌≢◌, ◌<◌, ℕ, Bool, true, false, List, [], ◌∷◌, length, Ok}
+use Rattle.std.specs.declared.cmp.Ordering.TheVariants.{Less}
+use Rattle.page_layout.specs.Page.{item_of}
+use Rattle.key_orders.specs.declared.columns.KeySpec.{KeySpec}
+use Rattle.key_orders.specs.declared.columns.Value.{Value}
+use Rattle.key_orders.specs.declared.Tid.{Tid}
+use Rattle.key_orders.specs.Keys.{columns_of, fits_columns}
+use Rattle.key_orders.specs.Prefixes.{IsPrefix}
+use Rattle.bt_meta.specs.declared.records.HeadKind.TheVariants as kinds
 use Rattle.bt_meta.specs.declared.records.TreeHead.{TreeHead}
 use Rattle.bt_meta.specs.Heads.{tree_head_of}
+use Rattle.bt_tuples.specs.declared.items.Spot3.TheVariants.{LeafItem}
+use Rattle.bt_tuples.specs.Items.{ItemOutcome, Plain, is_dead, item_outcome}
 use Rattle.bt_tuples.specs.Tuples.{has_null_bits, size_of}
 
 -- this is its head: its size is that of its bytes, and its TID has an item number
 pub record IsPlainHead (tuple : List ℕ) (head : TreeHead) : Type 0 where
   pub is : head ≡ tree_head_of tuple
-  pub kind : head.kind ≡ Plain
+  pub kind : head.kind ≡ kinds.Plain
   pub no_nulls : has_null_bits head ≡ false
   pub some : head.item ≢ 0
   pub size : size_of head ≡ length tuple
+
+-- What is read is one entry without included values, and this is the number of its key by its first value, which fits
+-- its column. In the order of that column the value is below each that has a greater number.
+pub record HasPrefix (specs : List KeySpec) (outcome : ItemOutcome) (killed : Bool) (number : ℕ) : Type 0 where
+  pub first : Value
+  pub rest : List Value
+  pub tid : Tid
+  pub is : outcome ≡ Ok (Plain (first ∷ rest) [] tid killed)
+  pub fits : fits_columns specs (first ∷ []) ≡ true
+  pub prefix : IsPrefix specs (first ∷ []) number
+  pub below : (other : Value) (greater : ℕ) → IsPrefix specs (other ∷ []) greater → number < greater
+      → fits_columns specs (other ∷ []) ≡ true → columns_of specs 0 first other ≡ Less
+
+-- so it is of item i of a leaf, in an index without included columns
+abbrev pub IsPlainEntry : List KeySpec → List ℕ → (i number : ℕ) → Type 0
+IsPlainEntry specs page i number =
+    HasPrefix specs (item_outcome specs [] LeafItem page i) (is_dead (item_of page i).flag) number

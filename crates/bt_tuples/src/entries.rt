@@ -1,18 +1,20 @@
-//! Whether an item of a leaf is an entry that is known, asked of its bytes as they lie.
-ghost use Rattle.std.specs.Prelude.{◌≡◌, ◌≤◌, [], Bool, Ok, None, length, All};
+//! What the bytes of an item of a leaf tell as they lie: whether it is an entry that is known, and a number by which it
+//! stands to others.
+ghost use Rattle.std.specs.Prelude.{◌≡◌, ◌≤◌, [], Bool, Ok, None, IfSome, length, All};
 ghost use Rattle.std.specs.Bool.{OnTrue};
 ghost use Rattle.page_layout.specs.Page.{count_of, item_of, page_rule_of};
 ghost use Rattle.page_layout.specs.View.{page_bytes};
 ghost use Rattle.key_orders.specs.Types.{HasAlignment};
 ghost use Rattle.varlena_attrs.specs.Keyed.{key_types};
 ghost use Rattle.bt_tuples.specs.Items.{Plain, is_dead, item_outcome, tuple_outcome};
+ghost use Rattle.bt_tuples.specs.Plain.{HasPrefix, IsPlainEntry};
 
 use crate::heads::body_of;
 use crate::items::{PD_UPPER, Spot3};
 use crate::tuples::plain_head;
-use key_orders::{KeyRefs, KeySpec, Tid};
+use key_orders::{KeyRefs, KeySpec, Tid, key_prefix};
 use page_layout::{PageKind, PageView};
-use varlena_attrs::has_plain_key;
+use varlena_attrs::{has_plain_key, plain_first_value};
 
 // Whether a tuple of a leaf is a plain one without null bits, with the values of this key and with this TID.
 #[inline(always)]
@@ -60,4 +62,39 @@ pub fn is_plain_entry(
         return false;
     }
     is_plain_tuple(page.piece(at.off, at.len), specs, key, tid)
+}
+
+// The number of the key of a tuple of a leaf, where it is a plain one without null bits.
+#[inline(always)]
+fn plain_prefix(tuple: &[u8], specs: &[KeySpec]) -> Option<u64>
+    requires few { length specs.now ≤ 8 }
+    requires aligned { All HasAlignment (key_types specs.now) }
+    requires long { 8 ≤ length tuple.now }
+    ensures { IfSome result (λ number. (killed : Bool)
+        → HasPrefix specs.now (tuple_outcome specs.now [] Spot3.LeafItem tuple.now killed) killed number) }
+{
+    let head = plain_head(tuple)?;
+    let first = plain_first_value(specs, body_of(tuple, head))?;
+    Some(key_prefix(specs, &[first]))
+}
+
+/// The number of the key of item i of a leaf, counted from 1, by its first value
+/// ([`key_prefix`](key_orders::key_prefix)), where the item is one entry in an index without included columns and that
+/// is told by its bytes as they lie: it is no list of TIDs, has no nulls, and each value is of a fixed length or a
+/// varlena with a header of one byte. `None` says nothing.
+#[inline]
+#[tactic(auto, unfolding(crate::specs::Items::item_outcome))]
+pub fn plain_entry_prefix(page: PageView<'_>, i: u16, specs: &[KeySpec]) -> Option<u64>
+    requires page { page_rule_of PageKind.Tree (page_bytes page) ≡ None }
+    requires first { 1 ≤ i }
+    requires last { i ≤ count_of (page_bytes page) }
+    requires few { length specs.now ≤ 8 }
+    requires aligned { All HasAlignment (key_types specs.now) }
+    ensures { IfSome result (IsPlainEntry specs.now (page_bytes page.entry) i) }
+{
+    let at = page.item(i);
+    if at.is_misplaced_tree_item(page.u16_at(PD_UPPER)) {
+        return None;
+    }
+    plain_prefix(page.piece(at.off, at.len), specs)
 }

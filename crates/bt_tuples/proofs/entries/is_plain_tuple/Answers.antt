@@ -1,10 +1,9 @@
-use Rattle.std.proofs.Common.{◌≡◌, Bool, ap, sym, subst, ◌∙◌, [], List, ℕ}
+use Rattle.std.proofs.Common.{◌≡◌, ap, sym, subst, ◌∙◌, List, ℕ}
 use Rattle.std.specs.Prelude.{None, Ok}
 use Rattle.std.proofs.lemmas.Bool.{OnTrue_at, OnTrue_from}
-use Rattle.key_orders.specs.declared.Tid.{Tid}
 use Rattle.varlena_attrs.specs.Keyed.{key_types, key_values}
 use Rattle.bt_meta.specs.declared.records.TreeHead.{TreeHead}
-use Rattle.bt_tuples.specs.Tuples.{body_in, plain_tid}
+use Rattle.bt_tuples.specs.Tuples.{plain_tid}
 use Rattle.bt_tuples.proofs.Plain.{outcome}
 use Rattle.bt_tuples.proofs.entries.is_plain_tuple.Goals as goal
 
