@@ -5,6 +5,7 @@ pub mod Placed
 pub mod Plain
 pub mod Orders
 pub mod Passing
+pub mod Rising
 pub mod Among
 pub mod Lists
 pub mod Finding

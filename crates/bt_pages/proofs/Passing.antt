@@ -17,7 +17,7 @@ both_true true true p q = refl
 both_true true false p q = q
 both_true false b p q = absurd cc
 
-second_false : (a b : Bool) → b ≡ false → (a && b) ≡ false
+pub second_false : (a b : Bool) → b ≡ false → (a && b) ≡ false
 second_false true b q = q
 second_false false b q = refl
 

@@ -35,6 +35,11 @@ unfoldable pub pass_of : List KeySpec → List MoreSpec → List ℕ → Pass
 pass_of specs more page =
     pass_by (is_half_dead (opaque_of page)) (are_plain specs more page (count_of page)) (is_disordered specs more page)
 
+-- the items 1 to n are plain, and each is above the one before it
+pub record RiseTo (specs : List KeySpec) (more : List MoreSpec) (page : List ℕ) (n : ℕ) : Type 0 where
+  pub plain : are_plain specs more page n ≡ true
+  pub order : are_disordered specs more page n ≡ false
+
 -- the key that is carried past item i: that of its last entry, from item 1 on
 pub record IsCarried (specs : List KeySpec) (more : List MoreSpec) (page : List ℕ) (i : ℕ) (key : SepRef) : Type 0 where
   pub fits : IsKeySeparator specs (separator_of key)

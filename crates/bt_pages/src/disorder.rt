@@ -8,40 +8,14 @@ ghost use Rattle.varlena_attrs.specs.Keyed.{key_types, more_types};
 ghost use Rattle.bt_meta.specs.Flags.{is_half_dead};
 ghost use Rattle.bt_meta.specs.Pages.{opaque_of};
 ghost use Rattle.tree_image.specs.Pages.{breaks_high_key, breaks_order};
-ghost use Rattle.bt_pages.specs.Passes.{IsCarried};
 ghost use Rattle.bt_pages.specs.Questions.{are_plain, breaks_on_page};
 
-use crate::order::is_past_high_key;
+use crate::high_key::{is_past_high_key, last_key_at};
 use crate::turns::read_item;
 use bt_tuples::ItemKeys;
-use key_orders::{KeySpec, MoreSpec, SepRef};
+use key_orders::{KeySpec, MoreSpec};
 use page_layout::{PageKind, PageView, Rule};
-use tree_image::{ItemPlaces, spot_of};
-
-// The key of the last entry of item i; before the first item none is kept.
-fn last_key_at<'p>(page: PageView<'p>, i: u16, specs: &[KeySpec], more: &[MoreSpec]) -> SepRef<'p>
-    requires page { page_rule_of PageKind.Tree (page_bytes page) ≡ None }
-    requires last { i ≤ count_of (page_bytes page) }
-    requires few { length specs.now ≤ 8 }
-    requires few_more { length more.now ≤ 24 }
-    requires aligned { All HasAlignment (key_types specs.now) }
-    requires aligned_more { All HasAlignment (more_types more.now) }
-    requires live { is_half_dead (opaque_of (page_bytes page)) ≡ false }
-    requires plain { are_plain specs.now more.now (page_bytes page) (count_of (page_bytes page)) ≡ true }
-    ensures { IsCarried specs.now more.now (page_bytes page.entry) i result }
-{
-    let mut keys = ItemKeys::new();
-    if i == 0 {
-        return keys.first;
-    }
-    match keys.read(page, i, specs, more, spot_of(page, i)) {
-        Err(_) => keys.first,
-        Ok(()) => {
-            keys.keep_last();
-            keys.first
-        }
-    }
-}
+use tree_image::ItemPlaces;
 
 // Whether an item breaks B10.
 fn is_low_item(page: PageView<'_>, i: u16, specs: &[KeySpec], more: &[MoreSpec]) -> bool

@@ -5,7 +5,7 @@ use Rattle.tree_image.specs.Image.{item_at, separator_in}
 use Rattle.bt_pages.specs.Questions.{is_plain}
 use Rattle.bt_pages.proofs.Orders.{high_key-none}
 use Rattle.bt_pages.proofs.Plain.{at_spot, fits-separator, item-means, plain-unread}
-use Rattle.bt_pages.proofs.order.is_past_high_key.Goals as goal
+use Rattle.bt_pages.proofs.high_key.is_past_high_key.Goals as goal
 
 pub returns-then-not-has_high_key : goal.returns-then-not-has_high_key
 returns-then-not-has_high_key c = sym (high_key-none c.args.specs.now c.args.more.now (page_bytes c.args.page) (sym c.has_high_key.ensures ∙ c.if-not-has_high_key.true))

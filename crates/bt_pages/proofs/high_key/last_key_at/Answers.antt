@@ -6,7 +6,7 @@ use Rattle.tree_image.specs.Image.{item_at}
 use Rattle.bt_pages.specs.Questions.{is_plain}
 use Rattle.bt_pages.proofs.Passing.{plain-each}
 use Rattle.bt_pages.proofs.Plain.{at_spot, fits-last, item-means, nothing-fits, plain-unread}
-use Rattle.bt_pages.proofs.disorder.last_key_at.Goals as goal
+use Rattle.bt_pages.proofs.high_key.last_key_at.Goals as goal
 
 pub returns-then-i-eq0 : goal.returns-then-i-eq0
 returns-then-i-eq0 c = record {
