@@ -1,5 +1,5 @@
 //! A relation in segments.
-ghost use Rattle.std.specs.Prelude.{◌≡◌, ◌+◌, ◌<◌, ◌≤◌, ◌⊎◌, IfErr, IfOk, IfSome, OnOk, drop, length, take};
+ghost use Rattle.std.specs.Prelude.{◌≡◌, ◌+◌, ◌*◌, ◌<◌, ◌≤◌, ◌⊎◌, IfErr, IfOk, IfSome, OnOk, drop, length, take};
 ghost use Rattle.outside.specs.Outside.{AskedAtMost, IfTold, Tells};
 ghost use Rattle.rel_files.specs.Blocks.{block_of};
 ghost use Rattle.rel_files.specs.Faults.{read_fault};
@@ -24,6 +24,7 @@ pub struct Relation {
 impl Relation {
     ghost use Rattle.rel_files.specs.Relation.{FindsFront, IsAttached, IsPast, IsRefused, IsRelationOf, base_of};
     ghost use Rattle.rel_files.specs.Relation.{count_of, long_of, size_of};
+    ghost use Rattle.rel_files.specs.Ahead.{AreBlocks, IsRun};
 
     /// Attaches a relation, whose name without a segment's number is `base`. `segment_blocks` is the
     /// number of blocks of a full segment, 1 to 131072 (131072 in a server as it is built by
@@ -165,6 +166,40 @@ impl Relation {
             part: Part::Segment(segment),
         };
         files.read_at(name, 8192 * place as u64 + at as u64, out)?;
+        Ok(())
+    }
+
+    // How many blocks from one on can be read at once: at most so many, and of its segment alone.
+    pub(crate) fn run_from(&self, b: u32, most: u32) -> u32
+        requires below { b < count_of self.now }
+        requires some { 1 ≤ most }
+        ensures run { IsRun self.now b result }
+        ensures most { result ≤ most }
+    {
+        let left = self.segment_blocks - b % self.segment_blocks;
+        most.min(left).min(self.blocks - b)
+    }
+
+    // Reads blocks of one segment that follow one another into `out`.
+    pub(crate) fn read_run<F: Files>(
+        &self,
+        files: &mut F,
+        b: u32,
+        count: u32,
+        out: &mut [u8],
+    ) -> Result<(), ReadFault>
+        requires attached { IfTold F.seen files.old (λ names. IsAttached names self.now) }
+        requires run { IsRun self.now b count }
+        requires room { length out.old ≡ 8192 * count }
+        ensures bytes { OnOk result (IfTold F.seen files.old (λ names. AreBlocks names self.now b count out.new)) }
+        ensures asked { AskedAtMost 1 F.seen files.old files.new result read_fault }
+    {
+        let name = FileName {
+            base: self.base.as_str(),
+            part: Part::Segment(b / self.segment_blocks),
+        };
+        let place = b % self.segment_blocks;
+        files.read_at(name, 8192 * place as u64, out)?;
         Ok(())
     }
 }
