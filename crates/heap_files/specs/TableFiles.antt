@@ -2,7 +2,9 @@
 use Rattle.std.specs.Prelude.{ℕ, List}
 use Rattle.std.specs.Option.{option_copied}
 use Rattle.outside.specs.Outside.{Names}
+use Rattle.rel_files.specs.Ahead.{IsAheadOf}
 use Rattle.rel_files.specs.Blocks.{block_of}
+use Rattle.rel_files.specs.declared.ahead.Ahead.{Ahead}
 use Rattle.rel_files.specs.Relation.{IsAttached, base_of, count_of, long_of, size_of}
 use Rattle.rel_files.specs.declared.relation.Relation.{Relation}
 use Rattle.heap_pages.specs.Found.{FoundLists}
@@ -14,10 +16,11 @@ use Rattle.heap_files.specs.Relations.{block_found, blocks_found, table_found}
 use Rattle.heap_files.specs.declared.map.MapPage.{MapPage}
 use Rattle.heap_files.specs.declared.relations.TableFile.{TableFile}
 
--- the table's file is attached, and its map where it has one; and what is in hand of a map is a page of that one
-pub record AreAtHand (names : Names) (file : TableFile) (hand : MapPage) : Type 0 where
+-- the table's file is attached, and its map where it has one; and what is in hand are pages of these
+pub record AreAtHand (names : Names) (file : TableFile) (ahead : Ahead) (hand : MapPage) : Type 0 where
   pub relation : IsAttached names file.relation.now
   pub map : IsMapAttached names (option_copied file.map)
+  pub pages : IsAheadOf names file.relation.now ahead
   pub page : IsOptionalMapInHand names (option_copied file.map) hand
 
 -- its pages

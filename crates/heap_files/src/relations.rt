@@ -1,7 +1,9 @@
 //! Judges the blocks of a table's file.
 ghost use Rattle.std.specs.Prelude.{◌≡◌, ◌+◌, ◌<◌, [], None, IfOk, OnOk};
-ghost use Rattle.outside.specs.Outside.{Asked, IfTold};
+ghost use Rattle.outside.specs.Outside.{Asked, IfTold, Names};
+ghost use Rattle.rel_files.specs.Ahead.{IsAheadOf};
 ghost use Rattle.rel_files.specs.Relation.{count_of};
+ghost use Rattle.rel_files.specs.declared.relation.Relation.{Relation as Related};
 ghost use Rattle.heap_pages.specs.Found.{both_found, nothing_found, only_listed};
 ghost use Rattle.heap_pages.specs.Table.{AreReadable, rel_of};
 ghost use Rattle.heap_files.specs.Relations.{segment_found};
@@ -15,7 +17,7 @@ use heap_pages::{Found, PageInHand, TableKind, TableRules, Work, judge_table_pag
 use liveness::Transactions;
 use outside::NoMemory;
 use page_layout::{PageView, Rule};
-use rel_files::Relation;
+use rel_files::{Ahead, Relation};
 use reports::{PageFault, Place};
 use root_set::RootSet;
 use std::alloc::Global;
@@ -27,11 +29,11 @@ pub(crate) struct TableFile<'a> {
     pub(crate) map: Option<&'a Relation>,
 }
 
-/// What is in hand while a table is judged: a page of it, a page of its visibility map, what was found, and which
-/// of its line pointers an index entry may name.
+/// What is in hand while a table is judged: pages of it, a page of its visibility map, what was found, and which of its
+/// line pointers an index entry may name.
 #[derive(Drop)]
 pub(crate) struct Hands {
-    pub(crate) page: [u8; 8192],
+    pub(crate) ahead: Ahead,
     pub(crate) map: MapPage,
     pub(crate) work: Work,
     pub(crate) targets: RootSet,
@@ -47,12 +49,13 @@ pub(crate) struct JudgedFile {
 impl Hands {
     /// No page is in hand, and nothing was found.
     pub(crate) fn new(alloc: Global) -> Result<Hands, NoMemory>
+        ensures ahead { IfOk result (λ hands. (names : Names) (r : Related) → IsAheadOf names r hands.ahead) }
         ensures map { IfOk result (λ hands. hands.map.block ≡ None) }
         ensures found { IfOk result (λ hands. hands.work.found ≡ nothing_found) }
         ensures targets { IfOk result (λ hands. hands.targets ≡ []) }
     {
         Ok(Hands {
-            page: [0u8; 8192],
+            ahead: Ahead::new(),
             map: MapPage::new(),
             work: Work::new(alloc)?,
             targets: RootSet::new(alloc),
@@ -72,7 +75,7 @@ impl Hands {
     }
 }
 
-// Reads a block of a table into the page, judges it, and adds its line pointers to those of the blocks before.
+// Takes a block of a table in hand, judges it, and adds its line pointers to those of the blocks before.
 fn judge_block<F: Transactions>(
     files: &mut F,
     table: &TableRules<'_>,
@@ -82,18 +85,18 @@ fn judge_block<F: Transactions>(
 ) -> Result<(), PageFault>
     requires columns { AreReadable table.now.columns.now }
     requires inside { block < count_of file.relation.now }
-    requires at_hand { IfTold F.seen files.old (λ names. AreAtHand names file hands.old.map) }
+    requires at_hand { IfTold F.seen files.old (λ names. AreAtHand names file hands.old.ahead hands.old.map) }
     ensures found { OnOk result (IfTold F.seen files.old (λ names.
         hands.new.work.found ≡ both_found hands.old.work.found (found_of_block names table.now file.entry block))) }
     ensures targets { IfTold F.seen files.old (λ names.
         HasTargets (pages_in names file.entry.relation.now) block hands.old.targets
         → OnOk result (HasTargets (pages_in names file.entry.relation.now) (block + 1) hands.new.targets)) }
-    ensures at_hand { IfTold F.seen files.old (λ names. AreAtHand names file.entry hands.new.map) }
+    ensures at_hand { IfTold F.seen files.old (λ names. AreAtHand names file.entry hands.new.ahead hands.new.map) }
     ensures asked { Asked F.seen files.old files.new result PageFault.ReadFault }
 {
     let bits = hands.map.bits_of(files, file.map, block)?;
-    file.relation.read_block(files, block, &mut hands.page)?;
-    let view = PageView::new(&hands.page);
+    hands.ahead.take(files, file.relation, block)?;
+    let view = PageView::new(hands.ahead.page(block));
     judge_table_page(
         files,
         table,
@@ -113,7 +116,7 @@ fn judge_blocks<F: Transactions>(
     hands: &mut Hands,
 ) -> Result<(), PageFault>
     requires columns { AreReadable table.now.columns.now }
-    requires at_hand { IfTold F.seen files.old (λ names. AreAtHand names file hands.old.map) }
+    requires at_hand { IfTold F.seen files.old (λ names. AreAtHand names file hands.old.ahead hands.old.map) }
     ensures found { OnOk result (IfTold F.seen files.old (λ names.
         hands.new.work.found ≡ both_found hands.old.work.found (found_of_blocks names table.now file.entry))) }
     ensures targets { IfTold F.seen files.old (λ names.
@@ -145,7 +148,7 @@ pub(crate) fn judge_table<F: Transactions>(
     hands: &mut Hands,
 ) -> Result<(), PageFault>
     requires columns { AreReadable table.now.columns.now }
-    requires at_hand { IfTold F.seen files.old (λ names. AreAtHand names file hands.old.map) }
+    requires at_hand { IfTold F.seen files.old (λ names. AreAtHand names file hands.old.ahead hands.old.map) }
     ensures found { OnOk result (IfTold F.seen files.old (λ names.
         hands.new.work.found ≡ both_found hands.old.work.found (found_of_table names table.now file.entry))) }
     ensures targets { IfTold F.seen files.old (λ names.

@@ -31,6 +31,7 @@ judge_table-requires-clause-at_hand g c names told =
     record {
       relation = files.heap.attached;
       map = rw c.as_ref.ensures.value (map_is_attached names _ _ _ c.args.at.now.map files.map);
+      pages = c.in_ok-hands.ensures.ahead names c.args.at.now.heap;
       page = rw c.as_ref.ensures.value (c.in_ok-judge_map.ensures.hand names after_toast);
     }
 

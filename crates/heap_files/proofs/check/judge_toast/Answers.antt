@@ -7,6 +7,7 @@ pub judge_table-requires-clause-at_hand : goal.judge_table-requires-clause-at_ha
 judge_table-requires-clause-at_hand g c names told = record {
   relation = (toast_of c.args.case.now names c.in-Some.relation (rw c.in-Some.is at (c.requires.told names told).toast) (rw c.in-Some.is at c.requires.belong.toast)).attached.attached;
   map = tt;
+  pages = c.in_ok-hands-in-Some.ensures.ahead names c.in-Some.relation;
   page = tt;
 }
 
