@@ -7,7 +7,7 @@ use crate::files::TreeFile;
 use bt_walks::TreeShape;
 use key_orders::KeySpec;
 use outside::Files;
-use rel_files::ReadFault;
+use rel_files::{Ahead, ReadFault};
 
 /// The file of an index, in which nothing was found and nothing stayed unjudged, with the columns of its
 /// key and what its levels have. It stores none of its bytes: it is used with the files and the case that
@@ -26,6 +26,7 @@ impl SoundTree {
     ghost use Rattle.key_orders.specs.Types.{HasAlignment};
     ghost use Rattle.varlena_attrs.specs.Keyed.{key_types};
     ghost use Rattle.outside.specs.Outside.{AskedAtMost, IfTold};
+    ghost use Rattle.rel_files.specs.Ahead.{IsAheadOf, IsInHand, page_in_hand};
     ghost use Rattle.rel_files.specs.Blocks.{block_of};
     ghost use Rattle.rel_files.specs.Faults.{read_fault};
     ghost use Rattle.rel_files.specs.Relation.{IsAttached, base_of, count_of, size_of};
@@ -103,5 +104,26 @@ impl SoundTree {
         ensures asked { AskedAtMost 1 F.seen files.old files.new result read_fault }
     {
         self.file.relation.read_block(files, b, out)
+    }
+
+    /// Takes a block of it in hand, which is read together with some that follow it where it isn't there;
+    /// blocks count from 0. `ReadFault` comes only where the files couldn't be read, and no block is then
+    /// in hand.
+    pub fn take_ahead<F: Files>(
+        &self,
+        files: &mut F,
+        b: u32,
+        ahead: &mut Ahead,
+    ) -> Result<(), ReadFault>
+        requires attached { IfTold F.seen files.old (λ names. IsAttached names (relation_of (file_of self.now))) }
+        requires below { b < count_of (relation_of (file_of self.now)) }
+        requires hand { IfTold F.seen files.old (λ names. IsAheadOf names (relation_of (file_of self.now)) ahead.old) }
+        ensures hand { IfTold F.seen files.old (λ names. IsAheadOf names (relation_of (file_of self.now)) ahead.new) }
+        ensures taken { OnOk result (IsInHand ahead.new b) }
+        ensures bytes { OnOk result (IfTold F.seen files.old (λ names. page_in_hand ahead.new b
+            ≡ block_of names (base_of (relation_of (file_of self.now))) (size_of (relation_of (file_of self.now))) b)) }
+        ensures asked { AskedAtMost 1 F.seen files.old files.new result read_fault }
+    {
+        ahead.take(files, &self.file.relation, b)
     }
 }

@@ -11,7 +11,7 @@ ghost use Rattle.indexed_rules.specs.Lists.{entries_lists, indexed_lists, rows_l
 ghost use Rattle.heap_indexed.specs.Joined.{BelongTogether, HoldTogether};
 ghost use Rattle.heap_indexed.specs.Looking.{AreOf, look_up_visits, visits_spent};
 
-use crate::joined::{IndexedHeap, LookUps, RUN_BLOCKS, RUN_BYTES, new_hand, new_look_ups};
+use crate::joined::{IndexedHeap, LookUps, RUN_BLOCKS, RUN_BYTES, new_look_ups};
 use crate::nearness::Nearness;
 use crate::rows::{Walk, columns_of};
 use crate::waiting::Waiting;
@@ -33,7 +33,6 @@ fn run_for(alloc: Global, blocks: u32) -> Result<KeyRun, NoMemory>
 
 // Adds each entry of an index that names what no entry may name.
 fn check_entries<F: Files>(
-    alloc: Global,
     files: &mut F,
     at: IndexedHeap<'_>,
     report: &mut Report,
@@ -45,8 +44,7 @@ fn check_entries<F: Files>(
     ensures asked { Asked F.seen files.old files.new result PageFault.ReadFault }
 {
     set_tells_of_pages();
-    let mut hand = new_hand(alloc)?;
-    check_targets(files, at.tree, at.heap.targets(), &mut hand, report)
+    check_targets(files, at.tree, at.heap.targets(), report)
 }
 
 // Judges the rows of a heap one after another.
@@ -132,6 +130,6 @@ pub fn check_indexed<F: Files>(
 {
     let mut look_ups = new_look_ups(alloc, at.heap.heap().blocks())?;
     probe_rows(alloc, files, at, &mut look_ups, report)?;
-    check_entries(alloc, files, at, report)?;
+    check_entries(files, at, report)?;
     Ok(())
 }

@@ -9,7 +9,7 @@ ghost use Rattle.indexed_rules.specs.Lists.{indexed_lists};
 ghost use Rattle.heap_indexed.specs.Joins.{BelongToIt, EachFor, HasPagesOf, HoldIt, IsDone, IsReady, columns_of_all};
 ghost use Rattle.heap_indexed.specs.Waiting.{columns_in};
 
-use crate::joined::{IndexedTable, new_hand};
+use crate::joined::IndexedTable;
 use crate::joins::Join;
 use crate::rows::columns_of;
 use bt_levels::SoundTree;
@@ -98,12 +98,11 @@ fn reports_on<F: Files>(
 {
     set_tells_of_pages();
     at.case.sound();
-    let mut hand = new_hand(alloc)?;
     let mut joins = new_joins(alloc, at.heap.heap().blocks(), at.trees)?;
     let columns = columns_of_all(alloc, at.trees)?;
     let mut cursor = RowCursor::new(alloc, at.case, at.heap, &columns)?;
     at.judge_rows(alloc, files, &mut joins, &mut cursor)?;
-    at.finish(files, &mut joins, at.heap.targets(), &mut hand)?;
+    at.finish(files, &mut joins, at.heap.targets())?;
     let reports = reports_of(alloc, joins)?;
     Ok(reports)
 }

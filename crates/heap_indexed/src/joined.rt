@@ -96,9 +96,3 @@ pub fn new_look_ups(alloc: Global, blocks: u32) -> Result<LookUps, NoMemory>
         saved: 0,
     })
 }
-
-/// Memory for a page.
-pub fn new_hand(alloc: Global) -> Result<Box<[u8; 8192]>, NoMemory> {
-    let hand = Box::new(alloc, [0; 8192])?;
-    Ok(hand)
-}

@@ -156,7 +156,6 @@ impl Join {
         files: &mut F,
         tree: &SoundTree,
         targets: &RootSet,
-        hand: &mut [u8; 8192],
     ) -> Result<(), PageFault>
         requires keyed { AreKeyed tree.now self.old.waiting }
         requires holds { IfTold F.seen files.old (λ names. HoldsTree names tree.now) }
@@ -168,7 +167,7 @@ impl Join {
     {
         self.waiting
             .finish(files, tree, &mut self.look_ups, &mut self.report)?;
-        check_targets(files, tree, targets, hand, &mut self.report)
+        check_targets(files, tree, targets, &mut self.report)
     }
 }
 
@@ -274,7 +273,6 @@ impl IndexedTable<'_> {
         files: &mut F,
         joins: &mut [Join],
         targets: &RootSet,
-        hand: &mut [u8; 8192],
     ) -> Result<(), PageFault>
         requires keyed { EachFor (λ tree join. AreKeyed tree join.waiting) self.trees.now joins.old }
         requires hold { IfTold F.seen files.old (λ names. HoldIt names self) }
@@ -286,7 +284,7 @@ impl IndexedTable<'_> {
     {
         let trees = self.trees;
         for j in 0..trees.len() {
-            joins[j].finish(files, &trees[j], targets, hand)?;
+            joins[j].finish(files, &trees[j], targets)?;
         }
         Ok(())
     }

@@ -1,6 +1,5 @@
 use Rattle.std.proofs.Common.{Bool, List, subst}
 use Rattle.outside.specs.Adds.{AddsIn}
-use Rattle.outside.proofs.Adding.{Adds-exit, Begins-none}
 use Rattle.reports.specs.Added.{report_lists}
 use Rattle.reports.specs.Lists.{Lists}
 use Rattle.bt_levels.specs.Files.{number_of}
@@ -11,11 +10,6 @@ use Rattle.indexed_rules.specs.Lists.{entries_lists}
 use Rattle.heap_indexed.proofs.Cases.{entries-are}
 use Rattle.heap_indexed.proofs.Pages.{set-says}
 use Rattle.heap_indexed.proofs.check.check_entries.Goals as goal
-
-pub returns-in_err-hand-clause-lists : goal.returns-in_err-hand-clause-lists
-returns-in_err-hand-clause-lists g c = λ names told.
-    let owed = entries_lists c.args.at.case.now names (number_of (file_of c.args.at.tree.now)) in
-    Adds-exit report_lists c.from_residual.result _ c.args.report.now c.args.report.now owed c.from_residual.ensures.1 (Begins-none report_lists c.args.report.now owed)
 
 pub check_targets-requires : goal.check_targets-requires
 check_targets-requires g c = record { holds = λ names told. (c.requires.hold names told).tree }

@@ -5,7 +5,7 @@ use Rattle.outside.specs.declared.files.Failed.{Failed}
 use Rattle.outside.specs.Outside.{AskedWithin, Names, Seen, failed}
 use Rattle.outside.proofs.Adding.{Adds-exit}
 use Rattle.outside.proofs.Asking.{PassedAtMost-none}
-use Rattle.bt_levels.specs.Files.{number_of}
+use Rattle.bt_levels.specs.Files.{number_of, relation_of}
 use Rattle.bt_levels.specs.Sound.{block_count, file_of, held_block, specs_of}
 use Rattle.reports.specs.Added.{each_upto, joined, report_lists}
 use Rattle.reports.specs.Lists.{Lists}
@@ -28,9 +28,13 @@ passed-more g h = grind (arith, common_steps)
 pub judge_block-requires-clause-holds : goal.judge_block-requires-clause-holds
 judge_block-requires-clause-holds g c names told = c.requires.holds names (sym c.loop-k.invariant.asked.same ∙ told)
 
+pub judge_block-requires-clause-hand : goal.judge_block-requires-clause-hand
+judge_block-requires-clause-hand g c names told = c.loop-k.invariant.hand names (sym c.loop-k.invariant.asked.same ∙ told)
+
 pub loop-k-init : goal.loop-k-init
 loop-k-init g c = record {
   lists = λ names told. upto-none report_lists (of-block c.args.tree.now (is_in c.args.targets.now) names) c.args.report.now;
+  hand = λ names told. c.new-ahead.ensures names (relation_of (file_of c.args.tree.now));
   asked = PassedAtMost-none;
 }
 
@@ -39,6 +43,7 @@ loop-k-preserved g c = record {
   lists = λ names told.
       upto-next report_lists (of-block c.args.tree.now (is_in c.args.targets.now) names) c.loop-k.k c.args.report.now c.loop-k.report c.judge_block.new.report (c.loop-k.invariant.lists names told)
       (c.in_ok-judge_block.ensures.lists names (c.loop-k.invariant.asked.same ∙ told));
+  hand = λ names told. c.in_ok-judge_block.ensures.hand names (c.loop-k.invariant.asked.same ∙ told);
   asked = passed-more c.loop-k.invariant.asked c.in_ok-judge_block.ensures.asked;
 }
 

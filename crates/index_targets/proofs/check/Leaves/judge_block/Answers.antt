@@ -23,8 +23,8 @@ readable-by s t p q same-specs same-page h =
     subst (λ (x : List KeySpec). is_live_leaf p ≡ true → IsReadable x p) (sym same-specs)
     (subst (λ (x : List ℕ). is_live_leaf x ≡ true → IsReadable t x) (sym same-page) h)
 
-pub returns-in_err-read_block-clause-lists : goal.returns-in_err-read_block-clause-lists
-returns-in_err-read_block-clause-lists g c names told =
+pub returns-in_err-take_ahead-clause-lists : goal.returns-in_err-take_ahead-clause-lists
+returns-in_err-take_ahead-clause-lists g c names told =
     let tree = c.args.self.tree.now in
     Adds-exit report_lists c.from_residual.result _ c.args.report.now c.args.report.now (leaf_lists (number_of (file_of tree)) (specs_of tree) (is_in c.args.self.targets.now) c.args.b (held_block names tree c.args.b)) c.from_residual.ensures.1
     (Begins-none report_lists c.args.report.now _)
@@ -32,9 +32,9 @@ returns-in_err-read_block-clause-lists g c names told =
 pub returns-clause-lists : goal.returns-clause-lists
 returns-clause-lists g c names told =
     let tree = c.args.self.tree.now in
-    let page = c.in_ok-read_block.ensures.bytes names told in
+    let page = c.page.ensures ∙ c.in_ok-take_ahead.ensures.bytes names told in
     let not-meta = c.requires.not_meta in
     let some : c.args.b ≢ 0 = λ e. absurd (omega (arith, not-meta, e)) in
-    let readable = readable-by c.specs.result.now (specs_of tree) c.read_block.new.out (held_block names tree c.args.b) c.specs.ensures page (block-readable names tree (c.requires.holds names told) c.args.b some c.requires.below) in
+    let readable = readable-by c.specs.result.now (specs_of tree) c.page.result.now (held_block names tree c.args.b) c.specs.ensures page (block-readable names tree (c.requires.holds names told) c.args.b some c.requires.below) in
     c.in_ok-judge_page.ensures readable
     ∙ (λ i. joined c.args.report.now (leaf_lists (c.index.ensures i) (c.specs.ensures i) (is_in c.args.self.targets.now) c.args.b (page i)))
