@@ -19,7 +19,7 @@ use Rattle.bt_tuples.specs.Keys.{first_key, key_with, last_key}
 use Rattle.bt_tuples.specs.Plain.{IsPlainEntry}
 use Rattle.tree_image.specs.Image.{first_data, has_high_key, item_at, spot_of}
 use Rattle.tree_image.specs.Pages.{breaks_high_key, breaks_order, first_compared, is_key_below}
-use Rattle.tree_image.proofs.PageFields.{leaf_spot}
+use Rattle.tree_image.proofs.PageFields.{first_cases, leaf_spot}
 use Rattle.bt_pages.specs.declared.pass.Pass.TheVariants.{Ordered}
 use Rattle.bt_pages.specs.Passes.{RiseTo, pass_by, pass_of}
 use Rattle.bt_pages.specs.Questions.{is_plain}
@@ -43,6 +43,9 @@ module _ (specs : List KeySpec) (more : List MoreSpec) (page : List ℕ) where
       let here : i - 1 + 1 ≡ i = omega arith in
       subst (RiseTo specs more page) here
       (rise-next (i - 1) so (ap (is_plain specs more page) here ∙ plain) (order-first specs more page (i - 1 + 1) (omega (arith, here, first))))
+
+  pub rise-high_key : is_plain specs more page 1 ≡ true → RiseTo specs more page 1
+  rise-high_key plain = rise-first 1 (omega arith) (first_cases page) rise-none plain
 
   pub rise-pass : is_half_dead (opaque_of page) ≡ false → RiseTo specs more page (count_of page) → breaks_high_key specs more page ≡ false → pass_of specs more page ≡ Ordered
   unfolding pass_of

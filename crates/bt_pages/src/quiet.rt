@@ -4,20 +4,18 @@ ghost use Rattle.std.specs.Prelude.{◌≡◌, ◌≤◌, ◌-◌, [], length, t
 ghost use Rattle.std.specs.Bool.{OnTrue};
 ghost use Rattle.page_layout.specs.Page.{count_of, page_rule_of};
 ghost use Rattle.page_layout.specs.View.{page_bytes};
-ghost use Rattle.key_orders.specs.Keys.{IsKeySeparator};
-ghost use Rattle.key_orders.specs.Separators.{separator_of};
 ghost use Rattle.key_orders.specs.Types.{HasAlignment};
 ghost use Rattle.varlena_attrs.specs.Keyed.{key_types, more_types};
 ghost use Rattle.bt_meta.specs.Flags.{is_half_dead, is_leaf};
 ghost use Rattle.bt_meta.specs.Pages.{opaque_of};
-ghost use Rattle.tree_image.specs.Image.{first_data, item_at, separator_in};
+ghost use Rattle.tree_image.specs.Image.{first_data, has_high_key};
 ghost use Rattle.bt_pages.specs.Passes.{RiseTo, pass_of};
 ghost use Rattle.bt_pages.specs.declared.pass.Pass.TheVariants.{Ordered};
 
 use crate::high_key::{last_key_at, separator_in};
 use bt_meta::opaque;
 use bt_tuples::{Spot3, plain_entry_prefix, tree_item};
-use key_orders::{KeySpec, MoreSpec, SepRef};
+use key_orders::{KeySpec, MoreSpec};
 use page_layout::{PageKind, PageView};
 use tree_image::{breaks_high_key, first_data, has_high_key};
 
@@ -31,8 +29,8 @@ fn do_entries_rise(page: PageView<'_>, first: u16, specs: &[KeySpec]) -> bool
     requires leaf { is_leaf (opaque_of (page_bytes page)) ≡ true }
     requires first { first ≡ first_data (page_bytes page) }
     requires some { first ≤ count_of (page_bytes page) }
-    requires before { RiseTo specs.now [] (page_bytes page) (first - 1) }
-    ensures { OnTrue result (RiseTo specs.now [] (page_bytes page.entry) (count_of (page_bytes page.entry))) }
+    ensures { OnTrue result (RiseTo specs.now [] (page_bytes page.entry) (first - 1)
+        → RiseTo specs.now [] (page_bytes page.entry) (count_of (page_bytes page.entry))) }
 {
     let Some(mut last) = plain_entry_prefix(page, first, specs) else {
         return false;
@@ -51,32 +49,27 @@ fn do_entries_rise(page: PageView<'_>, first: u16, specs: &[KeySpec]) -> bool
     true
 }
 
-// The same of a leaf with a high key, and whether its last entry isn't above that.
-fn do_entries_rise_to(
-    page: PageView<'_>,
-    specs: &[KeySpec],
-    more: &[MoreSpec],
-    high: &SepRef<'_>,
-) -> bool
+// Whether the last of such items isn't above the high key of the leaf, which is plain too.
+fn has_plain_high_key(page: PageView<'_>, specs: &[KeySpec], more: &[MoreSpec]) -> bool
     requires page { page_rule_of PageKind.Tree (page_bytes page) ≡ None }
     requires few { length specs.now ≤ 8 }
     requires few_more { length more.now ≤ 24 }
     requires aligned { All HasAlignment (key_types specs.now) }
     requires aligned_more { All HasAlignment (more_types more.now) }
-    requires alone { more.now ≡ [] }
     requires live { is_half_dead (opaque_of (page_bytes page)) ≡ false }
-    requires leaf { is_leaf (opaque_of (page_bytes page)) ≡ true }
-    requires some { first_data (page_bytes page) ≤ count_of (page_bytes page) }
-    requires before { RiseTo specs.now [] (page_bytes page) (first_data (page_bytes page) - 1) }
-    requires fits { IsKeySeparator specs.now (separator_of high.now) }
-    requires high { separator_of high.now ≡ separator_in (item_at specs.now more.now (page_bytes page) 1) }
+    requires high { has_high_key (page_bytes page) ≡ true }
+    requires some { 1 ≤ count_of (page_bytes page) }
+    requires rise { RiseTo specs.now more.now (page_bytes page) 1
+        → RiseTo specs.now more.now (page_bytes page) (count_of (page_bytes page)) }
     ensures { OnTrue result (pass_of specs.now more.now (page_bytes page.entry) ≡ Ordered) }
 {
-    if !do_entries_rise(page, first_data(page), specs) {
-        return false;
+    match tree_item(page, 1, specs, more, Spot3::HighKey) {
+        Err(_) => false,
+        Ok(item) => {
+            let last = last_key_at(page, page.item_count(), specs, more);
+            !breaks_high_key(page, specs, &last, &separator_in(item))
+        }
     }
-    let last = last_key_at(page, page.item_count(), specs, more);
-    !breaks_high_key(page, specs, &last, high)
 }
 
 // Whether a leaf that isn't half-dead has plain entries alone, which rise by their first values and aren't above its
@@ -94,11 +87,11 @@ pub fn is_quiet_leaf(page: PageView<'_>, specs: &[KeySpec], more: &[MoreSpec]) -
     if !more.is_empty() || !opaque(page).is_leaf() || page.item_count() < first {
         return false;
     }
+    if !do_entries_rise(page, first, specs) {
+        return false;
+    }
     if !has_high_key(page) {
-        return do_entries_rise(page, first, specs);
+        return true;
     }
-    match tree_item(page, 1, specs, more, Spot3::HighKey) {
-        Err(_) => false,
-        Ok(item) => do_entries_rise_to(page, specs, more, &separator_in(item)),
-    }
+    has_plain_high_key(page, specs, more)
 }

@@ -82,7 +82,7 @@ fn plain_prefix(tuple: &[u8], specs: &[KeySpec]) -> Option<u64>
 /// ([`key_prefix`](key_orders::key_prefix)), where the item is one entry in an index without included columns and that
 /// is told by its bytes as they lie: it is no list of TIDs, has no nulls, and each value is of a fixed length or a
 /// varlena with a header of one byte. `None` says nothing.
-#[inline]
+#[inline(always)]
 #[tactic(auto, unfolding(crate::specs::Items::item_outcome))]
 pub fn plain_entry_prefix(page: PageView<'_>, i: u16, specs: &[KeySpec]) -> Option<u64>
     requires page { page_rule_of PageKind.Tree (page_bytes page) ≡ None }

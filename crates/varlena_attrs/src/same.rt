@@ -56,7 +56,7 @@ pub fn has_plain_key(specs: &[KeySpec], body: &[u8], key: &KeyRefs<'_>) -> bool
 /// The first value of the key in an index tuple without null bits, which has this body, where each column of the key is
 /// found by the least that tells it: a value of a fixed length, or a varlena with a header of one byte. `None` says
 /// nothing.
-#[inline]
+#[inline(always)]
 pub fn plain_first_value<'p>(specs: &[KeySpec], body: &'p [u8]) -> Option<ValueRef<'p>>
     requires few { length specs.now ≤ 8 }
     requires aligned { All HasAlignment (key_types specs.now) }

@@ -18,7 +18,7 @@ loop-k-init c =
     let from : first_data page ≤ c.args.first = omega (arith, c.requires.first) in
     let plain = entry-plain specs page c.requires.live c.requires.leaf c.args.first c.in-Some.last from c.in-Some.ensures in
     record {
-      rise = rise-first specs [] page c.args.first (omega (arith, one, c.requires.first)) (omega (arith, c.requires.first)) c.requires.before plain;
+      rise = λ before. rise-first specs [] page c.args.first (omega (arith, one, c.requires.first)) (omega (arith, c.requires.first)) before plain;
       entry = c.in-Some.ensures;
     }
 
@@ -29,11 +29,11 @@ loop-k-preserved c =
     let so = c.loop-k.invariant in
     let from : first_data page ≤ c.loop-k.k = omega (arith, c.requires.first, c.loop-k.auto.k) in
     record {
-      rise = rise-entry specs page c.requires.live c.requires.leaf c.loop-k.k c.loop-k.last c.in-Some-plain_entry_prefix.number from so.entry c.in-Some-plain_entry_prefix.ensures c.if-number-last.false so.rise;
+      rise = λ before. rise-entry specs page c.requires.live c.requires.leaf c.loop-k.k c.loop-k.last c.in-Some-plain_entry_prefix.number from so.entry c.in-Some-plain_entry_prefix.ensures c.if-number-last.false (so.rise before);
       entry = c.in-Some-plain_entry_prefix.ensures;
     }
 
 pub returns : goal.returns
 returns c =
     let last : c.loop-k.k ≡ count_of (page_bytes c.args.page) = omega (arith, c.loop-k-test.false, c.loop-k.auto.k-end, c.item_count-k-end.ensures.value, c.requires.some) in
-    subst (RiseTo c.args.specs.now [] (page_bytes c.args.page)) last c.loop-k.invariant.rise
+    λ before. subst (RiseTo c.args.specs.now [] (page_bytes c.args.page)) last (c.loop-k.invariant.rise before)
