@@ -1,6 +1,6 @@
 -- The pages of a heap in which nothing was found: none breaks a rule of its own, so no block has more rows than 2042.
-use Rattle.std.proofs.Common.{◌≡◌, ◌∙◌, ℕ, zero, suc, ◌-◌, ◌*◌, ◌/◌, ◌%◌, ◌<◌, ◌≤◌, Bool, true, false, List, [], ◌∷◌, length, refl, ap, subst, arith, length-append}
-use Rattle.std.specs.Prelude.{Option, Some, None, not, ◌&&◌, ◌==◌, ◌||◌, nat_le, nat_lt, if◌then◌else◌}
+use Rattle.std.proofs.Common.{◌≡◌, ◌∙◌, ℕ, zero, suc, ◌-◌, ◌*◌, ◌/◌, ◌%◌, ◌<◌, ◌≤◌, Bool, true, false, List, [], ◌∷◌, length, refl, ap, arith, length-append}
+use Rattle.std.specs.Prelude.{Option, Some, None, not, ◌&&◌, ◌==◌, ◌||◌, nat_le, if◌then◌else◌}
 use Rattle.std.proofs.lemmas.Bool.Decides.{nat_tests}
 use Rattle.outside.specs.Adds.{each_below, one_list}
 use Rattle.outside.specs.Outside.{Names}

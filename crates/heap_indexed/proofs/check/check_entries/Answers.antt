@@ -2,11 +2,8 @@ use Rattle.std.proofs.Common.{Bool, List, subst}
 use Rattle.outside.specs.Adds.{AddsIn}
 use Rattle.reports.specs.Added.{report_lists}
 use Rattle.reports.specs.Lists.{Lists}
-use Rattle.bt_levels.specs.Files.{number_of}
-use Rattle.bt_levels.specs.Sound.{file_of}
 use Rattle.root_set.specs.Targets.{is_in}
 use Rattle.heap_files.specs.Case.{heap_blocks, heap_page}
-use Rattle.indexed_rules.specs.Lists.{entries_lists}
 use Rattle.heap_indexed.proofs.Cases.{entries-are}
 use Rattle.heap_indexed.proofs.Pages.{set-says}
 use Rattle.heap_indexed.proofs.check.check_entries.Goals as goal

@@ -36,7 +36,7 @@ judge_rows-requires-clause-rows g c = λ names told.
 
 pub judge_rows-requires-clause-pages : goal.judge_rows-requires-clause-pages
 judge_rows-requires-clause-pages g c = λ names told.
-    subst (λ (js : List Join). EachFor (HasPagesOf names) c.args.at.trees.now js) (sym c.deref_mut-2.ensures.value) (c.in_ok-joins.ensures.pages names)
+    subst (λ (js : List Join). EachFor (HasPagesOf names) c.args.at.trees.now js) (sym c.deref_mut.ensures.value) (c.in_ok-joins.ensures.pages names)
 
 pub judge_rows-requires-clause-few : goal.judge_rows-requires-clause-few
 judge_rows-requires-clause-few g c = λ names told.
@@ -51,8 +51,8 @@ finish-requires-clause-keyed g c =
     subst (λ (ks : List ℕ). AreAsked ks c.in_ok-cursor.cursor.asked) (c.deref.ensures.value ∙ c.in_ok-columns.ensures) c.in_ok-cursor.ensures.asked in
     let before : length c.in_ok-joins.joins.items ≡ length c.args.at.trees.now = (c.in_ok-joins.ensures.ready c.in_ok-cursor.cursor.asked asked).same in
     let after : length c.judge_rows.new.joins ≡ length c.args.at.trees.now = c.judge_rows.ensures.ready.same in
-    let back = written-back c.in_ok-joins.joins.len c.judge_rows.new.joins c.in_ok-joins.joins.items (omega (arith, before, after, c.deref_mut-2.ensures.len, ap length c.deref_mut-2.ensures.value)) in
-    subst (λ (js : List Join). EachFor (λ (tree : SoundTree) (join : Join). AreKeyed tree join.waiting) c.args.at.trees.now js) (sym (c.deref_mut-3.ensures.value ∙ back))
+    let back = written-back c.in_ok-joins.joins.len c.judge_rows.new.joins c.in_ok-joins.joins.items (omega (arith, before, after, c.deref_mut.ensures.len, ap length c.deref_mut.ensures.value)) in
+    subst (λ (js : List Join). EachFor (λ (tree : SoundTree) (join : Join). AreKeyed tree join.waiting) c.args.at.trees.now js) (sym (c.deref_mut-2.ensures.value ∙ back))
     (each-map (IsReady (asked_at c.in_ok-cursor.cursor)) (λ (tree : SoundTree) (join : Join). AreKeyed tree join.waiting) c.args.at.trees.now c.judge_rows.new.joins (λ tree join ready. ready.keyed) c.judge_rows.ensures.ready)
 
 pub finish-requires-clause-hold : goal.finish-requires-clause-hold
@@ -62,8 +62,8 @@ pub finish-requires-clause-pages : goal.finish-requires-clause-pages
 finish-requires-clause-pages g c = λ names told.
     let before : length c.in_ok-joins.joins.items ≡ length c.args.at.trees.now = (c.in_ok-joins.ensures.pages names).same in
     let after : length c.judge_rows.new.joins ≡ length c.args.at.trees.now = c.judge_rows.ensures.ready.same in
-    let back = written-back c.in_ok-joins.joins.len c.judge_rows.new.joins c.in_ok-joins.joins.items (omega (arith, before, after, c.deref_mut-2.ensures.len, ap length c.deref_mut-2.ensures.value)) in
-    subst (λ (js : List Join). EachFor (HasPagesOf names) c.args.at.trees.now js) (sym (c.deref_mut-3.ensures.value ∙ back))
+    let back = written-back c.in_ok-joins.joins.len c.judge_rows.new.joins c.in_ok-joins.joins.items (omega (arith, before, after, c.deref_mut.ensures.len, ap length c.deref_mut.ensures.value)) in
+    subst (λ (js : List Join). EachFor (HasPagesOf names) c.args.at.trees.now js) (sym (c.deref_mut-2.ensures.value ∙ back))
     (c.judge_rows.ensures.pages names (sym c.judge_rows.ensures.asked.same ∙ told))
 
 pub returns-clause-reports : goal.returns-clause-reports
@@ -75,15 +75,15 @@ returns-clause-reports g c = λ names told.
     let rows = rows_ahead names c.in_ok-cursor.cursor in
     let set : List (List Bool) = c.targets.result.now in
     let says = set-says case names heap c.requires.belong.heap hold.heap set c.targets.ensures (c.set_tells_of_pages.ensures.tells (heap_page case names) (heap_blocks case names)) in
-    let start : EachFor (IsDone names []) trees c.deref_mut-2.result.now =
-    subst (λ (js : List Join). EachFor (IsDone names []) trees js) (sym c.deref_mut-2.ensures.value) (c.in_ok-joins.ensures.done names) in
+    let start : EachFor (IsDone names []) trees c.deref_mut.result.now =
+    subst (λ (js : List Join). EachFor (IsDone names []) trees js) (sym c.deref_mut.ensures.value) (c.in_ok-joins.ensures.done names) in
     let before : length c.in_ok-joins.joins.items ≡ length trees = (c.in_ok-joins.ensures.pages names).same in
     let after : length c.judge_rows.new.joins ≡ length trees = c.judge_rows.ensures.ready.same in
-    let back = written-back c.in_ok-joins.joins.len c.judge_rows.new.joins c.in_ok-joins.joins.items (omega (arith, before, after, c.deref_mut-2.ensures.len, ap length c.deref_mut-2.ensures.value)) in
+    let back = written-back c.in_ok-joins.joins.len c.judge_rows.new.joins c.in_ok-joins.joins.items (omega (arith, before, after, c.deref_mut.ensures.len, ap length c.deref_mut.ensures.value)) in
     let passed : EachFor (IsDone names rows) trees c.judge_rows.new.joins =
     subst (λ (rs : List LiveRow). EachFor (IsDone names rs) trees c.judge_rows.new.joins) refl (c.in_ok-judge_rows.ensures.done names told start) in
-    let gone : EachFor (IsDone names rows) trees c.deref_mut-3.result.now =
-    subst (λ (js : List Join). EachFor (IsDone names rows) trees js) (sym (c.deref_mut-3.ensures.value ∙ back)) passed in
+    let gone : EachFor (IsDone names rows) trees c.deref_mut-2.result.now =
+    subst (λ (js : List Join). EachFor (IsDone names rows) trees js) (sym (c.deref_mut-2.ensures.value ∙ back)) passed in
     let judged : EachFor (IsJudged names rows set) trees c.finish.new.joins = c.in_ok-finish.ensures.judged names (c.judge_rows.ensures.asked.same ∙ told) rows gone in
     let all : EachFor (λ (tree : SoundTree) (join : Join). join.report ≡ indexed_lists case names (number_of (file_of tree))) trees c.finish.new.joins = record {
       same = judged.same;
@@ -95,5 +95,5 @@ returns-clause-reports g c = λ names told.
           ∙ (λ i. joined (rows-are case names tree index file rows (c.in_ok-cursor.ensures.all names) i) (entries-are case names tree index file (is_in set) says i))
           ∙ sym (both-are case names (number_of (file_of tree)));
     } in
-    let end = written-back c.in_ok-joins.joins.len c.finish.new.joins _ (omega (arith, before, all.same, c.deref_mut-2.ensures.len, ap length c.deref_mut-2.ensures.value)) in
+    let end = written-back c.in_ok-joins.joins.len c.finish.new.joins _ (omega (arith, before, all.same, c.deref_mut.ensures.len, ap length c.deref_mut.ensures.value)) in
     c.in_ok-reports.ensures ∙ ap (λ (js : List Join). map (λ (join : Join). join.report) js) end ∙ reports-are (λ (tree : SoundTree). indexed_lists case names (number_of (file_of tree))) trees c.finish.new.joins all
