@@ -40,8 +40,6 @@ step_there ctype natts k body place start len found lt step is =
 pub none_packed : (found : Found) (start len column : ℕ) (body : List ℕ) → found ≡ record { place = at.Plain start len; next = start + len } → None ≡ packed_here (is_packed (shown_at body found.place)) column
 none_packed found start len column body is = rw is refl
 
--- THE FIRST VALUE
-
 -- the value that is found so, with those before it
 pub told_there : (specs : List KeySpec) (e : KeySpec) (body : List ℕ) (k place start len : ℕ) (values : List Value) (v : Value) (found : Found) → k < length specs
     → stored_at (get_or specs k e).ctype body place ≡ Ok (Plain (take len (drop start body)), start + len) → found ≡ record { place = at.Plain start len; next = start + len } → v ≡ attribute_value (get_or specs k e).ctype (shown_at body found.place)
@@ -52,6 +50,8 @@ told_there specs e body k place start len values v found lt step is value =
     let rest = key_types (drop (k + 1) specs) in
     ap (λ (ts : List ColType). told_after values None k ts (read_inline ts None (length specs) body k place)) (key_types-drop specs k e lt)
     ∙ past_column values None k ctype rest None (length specs) body place found.next (shown_at body found.place) v None (step_there ctype (length specs) k body place start len found lt step is) value (none_packed found start len (k + 1) body is)
+
+-- THE FIRST VALUE
 
 pub begins_first : (specs : List KeySpec) (e : KeySpec) (body : List ℕ) (start len : ℕ) (v : Value) (found : Found) → 0 < length specs
     → stored_at (get_or specs 0 e).ctype body 0 ≡ Ok (Plain (take len (drop start body)), start + len) → found ≡ record { place = at.Plain start len; next = start + len } → v ≡ attribute_value (get_or specs 0 e).ctype (shown_at body found.place)

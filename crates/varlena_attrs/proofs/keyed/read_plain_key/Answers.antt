@@ -1,15 +1,13 @@
 use Rattle.std.proofs.Common.{◌≡◌, ◌+◌, ℕ, List, [], drop, get_or, length, refl, sym, ap, ◌∙◌, arith}
 use Rattle.std.specs.Prelude.{None, false}
 use Rattle.std.proofs.lemmas.List.{length-append, length-map}
-use Rattle.key_orders.specs.declared.columns.ColType.{ColType}
 use Rattle.key_orders.specs.declared.columns.ColType.TheVariants.{Bool as BoolType}
 use Rattle.key_orders.specs.declared.columns.KeySpec.{KeySpec}
 use Rattle.key_orders.specs.declared.columns.Value.{Value}
 use Rattle.varlena_attrs.specs.Keyed.{key_types, read_inline}
 use Rattle.varlena_attrs.specs.KeyedShown.{told_after}
-use Rattle.varlena_attrs.specs.Shown.{shown_at}
-use Rattle.varlena_attrs.proofs.Keying.{fits_push, key_aligned, key_types-drop, past_column, told_end, told_none}
-use Rattle.varlena_attrs.proofs.PlainKeys.{long_there, none_packed, step_there}
+use Rattle.varlena_attrs.proofs.Keying.{fits_push, key_aligned, told_end, told_none}
+use Rattle.varlena_attrs.proofs.PlainKeys.{long_there, told_there}
 use Rattle.varlena_attrs.proofs.keyed.read_plain_key.Goals as goal
 
 -- before the first column and after the last one
@@ -43,17 +41,13 @@ loop-spec-preserved c =
     let body = c.args.body.now in
     let k = c.loop-spec.spec-index in
     let none : KeySpec = record { column = 0; ctype = BoolType; desc = false; nulls_first = false } in
-    let ctype = (get_or specs k none).ctype in
-    let rest = key_types (drop (k + 1) specs) in
     let found = c.found-found.result in
     let piece = c.in-Some.piece in
-    let step = step_there ctype (length specs) k body c.loop-spec.place piece.start piece.len found c.loop-spec-test.true c.in-Some.ensures.step c.found-found.ensures in
     record {
       told =
           c.loop-spec.invariant.told
-          ∙ ap (λ (ts : List ColType). told_after c.loop-spec.key None k ts (read_inline ts None (length specs) body k c.loop-spec.place)) (key_types-drop specs k none c.loop-spec-test.true)
-          ∙ past_column c.loop-spec.key None k ctype rest None (length specs) body c.loop-spec.place found.next (shown_at body found.place) _ None step c.value_at.ensures.value (none_packed found piece.start piece.len (k + 1) body c.found-found.ensures)
-          ∙ ap (λ key. told_after key None (k + 1) rest (read_inline rest None (length specs) body (k + 1) c.found-found.result.next)) (sym c.push.ensures);
+          ∙ told_there specs none body k c.loop-spec.place piece.start piece.len c.loop-spec.key _ found c.loop-spec-test.true c.in-Some.ensures.step c.found-found.ensures c.value_at.ensures.value
+          ∙ ap (λ key. told_after key None (k + 1) (key_types (drop (k + 1) specs)) (read_inline (key_types (drop (k + 1) specs)) None (length specs) body (k + 1) found.next)) (sym c.push.ensures);
       count = rw c.push.ensures (length-append c.loop-spec.key _ ∙ rw c.loop-spec.invariant.count refl);
       fits = rw c.push.ensures (fits_push specs c.loop-spec.key _ none k c.loop-spec.invariant.count c.loop-spec-test.true c.loop-spec.invariant.fits c.value_at.ensures.fits);
       within = rw c.found-found.ensures c.in-Some.ensures.within;

@@ -1,7 +1,6 @@
 use Rattle.std.proofs.Common.{◌≡◌, ◌+◌, ◌<◌, ◌≤◌, ◌++◌, ◌∷◌, List, [], drop, take, get_or, length, sym, ap, ◌∙◌, arith}
 use Rattle.std.specs.Prelude.{None, Ok, false}
 use Rattle.std.proofs.lemmas.List.{get_or-map, length-map, take_all, take_more}
-use Rattle.key_orders.specs.declared.columns.ColType.{ColType}
 use Rattle.key_orders.specs.declared.columns.ColType.TheVariants.{Bool as BoolType}
 use Rattle.key_orders.specs.declared.columns.KeySpec.{KeySpec}
 use Rattle.key_orders.specs.declared.columns.Value.{Value}
@@ -9,9 +8,8 @@ use Rattle.key_orders.specs.declared.columns.ValueRef.TheVariants as ref
 use Rattle.key_orders.specs.Values.{value_shown}
 use Rattle.varlena_attrs.specs.Keyed.{key_types, read_inline}
 use Rattle.varlena_attrs.specs.KeyedShown.{told_after}
-use Rattle.varlena_attrs.specs.Shown.{shown_at}
-use Rattle.varlena_attrs.proofs.Keying.{key_aligned, key_types-drop, past_column, told_end, told_none}
-use Rattle.varlena_attrs.proofs.PlainKeys.{long_there, none_packed, step_there}
+use Rattle.varlena_attrs.proofs.Keying.{key_aligned, told_end, told_none}
+use Rattle.varlena_attrs.proofs.PlainKeys.{long_there, told_there}
 use Rattle.varlena_attrs.proofs.same.has_plain_key.Goals as goal
 
 pub loop-k-init : goal.loop-k-init
@@ -33,8 +31,6 @@ loop-k-preserved c =
     let body = c.args.body.now in
     let k = c.loop-k.k in
     let none : KeySpec = record { column = 0; ctype = BoolType; desc = false; nulls_first = false } in
-    let ctype = (get_or specs k none).ctype in
-    let rest = key_types (drop (k + 1) specs) in
     let found = c.found-found.result in
     let piece = c.in-Some.piece in
     let values = c.as_slice-values.result.now in
@@ -47,13 +43,11 @@ loop-k-preserved c =
     ap (λ (vs : List Value). get_or vs k shown) (sym c.as_slice-values.ensures.values)
     ∙ get_or-map value_shown values k ref.Null shown (let t = c.loop-k-test.true in omega (arith, t, many)) ∙ sym c.if-not-is_same.ensures in
     let more : take (k + 1) key ≡ take k key ++ shown ∷ [] = take_more key k shown lt ∙ ap (λ (v : Value). take k key ++ v ∷ []) here in
-    let step = step_there ctype (length specs) k body c.loop-k.place piece.start piece.len found c.loop-k-test.true c.in-Some.ensures.step c.found-found.ensures in
     record {
       told =
           c.loop-k.invariant.told
-          ∙ ap (λ (ts : List ColType). told_after (take k key) None k ts (read_inline ts None (length specs) body k c.loop-k.place)) (key_types-drop specs k none c.loop-k-test.true)
-          ∙ past_column (take k key) None k ctype rest None (length specs) body c.loop-k.place found.next (shown_at body found.place) shown None step c.value_at.ensures.value (none_packed found piece.start piece.len (k + 1) body c.found-found.ensures)
-          ∙ ap (λ (vs : List Value). told_after vs None (k + 1) rest (read_inline rest None (length specs) body (k + 1) found.next)) (sym more);
+          ∙ told_there specs none body k c.loop-k.place piece.start piece.len (take k key) shown found c.loop-k-test.true c.in-Some.ensures.step c.found-found.ensures c.value_at.ensures.value
+          ∙ ap (λ (vs : List Value). told_after vs None (k + 1) (key_types (drop (k + 1) specs)) (read_inline (key_types (drop (k + 1) specs)) None (length specs) body (k + 1) found.next)) (sym more);
       within = rw c.found-found.ensures c.in-Some.ensures.within;
     }
 
