@@ -3,7 +3,7 @@ ghost use Rattle.std.specs.Prelude.{◌≡◌, ◌≤◌, length, All};
 ghost use Rattle.key_orders.specs.Types.{HasAlignment};
 ghost use Rattle.varlena_attrs.specs.Keyed.{key_types, more_types};
 
-use crate::{ItemFault, Spot3, TreeItem, tree_item};
+use crate::{ItemFault, Spot3, TreeItem, plain_entry_prefix, tree_item};
 use key_orders::{ColType, KeySpec, MoreSpec, Tid, ValueRef};
 use page_layout::{PageKind, PageView, Rule};
 use std::process::Abort;
@@ -91,6 +91,17 @@ fn read<'p>(
     tree_item(page, i, specs, more, spot)
 }
 
+// The number of an entry of a page that breaks no page rule.
+fn prefix(rt: &impl Abort, bytes: &[u8; 8192], i: u16, specs: &[KeySpec]) -> Option<u64>
+    requires few { length specs.now ≤ 8 }
+    requires aligned { All HasAlignment (key_types specs.now) }
+{
+    let page = PageView::new(bytes);
+    assert!(rt; page.page_rule(PageKind::Tree).is_none());
+    assert!(rt; 1 <= i && i <= page.item_count());
+    plain_entry_prefix(page, i, specs)
+}
+
 fn is_int(value: ValueRef<'_>, want: i64) -> bool {
     match value {
         ValueRef::Int(n) => n == want,
@@ -138,6 +149,14 @@ fn a_leaf_as_a_server_writes_it(rt: HostRuntime) -> Result<(), Fail> {
     assert_eq!(rt; tid, Tid { block: 0, item: 2 });
     assert!(rt; !killed);
     Ok(())
+}
+
+#[test]
+fn numbers_of_entries(rt: HostRuntime) {
+    let bytes = leaf();
+    let specs = [key_of(ColType::Int4)];
+    assert_eq!(rt; prefix(&rt, &bytes, 1, &specs), Some(0x8000_0000_0000_0005));
+    assert_eq!(rt; prefix(&rt, &bytes, 3, &specs), Some(0x8000_0000_0000_0009));
 }
 
 #[test]
