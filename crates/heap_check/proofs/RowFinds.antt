@@ -19,7 +19,7 @@ use Rattle.heap_files.specs.Case.{table_of}
 use Rattle.heap_check.specs.declared.row_page.RowPage.{RowPage}
 use Rattle.heap_check.specs.declared.row_values.ValueSources.{ValueSources}
 use Rattle.heap_check.specs.RowPages.{IsBodyOf, IsRowFound}
-use Rattle.heap_check.specs.RowValues.{AreCellsAsked, AreValuesOf, AsksColumns, FitTypes, bytes_seen, column_asked, count_asked}
+use Rattle.heap_check.specs.RowValues.{AreCellsAsked, AreStarts, AreValuesOf, AsksColumns, FitTypes, bytes_seen, column_asked, count_asked}
 use Rattle.heap_check.specs.Rows.{cell_at, row_at, toast_bytes}
 use Rattle.heap_check.proofs.RowBodies.{end_of_item, item_inside}
 use Rattle.heap_check.proofs.RowCells.{cell_there, cells_long}
@@ -47,6 +47,9 @@ row_found case names from new i state verdict live are fit cells =
 
 pub asks : (case : CaseRecord) (names : Names) (from : ValueSources) → AreValuesOf case names from → AsksColumns (length from.columns.now) from.asked.now
 asks case names from are = subst (λ (cs : List Column). AsksColumns (length cs) from.asked.now) (sym are.columns) are.asked
+
+pub starts_are : (case : CaseRecord) (names : Names) (from : ValueSources) → AreValuesOf case names from → AreStarts (map (λ c. c.ctype) from.columns.now) from.asked.now from.starts.now
+starts_are case names from are = subst (λ (cs : List Column). AreStarts (map (λ c. c.ctype) cs) from.asked.now from.starts.now) (sym are.columns) are.starts
 
 pub attrs_are : (found : Option TupleParts) (attrs : TupleParts) (P : TupleParts → Type 0) → found ≡ Some attrs → IsSomeAnd found P → P attrs
 attrs_are found attrs P is has = subst (λ (o : Option TupleParts). IsSomeAnd o P) is has

@@ -25,7 +25,7 @@ use Rattle.heap_files.specs.Files.{IsToastIn, IsToastNamed, chunks_in, toast_in}
 use Rattle.heap_files.proofs.ColumnLaws.{columns_aligned}
 use Rattle.heap_check.specs.RowCursor.{IsAtRow, IsCursorOf, asked_at, case_at, heap_at, rows_ahead, rows_unread}
 use Rattle.heap_check.specs.RowPages.{HasPlaces, IsInHand, IsNext, rows_in_hand}
-use Rattle.heap_check.specs.RowValues.{AreValuesOf, AsksColumns, IsReadable, bytes_seen}
+use Rattle.heap_check.specs.RowValues.{AreStarts, AreValuesOf, AsksColumns, IsReadable, bytes_seen}
 use Rattle.heap_check.specs.RowFits.{HasMissing}
 use Rattle.heap_check.specs.Rows.{block_rows, bytes_in_toast, each_from, toast_bytes}
 use Rattle.heap_check.specs.declared.row_page.RowPage.{RowPage}
@@ -79,13 +79,16 @@ readable names cursor toast chunks is same are =
     (subst (λ (t : Option Relation). IsReadable names t (chunks_in (heap_at cursor))) (sym is)
     (readable_by (case_at cursor) names _ (toast_in (heap_at cursor)) (chunks_in (heap_at cursor)) refl are.heap.files.toast are.belong.toast are.heap.chunks))
 
-pub values_are : (names : Names) (cursor : RowCursor) (from : ValueSources) → option_copied from.toast ≡ toast_in (heap_at cursor) → from.chunks.now ≡ chunks_in (heap_at cursor) → from.columns.now ≡ (case_at cursor).columns → from.asked.now ≡ asked_at cursor → IsCursorOf names cursor → AreValuesOf (case_at cursor) names from
-values_are names cursor from toast chunks columns asked are = record {
+pub values_are : (names : Names) (cursor : RowCursor) (from : ValueSources) → option_copied from.toast ≡ toast_in (heap_at cursor) → from.chunks.now ≡ chunks_in (heap_at cursor) → from.columns.now ≡ (case_at cursor).columns → from.asked.now ≡ asked_at cursor → from.starts.now ≡ cursor.starts.items → IsCursorOf names cursor → AreValuesOf (case_at cursor) names from
+values_are names cursor from toast chunks columns asked starts are = record {
   columns = columns;
   bytes = λ p.
       ap (λ (t : Option Relation). bytes_seen names t from.chunks.now p) toast
       ∙ bytes_by (case_at cursor) names _ (toast_in (heap_at cursor)) from.chunks.now p refl are.belong.toast (chunks ∙ are.heap.chunks);
   asked = subst (AsksColumns (length (case_at cursor).columns)) (sym asked) are.asked;
+  starts =
+      subst (λ (ss : List (Option ℕ)). AreStarts (map (λ (c : Column). c.ctype) (case_at cursor).columns) from.asked.now ss) (sym starts)
+      (subst (λ (a : AskedColumns). AreStarts (map (λ (c : Column). c.ctype) (case_at cursor).columns) a cursor.starts.items) (sym asked) are.starts);
 }
 
 pub in_hand : (names : Names) (cursor : RowCursor) (from : ValueSources) → option_copied from.toast ≡ toast_in (heap_at cursor) → from.chunks.now ≡ chunks_in (heap_at cursor) → IsCursorOf names cursor → IsInHand (case_at cursor) names (option_copied from.toast) from.chunks.now cursor.page
@@ -100,13 +103,14 @@ unfolding rows_ahead rows_unread
 ahead_is names cursor = refl
 
 -- the cursor with another page in hand
-pub moved : (names : Names) (cursor : RowCursor) (page : RowPage) (next : ℕ) → IsCursorOf names cursor → page.count ≤ 2042 → IsInHand (case_at cursor) names (toast_in (heap_at cursor)) (chunks_in (heap_at cursor)) page → (page.found ≡ true → IsNext (case_at cursor) names cursor.asked page) → IsCursorOf names (record { case = cursor.case; heap = cursor.heap; asked = cursor.asked; logs = cursor.logs; page = page; next = next })
+pub moved : (names : Names) (cursor : RowCursor) (page : RowPage) (next : ℕ) → IsCursorOf names cursor → page.count ≤ 2042 → IsInHand (case_at cursor) names (toast_in (heap_at cursor)) (chunks_in (heap_at cursor)) page → (page.found ≡ true → IsNext (case_at cursor) names cursor.asked page) → IsCursorOf names (record { case = cursor.case; heap = cursor.heap; asked = cursor.asked; starts = cursor.starts; logs = cursor.logs; page = page; next = next })
 moved names cursor page next are few hand found = record {
   heap = are.heap;
   belong = are.belong;
   quiet = are.quiet;
   logs = are.logs;
   asked = are.asked;
+  starts = are.starts;
   few = few;
   hand = hand;
   next = found;
@@ -129,15 +133,15 @@ module _ {S E : Type 0} (seen : S → Seen) (files : S) (old : RowCursor) (page 
   done_by (Ok found) none = λ names held not. none names held (case_at old) not (told names held).few
   done_by (Err e) none = tt
 
-  pub next_by : (result : Result Bool E) (from : ValueSources) → option_copied from.toast ≡ toast_in (heap_at old) → from.chunks.now ≡ chunks_in (heap_at old) → from.columns.now ≡ (case_at old).columns → from.asked.now ≡ asked_at old
+  pub next_by : (result : Result Bool E) (from : ValueSources) → option_copied from.toast ≡ toast_in (heap_at old) → from.chunks.now ≡ chunks_in (heap_at old) → from.columns.now ≡ (case_at old).columns → from.asked.now ≡ asked_at old → from.starts.now ≡ old.starts.items
       → IfOk result (λ found. page.found ≡ found) → OnErr result (page.found ≡ false)
       → IfOk result (λ found. IfTold seen files (λ names. (case : CaseRecord) → found ≡ true → IsInHand case names (option_copied from.toast) from.chunks.now old.page → AreValuesOf case names from → IsNext case names from.asked.now page))
       → IfTold seen files (λ names. page.found ≡ true → IsNext (case_at old) names old.asked page)
-  next_by (Ok found) from toast chunks columns asked is err next = λ names held yes.
+  next_by (Ok found) from toast chunks columns asked starts is err next = λ names held yes.
       let here = told names held in
       subst (λ (a : AskedColumns). IsNext (case_at old) names a page) asked
-      (next names held (case_at old) (sym is ∙ yes) (in_hand names old from toast chunks here) (values_are names old from toast chunks columns asked here))
-  next_by (Err e) from toast chunks columns asked is err next = λ names held yes. absurd (false≢true (sym err ∙ yes))
+      (next names held (case_at old) (sym is ∙ yes) (in_hand names old from toast chunks here) (values_are names old from toast chunks columns asked starts here))
+  next_by (Err e) from toast chunks columns asked starts is err next = λ names held yes. absurd (false≢true (sym err ∙ yes))
 
 pub at_row_by : {E : Type 0} (result : Result Bool E) (old new : RowCursor) (columns : List Column) (asked : AskedColumns) → columns ≡ (case_at old).columns → asked ≡ new.asked → case_at new ≡ case_at old
     → IfOk result (λ found. found ≡ true → HasPlaces columns asked new.page) → IfOk result (λ found. found ≡ true → new.page.done < 2042) → IfOk result (λ found. found ≡ true → IsAtRow new)

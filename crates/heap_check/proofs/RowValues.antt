@@ -1,11 +1,12 @@
 -- The values of a row's cells.
-use Rattle.std.proofs.Common.{◌≡◌, ◌⊎◌, inl, inr, ℕ, ◌+◌, ◌<◌, ◌≤◌, Bor, List, [], ◌∷◌, ◌++◌, length, get_or, All, refl, ap, sym, subst, ◌∙◌, arith}
-use Rattle.std.specs.Prelude.{IfSome, map, slice_get, Option, Some, None}
+use Rattle.std.proofs.Common.{◌≡◌, ◌⊎◌, inl, inr, ℕ, ◌+◌, ◌<◌, ◌≤◌, Bor, List, [], ◌∷◌, ◌++◌, length, drop, take, get_or, All, refl, ap, sym, subst, ◌∙◌, arith}
+use Rattle.std.specs.Prelude.{IfOk, IfSome, map, slice_get, Option, Some, None, Result, Ok, Err}
 use Rattle.std.specs.Option.{IsSomeAnd, option_copied}
-use Rattle.outside.specs.Outside.{Names}
+use Rattle.outside.specs.Outside.{Names, Seen, Tells}
 use Rattle.rel_files.specs.Relation.{IsAttached}
 use Rattle.rel_files.specs.declared.relation.Relation.{Relation}
 use Rattle.key_orders.specs.declared.columns.Value.TheVariants as value
+use Rattle.key_orders.specs.Values.{value_in}
 use Rattle.std.proofs.lemmas.List.{get_or-map, get_or_append_left, get_or_push, length-map}
 use Rattle.std.proofs.lemmas.List.Elements.{All-get_or}
 use Rattle.std.proofs.lemmas.Option.{get_or_from_slice_get, slice_get-get_or, slice_get_within}
@@ -13,7 +14,9 @@ use Rattle.key_orders.specs.declared.columns.ColType.{ColType}
 use Rattle.case_file.specs.declared.case.Column.{Column}
 use Rattle.varlena_attrs.specs.Forms.{Attribute}
 use Rattle.varlena_attrs.specs.InTurn.{IsAttributeOf}
+use Rattle.varlena_attrs.specs.Shown.{shown_at}
 use Rattle.varlena_attrs.specs.declared.places.AttrPlace.{AttrPlace}
+use Rattle.varlena_attrs.specs.declared.places.AttrPlace.TheVariants as attr-place
 use Rattle.varlena_attrs.specs.declared.places.ToastPointer.{ToastPointer}
 use Rattle.toast_chunks.specs.Stored.{AllStand}
 use Rattle.toast_chunks.specs.declared.map.Chunk.{Chunk}
@@ -24,7 +27,7 @@ use Rattle.heap_check.specs.declared.row_values.ValuePlace.{ValuePlace}
 use Rattle.heap_check.specs.declared.row_values.ValuePlace.TheVariants as place
 use Rattle.heap_check.specs.Rows.{cell_at, cell_by, cell_of}
 use Rattle.heap_check.specs.RowValues.{AreCellsAsked, FitAsked, FitsColumnAt, FitsPlace, FitsType, IsReadable, asked_cell, cell_shown, column_asked, shown_by}
-use Rattle.heap_check.proofs.RowBodies.{piece_grown}
+use Rattle.heap_check.proofs.RowBodies.{piece_grown, piece_in_piece}
 use Rattle.heap_check.proofs.RowFits.{fits_attribute}
 
 -- Values in the TOAST table
@@ -75,7 +78,7 @@ grown_fit joined more (Some column) (place.OnPage start len) le fits = fits
 grown_fit joined more (Some column) (place.Joined start len) le fits = let h = fits.0 in (omega (arith, h, le), fits.1)
 grown_fit joined more (Some column) place.Packed le fits = fits
 
-before_or_last : (j k : ℕ) → j < k + 1 → (j < k) ⊎ (j ≡ k)
+pub before_or_last : (j k : ℕ) → j < k + 1 → (j < k) ⊎ (j ≡ k)
 before_or_last j k lt = search (arith, inl, inr)
 
 place_before : (places : List ValuePlace) (p : ValuePlace) (j k : ℕ) → length places ≡ k → j < k → get_or (places ++ p ∷ []) j place.Null ≡ get_or places j place.Null
@@ -154,3 +157,43 @@ no_attr (Some at) P has none = none at refl
 pub fits_is : (joined : ℕ) (columns : List Column) (a : ℕ) (d : Column) (found : Option ValuePlace) (p : ValuePlace) → a < length columns → found ≡ Some p → IfSome found (λ at. FitsPlace joined (get_or columns a d).ctype at) → FitsColumnAt joined (slice_get columns a) p
 fits_is joined columns a d found p lt is has =
     subst (λ (o : Option Column). FitsColumnAt joined o p) (sym (column_is columns a d lt)) (found_fits found p (λ at. FitsPlace joined (get_or columns a d).ctype at) is has)
+
+-- The k-th column that is asked for, which has number a
+
+-- a value on the page is the cell of a plain attribute
+pub plain_cell : (bytes : ToastPointer → List ℕ) (column : Column) (page : List ℕ) (start len s n : ℕ) (attr : AttrPlace) → attr ≡ attr-place.Plain s n → s + n ≤ len
+    → ◌≡◌ {A = Cell} (cell.Held (value_in column.ctype (take n (drop (start + s) page)))) (cell_of bytes column (shown_at (take len (drop start page)) attr))
+plain_cell bytes column page start len s n attr is le =
+    ap (λ (piece : List ℕ). cell.Held (value_in column.ctype piece)) (sym (piece_in_piece start len s n page le))
+    ∙ sym (ap (λ (a : AttrPlace). cell_of bytes column (shown_at (take len (drop start page)) a)) is)
+
+pub has_value : {X : Type 0} (found : Option X) (x : X) (P : X → Type 0) → found ≡ Some x → IfSome found P → P x
+has_value found x P is has = subst (λ (o : Option _). IfSome o P) is has
+
+-- there is a column of each number
+pub some_column : (columns : List Column) (a : ℕ) → a < length columns → Column
+some_column [] a lt = absurd (omega (arith, lt))
+some_column (c ∷ columns) a lt = c
+
+-- its cell, by the place at which its value was found
+pub shown_there : (bytes : ToastPointer → List ℕ) (page joined : List ℕ) (columns : List Column) (list : List Attribute) (a i : ℕ) (d : Column) (e : Attribute) (found : Option ValuePlace) → a < length columns → slice_get list a ≡ Some e → a ≡ i
+    → IsSomeAnd found (λ at. cell_shown page joined (get_or columns a d) at ≡ cell_of bytes (get_or columns a d) e)
+    → IsSomeAnd found (λ at. shown_by page joined (slice_get columns i) at ≡ cell_at bytes columns list i)
+shown_there bytes page joined columns list a i d e None lt there same has = absurd has
+shown_there bytes page joined columns list a i d e (Some p) lt there same has =
+    subst (λ (n : ℕ). shown_by page joined (slice_get columns n) p ≡ cell_at bytes columns list n) same
+    (shown_is bytes page joined columns list a d e (Some p) p lt there refl has)
+
+-- it may have a value there
+pub fit_there : {E : Type 0} (joined : ℕ) (columns : List Column) (a i : ℕ) (d : Column) (result : Result (Option ValuePlace) E) → a < length columns → a ≡ i
+    → IfOk result (λ found. IfSome found (λ at. FitsPlace joined (get_or columns a d).ctype at))
+    → IfOk result (λ found. IfSome found (λ at. FitsColumnAt joined (slice_get columns i) at))
+fit_there joined columns a i d (Ok None) lt same has = tt
+fit_there joined columns a i d (Ok (Some p)) lt same has =
+    subst (λ (n : ℕ). FitsColumnAt joined (slice_get columns n) p) same (fits_is joined columns a d (Some p) p lt refl has)
+fit_there joined columns a i d (Err e) lt same has = tt
+
+-- what was told of a place
+pub told_then : {S E : Type 0} (result : Result (Option ValuePlace) E) (seen : S → Seen) (files : S) (P Q : Option ValuePlace → Names → Type 0) → ((found : Option ValuePlace) (names : Names) → P found names → Q found names) → Tells seen files result P → Tells seen files result Q
+told_then (Ok found) seen files P Q then says = λ names told. then found names (says names told)
+told_then (Err e) seen files P Q then says = tt

@@ -1,5 +1,5 @@
 -- The cursor over the live rows of a heap: what it stands for, which rows are ahead of it, and which is the next.
-use Rattle.std.specs.Prelude.{◌≡◌, ℕ, ◌-◌, ◌<◌, ◌≤◌, true, List, [], ◌∷◌, ◌++◌, length, Option, Some, None}
+use Rattle.std.specs.Prelude.{◌≡◌, ℕ, ◌-◌, ◌<◌, ◌≤◌, true, List, [], ◌∷◌, ◌++◌, length, map, Option, Some, None}
 use Rattle.outside.specs.Outside.{Names}
 use Rattle.case_file.specs.Record.{CaseRecord}
 use Rattle.heap_files.specs.declared.files.SoundHeap.{SoundHeap}
@@ -13,7 +13,7 @@ use Rattle.heap_check.specs.declared.row_values.AskedColumns.{AskedColumns}
 use Rattle.heap_check.specs.declared.row_values.AskedColumns.TheVariants as asked
 use Rattle.heap_check.specs.declared.rows.LiveRow.{LiveRow}
 use Rattle.heap_check.specs.RowPages.{HasPlaces, IsInHand, IsNext, rows_in_hand}
-use Rattle.heap_check.specs.RowValues.{AsksColumns}
+use Rattle.heap_check.specs.RowValues.{AreStarts, AsksColumns}
 use Rattle.heap_check.specs.Rows.{block_rows, each_from}
 
 -- the case whose rows they are, its heap, and the columns that are asked for
@@ -39,6 +39,7 @@ pub record IsCursorOf (names : Names) (cursor : RowCursor) : Type 0 where
   pub quiet : IsQuiet (case_at cursor) names
   pub logs : log_files_kept cursor.logs ≡ log_files_in (case_at cursor)
   pub asked : AsksColumns (length (case_at cursor).columns) cursor.asked
+  pub starts : AreStarts (map (λ c. c.ctype) (case_at cursor).columns) cursor.asked cursor.starts.items
   pub few : cursor.page.count ≤ 2042
   pub hand : IsInHand (case_at cursor) names (toast_in (heap_at cursor)) (chunks_in (heap_at cursor)) cursor.page
   pub next : cursor.page.found ≡ true → IsNext (case_at cursor) names cursor.asked cursor.page

@@ -1,5 +1,5 @@
 -- Where the values of a row stand that were asked for, and what is asked of them, so that they can be found.
-use Rattle.std.specs.Prelude.{◌≡◌, ℕ, ◌+◌, ◌<◌, ◌≤◌, true, List, [], ◌∷◌, length, take, drop, get_or, slice_get}
+use Rattle.std.specs.Prelude.{◌≡◌, ℕ, ◌+◌, ◌<◌, ◌≤◌, true, List, [], ◌∷◌, length, map, take, drop, get_or, slice_get}
 use Rattle.std.specs.Prelude.{Option, Some, None}
 use Rattle.std.specs.Option.{option_copied}
 use Rattle.outside.specs.Outside.{Names}
@@ -11,6 +11,7 @@ use Rattle.key_orders.specs.Types.{HasLength, fixed_length}
 use Rattle.key_orders.specs.Values.{value_in, value_shown}
 use Rattle.case_file.specs.Record.{CaseRecord}
 use Rattle.case_file.specs.declared.case.Column.{Column}
+use Rattle.varlena_attrs.specs.Inline.{IsLayout}
 use Rattle.varlena_attrs.specs.Forms.{Attribute, Null, Missing, Plain, Packed, External}
 use Rattle.varlena_attrs.specs.declared.places.ToastPointer.{ToastPointer}
 use Rattle.toast_chunks.specs.Chunks.{is_whole}
@@ -111,12 +112,23 @@ column_asked (asked.Only numbers) k = get_or numbers.items k 0
 abbrev pub AsksColumns : ℕ → AskedColumns → Type 0
 AsksColumns n asked = (k : ℕ) → k < count_asked n asked → column_asked asked k < n
 
--- the values are those of a case: its columns, those of them that are asked for, and the bytes in its TOAST table
+-- this is the start that is known of the k-th of them
+pub record IsStart (starts : List (Option ℕ)) (k start : ℕ) : Type 0 where
+  pub inside : k < length starts
+  pub is : get_or starts k None ≡ Some start
+
+-- a start that is known is that of all tuples which store the column and those before it without nulls
+abbrev pub AreStarts : List ColType → AskedColumns → List (Option ℕ) → Type 0
+AreStarts types asked starts = (k start : ℕ) → IsStart starts k start → IsLayout types (column_asked asked k) start
+
+-- the values are those of a case: its columns, those of them that are asked for, where these begin, and the bytes in
+-- its TOAST table
 pub record AreValuesOf (case : CaseRecord) (names : Names) (from : ValueSources) : Type 0 where
   pub columns : from.columns.now ≡ case.columns
   pub bytes : (p : ToastPointer)
       → bytes_seen names (option_copied from.toast) from.chunks.now p ≡ toast_bytes case names p
   pub asked : AsksColumns (length case.columns) from.asked.now
+  pub starts : AreStarts (map (λ c. c.ctype) case.columns) from.asked.now from.starts.now
 
 abbrev pub shown_by : List ℕ → List ℕ → Option Column → ValuePlace → List Cell
 shown_by page joined (Some column) at = cell_shown page joined column at ∷ []

@@ -22,7 +22,7 @@ ghost use Rattle.heap_check.specs.declared.row_values.AskedColumns.TheVariants a
 
 use crate::row_cells::CellRef;
 use crate::row_page::RowPage;
-use crate::row_values::{AskedColumns, ValuePlace, ValueSources};
+use crate::row_values::{AskedColumns, ValuePlace, ValueSources, starts_of};
 use case_file::{Case, Column};
 use heap_files::{CaseLogs, SoundHeap};
 use heap_pages::{TableKind, TableRules, ToastTable};
@@ -50,6 +50,8 @@ pub struct RowCursor<'a> {
     pub(crate) case: &'a Case,
     pub(crate) heap: &'a SoundHeap,
     pub(crate) asked: AskedColumns,
+    // Where the columns that are asked for begin in tuples without nulls, as far as that is known.
+    pub(crate) starts: Vec<Option<usize>>,
     pub(crate) logs: CaseLogs,
     // The block that was read last.
     pub(crate) page: RowPage,
@@ -137,10 +139,13 @@ impl<'a> RowCursor<'a> {
     {
         let logs = CaseLogs::new(alloc, case)?;
         let page = RowPage::new(alloc);
+        case.sound();
+        let starts = starts_of(alloc, case.column_types(), &asked)?;
         Ok(RowCursor {
             case,
             heap,
             asked,
+            starts,
             logs,
             page,
             next: 0,
@@ -187,6 +192,7 @@ impl<'a> RowCursor<'a> {
             toast: heap.toast(),
             chunks: heap.chunks(),
             asked: &self.asked,
+            starts: &self.starts,
         };
         case.sound();
         self.page.find(files, &from, case.column_types())

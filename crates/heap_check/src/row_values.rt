@@ -1,12 +1,13 @@
 //! Where the values of a live tuple stand that are asked for.
 ghost use Rattle.std.specs.Prelude.{◌↔◌, ◌≡◌, ◌+◌, ◌<◌, ◌≤◌, All, List, ℕ, None, Some, length, map, true, [], ◌∷◌};
-ghost use Rattle.std.specs.Prelude.{◌++◌, IfOk, IfSome, OnOk};
+ghost use Rattle.std.specs.Prelude.{◌++◌, IfOk, IfSome, OnOk, slice_get};
 ghost use Rattle.std.specs.Option.{IsSomeAnd, option_copied};
 ghost use Rattle.outside.specs.Outside.{Asked, IfTold, Tells};
-ghost use Rattle.key_orders.specs.Types.{fixed_length};
+ghost use Rattle.key_orders.specs.Types.{HasAlignment, fixed_length};
 ghost use Rattle.key_orders.specs.declared.columns.ColType.{ColType as ColumnType};
 ghost use Rattle.case_file.specs.declared.case.Column.{Column as TableColumn};
 ghost use Rattle.varlena_attrs.specs.Forms.{Attribute};
+ghost use Rattle.varlena_attrs.specs.Inline.{IsLayout};
 ghost use Rattle.varlena_attrs.specs.InTurn.{AreRead};
 ghost use Rattle.varlena_attrs.specs.Shown.{IsWithin, shown_at};
 ghost use Rattle.toast_chunks.specs.InHand.{Grows};
@@ -15,15 +16,17 @@ ghost use Rattle.heap_check.specs.Rows.{cell_at, cell_of, external_cell};
 ghost use Rattle.heap_check.specs.RowValues.{AreCellsAsked, FitAsked, FitsPlace, FitsType, IsReadable};
 ghost use Rattle.heap_check.specs.RowValues.{IsThere};
 ghost use Rattle.heap_check.specs.RowValues.{AsksColumns, IsWholeIn, body_in, bytes_seen};
-ghost use Rattle.heap_check.specs.RowValues.{cell_shown, count_asked};
+ghost use Rattle.heap_check.specs.RowValues.{AreStarts, FitsColumnAt, IsStart};
+ghost use Rattle.heap_check.specs.RowValues.{cell_shown, column_asked, count_asked, shown_by};
 
 use case_file::Column;
+use key_orders::ColType;
 use outside::{Files, NoMemory};
 use rel_files::Relation;
 use reports::PageFault;
 use std::alloc::Global;
 use toast_chunks::{ChunkReader, ToastFault, ToastMap, is_compressed, push_value};
-use varlena_attrs::{AttrPlace, ToastPointer, TupleColumns, pointer_at};
+use varlena_attrs::{AttrPlace, ToastPointer, TupleColumns, column_start, pointer_at};
 
 /// Which columns of a table are asked for: all, or those of these numbers, counted from 0.
 #[derive(Drop)]
@@ -70,13 +73,56 @@ impl AskedColumns {
 }
 
 /// Where the values of a table's rows come from: its columns, its TOAST table, where it has one, with the
-/// live chunks of that, and the columns that are asked for.
+/// live chunks of that, the columns that are asked for, and where these begin in tuples without nulls, as far as
+/// that is known.
 #[derive(Clone, Copy)]
 pub(crate) struct ValueSources<'a> {
     pub(crate) columns: &'a [Column],
     pub(crate) toast: Option<&'a Relation>,
     pub(crate) chunks: &'a ToastMap,
     pub(crate) asked: &'a AskedColumns,
+    pub(crate) starts: &'a [Option<usize>],
+}
+
+impl ValueSources<'_> {
+    // Where the k-th column that is asked for begins in tuples without nulls, if that is known.
+    #[inline]
+    fn start(&self, k: usize) -> Option<usize>
+        ensures { IfSome result (IsStart self.now.starts.now k) }
+    {
+        if k < self.starts.len() {
+            self.starts[k]
+        } else {
+            None
+        }
+    }
+}
+
+/// Where each of these columns begins in a tuple without nulls, where all columns before it have a fixed length.
+pub(crate) fn starts_of(
+    alloc: Global,
+    types: &[ColType],
+    asked: &AskedColumns,
+) -> Result<Vec<Option<usize>>, NoMemory>
+    requires aligned { All HasAlignment types.now }
+    ensures { IfOk result (λ starts. AreStarts types.now asked.now starts.items) }
+{
+    let mut starts = Vec::new(alloc);
+    for k in 0..asked.count(types.len()) {
+        starts.push(start_of(types, asked.column(k)))?;
+    }
+    Ok(starts)
+}
+
+// Where a column begins so.
+fn start_of(types: &[ColType], column: usize) -> Option<usize>
+    requires aligned { All HasAlignment types.now }
+    ensures { IfSome result (IsLayout types.now column) }
+{
+    if types.len() < column {
+        return None;
+    }
+    column_start(types, column)
 }
 
 /// A tuple: its page, and where its body lies there.
@@ -221,6 +267,59 @@ impl RowValues {
         }
     }
 
+    // Where the value of the k-th column stands that is asked for; none where its chunks aren't whole. Of most rows a
+    // look at the bytes of the value tells it.
+    #[inline]
+    fn place_asked<F: Files>(
+        &mut self,
+        files: &mut F,
+        from: &ValueSources<'_>,
+        tuple: &RowTuple<'_>,
+        attrs: &mut TupleColumns<'_>,
+        k: usize,
+    ) -> Result<Option<ValuePlace>, PageFault>
+        requires readable { IfTold F.seen files.old (λ names.
+            IsReadable names (option_copied from.now.toast) from.now.chunks.now) }
+        requires inside { tuple.now.start + tuple.now.len ≤ 8192 }
+        requires body { attrs.old.body ≡ body_in tuple.now }
+        requires long { length attrs.old.body ≡ tuple.now.len }
+        requires types { attrs.old.columns ≡ map (λ c. c.ctype) from.now.columns.now }
+        ensures told { Tells F.seen files.old result (λ found names. (list : List Attribute) → AreRead attrs.old list
+            → AreStarts (map (λ c. c.ctype) from.now.columns.now) from.now.asked.now from.now.starts.now
+            → column_asked from.now.asked.now k < length from.now.columns.now
+            → All (IsThere (option_copied from.now.toast) from.now.chunks.now) list
+            → IsSomeAnd found (λ place. shown_by tuple.now.page.now self.new.joined.items
+            (slice_get from.now.columns.now (column_asked from.now.asked.now k)) place
+            ≡ cell_at (bytes_seen names (option_copied from.now.toast) from.now.chunks.now)
+            from.now.columns.now list (column_asked from.now.asked.now k))) }
+        ensures fits { IfOk result (λ found. IfSome found (λ place. FitsColumnAt (length self.new.joined.items)
+            (slice_get from.now.columns.now (column_asked from.now.asked.now k)) place)) }
+        ensures number { IfOk result (λ found. IfSome found (λ place.
+            column_asked from.now.asked.now k < length from.now.columns.now)) }
+        ensures grows { Grows self.old.joined.items self.new.joined.items }
+        ensures places { self.new.places.items ≡ self.old.places.items }
+        ensures attrs { attrs.new ≡ attrs.old }
+        ensures asked { Asked F.seen files.old files.new result PageFault.ReadFault }
+    {
+        let a = from.asked.column(k);
+        if from.columns.len() <= a {
+            return Ok(None);
+        }
+        if let Some(start) = from.start(k) {
+            if let Some(piece) = attrs.plain_value(a, start) {
+                return Ok(Some(ValuePlace::OnPage {
+                    start: tuple.start + piece.start,
+                    len: piece.len,
+                }));
+            }
+        }
+        let Some(attr) = attrs.attribute(a) else {
+            return Ok(None);
+        };
+        let column = &from.columns[a];
+        self.place_of(files, from, tuple, TupleColumn { column, attr })
+    }
+
     // Keeps one more place.
     fn keep(&mut self, place: ValuePlace) -> Result<(), NoMemory>
         ensures places { OnOk result (self.new.places.items ≡ self.old.places.items ++ place ∷ []) }
@@ -247,8 +346,10 @@ impl RowValues {
         requires types { attrs.old.columns ≡ map (λ c. c.ctype) from.now.columns.now }
         ensures told { Tells F.seen files.old result (λ found names. (list : List Attribute) → AreRead attrs.old list
             → AsksColumns (length from.now.columns.now) from.now.asked.now
+            → AreStarts (map (λ c. c.ctype) from.now.columns.now) from.now.asked.now from.now.starts.now
             → All (IsThere (option_copied from.now.toast) from.now.chunks.now) list → found ≡ true) }
         ensures cells { Tells F.seen files.old result (λ found names. (list : List Attribute) → AreRead attrs.old list
+            → AreStarts (map (λ c. c.ctype) from.now.columns.now) from.now.asked.now from.now.starts.now
             → found ≡ true → All (IsThere (option_copied from.now.toast) from.now.chunks.now) list
             → AreCellsAsked tuple.now.page.now self.new.joined.items from.now.columns.now from.now.asked.now
             self.new.places.items (cell_at (bytes_seen names (option_copied from.now.toast) from.now.chunks.now)
@@ -261,20 +362,8 @@ impl RowValues {
     {
         self.places.clear();
         self.joined.clear();
-        let columns = from.columns.len();
-        for k in 0..from.asked.count(columns) {
-            let a = from.asked.column(k);
-            if columns <= a {
-                return Ok(false);
-            }
-            let Some(attr) = attrs.attribute(a) else {
-                return Ok(false);
-            };
-            let at = TupleColumn {
-                column: &from.columns[a],
-                attr,
-            };
-            match self.place_of(files, from, tuple, at)? {
+        for k in 0..from.asked.count(from.columns.len()) {
+            match self.place_asked(files, from, tuple, attrs, k)? {
                 Some(place) => self.keep(place)?,
                 None => return Ok(false),
             }

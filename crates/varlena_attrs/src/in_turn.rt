@@ -7,14 +7,16 @@ ghost use Rattle.key_orders.specs.Types.{HasAlignment};
 ghost use Rattle.key_orders.specs.declared.columns.ColType.{ColType as Column};
 ghost use Rattle.varlena_attrs.specs.Attributes.{presence_of};
 ghost use Rattle.varlena_attrs.specs.Forms.{Attribute};
+ghost use Rattle.varlena_attrs.specs.Inline.{IsLayout};
 ghost use Rattle.varlena_attrs.specs.InTurn.{AreRead, EndsAt, IsAttributeOf, IsReadOn};
 ghost use Rattle.varlena_attrs.specs.Reading.{attribute_at};
 ghost use Rattle.varlena_attrs.specs.Shown.{IsFoundWithin, IsWithin, shown_at, step_shown};
+ghost use Rattle.varlena_attrs.specs.declared.places.AttrPlace.TheVariants as Place;
 
 use crate::forms::{Cause, Found, attribute_at, is_null};
 use crate::inline::fixed_next;
 use crate::places::AttrPlace;
-use crate::plain::plain_piece;
+use crate::plain::{PlainPiece, plain_piece};
 use key_orders::ColType;
 use std::marker::Model;
 
@@ -189,6 +191,24 @@ impl<'p> TupleColumns<'p> {
         ensures { result.now ≡ self.now.body }
     {
         self.body
+    }
+
+    /// The value of a column, counted from 0, that begins at a place ([`column_start`](crate::column_start)), where
+    /// the least tells it: the tuple has no nulls, and the value is of a fixed length or a varlena with a header of
+    /// one byte. `None` says nothing.
+    #[inline]
+    pub fn plain_value(&self, k: usize, start: usize) -> Option<PlainPiece>
+        requires inside { k < length self.now.columns }
+        ensures read { (list : List Attribute) → IsLayout self.now.columns k start → AreRead self.now list
+            → IfSome result (λ p. slice_get list k ≡ Some (shown_at self.now.body (Place.Plain p.start p.len))) }
+        ensures within { IfSome result (λ p. p.start + p.len ≤ length self.now.body) }
+        ensures fits { IfSome result (λ p. (ctype : Column) → slice_get self.now.columns k ≡ Some ctype
+            → IsAttributeOf ctype self.now.body (shown_at self.now.body (Place.Plain p.start p.len))) }
+    {
+        if self.nulls.is_some() || self.natts as usize <= k || self.body.len() < start {
+            return None;
+        }
+        plain_piece(self.columns[k], self.body, start)
     }
 
     /// The attribute of a column, counted from 0, by its place in the body; `None` only where it or one before

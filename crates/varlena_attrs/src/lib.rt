@@ -22,12 +22,13 @@ mod tests;
 pub use buffer::AttrBuffer;
 pub use fault::AttrFault;
 pub use in_turn::TupleColumns;
-pub use inline::ColumnLayout;
+pub use inline::{ColumnLayout, column_start};
 pub use key_orders::value_of;
 pub use keyed::{
     KeyFault, entry_attributes, key_attributes, key_values_are_attributes, read_entry_attributes,
     read_key_attributes,
 };
 pub use places::{Attr, AttrPlace, ToastPointer, pointer_at};
+pub use plain::PlainPiece;
 pub use reading::{Attrs, attributes, attributes_are_unique};
 pub use same::{has_plain_key, plain_first_value};

@@ -11,11 +11,13 @@ use crate::inline::is_short;
 use crate::places::AttrPlace;
 use key_orders::ColType;
 
-// Where the bytes of a value lie in a body: they end with the attribute.
+/// Where the bytes of a value lie in a body: they end with the attribute.
 #[derive(Clone, Copy)]
-pub(crate) struct PlainPiece {
-    pub(crate) start: usize,
-    pub(crate) len: usize,
+pub struct PlainPiece {
+    /// The first of them, counted from 0.
+    pub start: usize,
+    /// How many they are.
+    pub len: usize,
 }
 
 impl PlainPiece {

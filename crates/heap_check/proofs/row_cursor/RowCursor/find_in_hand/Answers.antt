@@ -15,8 +15,8 @@ find-requires-clause-readable g c = λ names told. readable names c.args.self.no
 pub returns-clause-left : goal.returns-clause-left
 returns-clause-left g c = λ names told.
     let here = c.requires.told names told in
-    let from : ValueSources = record { columns = c.columns.result; toast = c.toast.result; chunks = c.chunks.result; asked = _ } in
-    ahead_same names c.args.self.now _ refl refl (c.find.ensures.left names told c.args.self.now.case.now (in_hand names c.args.self.now from c.toast.ensures c.chunks.ensures here) (values_are names c.args.self.now from c.toast.ensures c.chunks.ensures c.columns.ensures refl here))
+    let from : ValueSources = record { columns = c.columns.result; toast = c.toast.result; chunks = c.chunks.result; asked = _; starts = _ } in
+    ahead_same names c.args.self.now _ refl refl (c.find.ensures.left names told c.args.self.now.case.now (in_hand names c.args.self.now from c.toast.ensures c.chunks.ensures here) (values_are names c.args.self.now from c.toast.ensures c.chunks.ensures c.columns.ensures refl c.deref.ensures.value here))
 
 pub returns-clause-done : goal.returns-clause-done
 returns-clause-done g c = done_by g.F.Files.seen c.args.files.now c.args.self.now c.find.new.self c.requires.told c.find.result c.find.ensures.none
@@ -27,8 +27,8 @@ returns-clause-at g c = at_row_by c.find.result c.args.self.now _ c.columns.resu
 pub returns-clause-told : goal.returns-clause-told
 returns-clause-told g c = λ names told.
     let here = c.requires.told names told in
-    let from : ValueSources = record { columns = c.columns.result; toast = c.toast.result; chunks = c.chunks.result; asked = _ } in
+    let from : ValueSources = record { columns = c.columns.result; toast = c.toast.result; chunks = c.chunks.result; asked = _; starts = _ } in
     moved names c.args.self.now c.find.new.self c.args.self.now.next here
     (subst (λ (n : ℕ). n ≤ 2042) (sym c.find.ensures.page.count) here.few)
     (known_same c.args.self.now.case.now names (toast_in (heap_at c.args.self.now)) (chunks_in (heap_at c.args.self.now)) c.args.self.now.page c.find.new.self c.find.ensures.page here.hand)
-    (next_by g.F.Files.seen c.args.files.now c.args.self.now c.find.new.self c.requires.told c.find.result from c.toast.ensures c.chunks.ensures c.columns.ensures refl c.find.ensures.found c.find.ensures.err c.find.ensures.next names told)
+    (next_by g.F.Files.seen c.args.files.now c.args.self.now c.find.new.self c.requires.told c.find.result from c.toast.ensures c.chunks.ensures c.columns.ensures refl c.deref.ensures.value c.find.ensures.found c.find.ensures.err c.find.ensures.next names told)

@@ -18,7 +18,7 @@ new-columns-requires g c = (columns_readable c.args.self.now.case.now c.column_t
 
 pub returns-in_err-take-clause-left : goal.returns-in_err-take-clause-left
 returns-in_err-take-clause-left g c = λ names told.
-    let new : RowCursor = record { case = c.args.self.now.case; heap = c.args.self.now.heap; asked = c.args.self.now.asked; logs = c.args.self.now.logs; page = c.take.new.self; next = c.args.self.now.next } in
+    let new : RowCursor = record { case = c.args.self.now.case; heap = c.args.self.now.heap; asked = c.args.self.now.asked; starts = c.args.self.now.starts; logs = c.args.self.now.logs; page = c.take.new.self; next = c.args.self.now.next } in
     unread_same names c.args.self.now new (c.requires.done names told) refl refl c.in_err-take.ensures.empty
 
 pub returns-in_err-take-clause-told : goal.returns-in_err-take-clause-told
@@ -37,7 +37,7 @@ returns-clause-left g c = λ names told.
     let bytes = c.in_ok-take.ensures.bytes names told ∙ ap (λ (r : Relation). block_of names (base_of r) (size_of r) c.args.self.now.next) c.heap-2.ensures ∙ ap (λ (f : List ℕ). block_of names f (size_of (heap_in heap)) c.args.self.now.next) here.belong.heap.named ∙ ap (λ (n : ℕ). block_of names case.heap_file n c.args.self.now.next) here.belong.heap.sized in
     let known = subst (λ (t : Table). AreKnown t c.args.self.now.next c.take.new.self) (heap_rules_are case names c.heap_rules-table.result rules.kind (rules.columns ∙ c.new-columns.ensures ∙ c.column_types.ensures) rules.toast (rules.logs ∙ here.logs)) (c.in_ok-take.ensures.known names told) in
     let load = loaded case names (toast_in heap) (chunks_in heap) c.take.new.self c.args.self.now.next here.quiet below here.belong.toast here.heap.chunks c.in_ok-take.ensures.block c.in_ok-take.ensures.done bytes known in
-    let new : RowCursor = record { case = c.args.self.now.case; heap = c.args.self.now.heap; asked = c.args.self.now.asked; logs = c.args.self.now.logs; page = c.take.new.self; next = c.args.self.now.next + 1 } in
+    let new : RowCursor = record { case = c.args.self.now.case; heap = c.args.self.now.heap; asked = c.args.self.now.asked; starts = c.args.self.now.starts; logs = c.args.self.now.logs; page = c.take.new.self; next = c.args.self.now.next + 1 } in
     unread_next names c.args.self.now new (c.requires.done names told) refl refl below load.rows
 
 pub returns-clause-told : goal.returns-clause-told

@@ -10,7 +10,7 @@ use Rattle.heap_pages.specs.Found.{live_attributes, states_of}
 use Rattle.heap_files.specs.Case.{table_of}
 use Rattle.heap_check.specs.RowPages.{IsBodyOf, is_live_in}
 use Rattle.heap_check.specs.RowValues.{FitTypes}
-use Rattle.heap_check.proofs.RowFinds.{asks, attrs_are, attrs_have, not_there, row_found}
+use Rattle.heap_check.proofs.RowFinds.{asks, attrs_are, attrs_have, not_there, row_found, starts_are}
 use Rattle.heap_check.proofs.RowFits.{attributes_fit}
 use Rattle.heap_check.proofs.RowLaws.{never_in, read_or_not}
 use Rattle.heap_check.proofs.RowPages.{known_attributes, no_row, told_state}
@@ -58,7 +58,7 @@ returns-clause-none g c = λ names told case not known are.
     let has = known_attributes case names (option_copied c.args.from.now.toast) c.args.from.now.chunks.now c.args.self.now c.args.item c.args.columns.now c.args.from.now.columns.now known c.requires.columns are.columns live in
     let list = live_attributes (table_of case names) c.args.self.now.bytes c.args.item in
     let read = attrs_are c.tuple_attributes.result c.in-Some.attrs (λ t. AreRead t list) c.in-Some.is (c.tuple_attributes.ensures.read c.args.item list c.line_pointer-pointer.ensures has) in
-    absurd (false≢true (sym not ∙ c.in_ok-found.ensures.told names told list read (asks case names c.args.from.now are) (known.values live)))
+    absurd (false≢true (sym not ∙ c.in_ok-found.ensures.told names told list read (asks case names c.args.from.now are) (starts_are case names c.args.from.now are) (known.values live)))
 
 pub returns-clause-row : goal.returns-clause-row
 returns-clause-row g c = λ names told case is known are.
@@ -73,4 +73,4 @@ returns-clause-row g c = λ names told case is known are.
     let fit = subst (λ (ts : List ColType). FitTypes ts list) c.requires.columns (attributes_fit types tuple list c.requires.aligned own) in
     row_found case names c.args.from.now _ c.args.item (item_at (states_of (table_of case names) page) c.args.item) known.verdict
     (told_state case names (option_copied c.args.from.now.toast) c.args.from.now.chunks.now c.args.self.now c.args.item true known c.requires.first c.requires.last live) are fit
-    (c.in_ok-found.ensures.cells names told list read is (known.values live))
+    (c.in_ok-found.ensures.cells names told list read (starts_are case names c.args.from.now are) is (known.values live))

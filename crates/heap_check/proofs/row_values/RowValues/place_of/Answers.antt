@@ -4,28 +4,20 @@ use Rattle.std.specs.Option.{IsSomeAnd, option_copied}
 use Rattle.outside.specs.Outside.{Seen, Tells}
 use Rattle.rel_files.specs.declared.relation.Relation.{Relation}
 use Rattle.key_orders.specs.Types.{HasLength}
-use Rattle.key_orders.specs.Values.{value_in}
 use Rattle.case_file.specs.declared.case.Column.{Column}
 use Rattle.varlena_attrs.specs.Forms.{Attribute, External as external}
 use Rattle.varlena_attrs.specs.Shown.{IsWithin, shown_at}
 use Rattle.varlena_attrs.specs.declared.places.AttrPlace.{AttrPlace}
-use Rattle.varlena_attrs.specs.declared.places.AttrPlace.TheVariants.{External, Plain}
+use Rattle.varlena_attrs.specs.declared.places.AttrPlace.TheVariants.{External}
 use Rattle.varlena_attrs.specs.declared.places.ToastPointer.{ToastPointer}
 use Rattle.varlena_attrs.specs.Forms.{pointer_at}
 use Rattle.toast_chunks.specs.declared.map.Chunk.{Chunk}
-use Rattle.heap_check.specs.declared.row_cells.Cell.{Cell}
-use Rattle.heap_check.specs.declared.row_cells.Cell.TheVariants.{Held}
 use Rattle.heap_check.specs.declared.row_values.ValuePlace.{ValuePlace}
 use Rattle.heap_check.specs.RowValues.{FitsType, IsThere, IsWholeIn, body_in, bytes_seen, cell_shown}
 use Rattle.heap_check.specs.Rows.{cell_of, external_cell}
-use Rattle.heap_check.proofs.RowBodies.{piece_in_piece, piece_length}
+use Rattle.heap_check.proofs.RowBodies.{piece_length}
+use Rattle.heap_check.proofs.RowValues.{plain_cell}
 use Rattle.heap_check.proofs.row_values.RowValues.place_of.Goals as goal
-
-plain_cell : (bytes : ToastPointer → List ℕ) (column : Column) (page : List ℕ) (start len s n : ℕ) (attr : AttrPlace) → attr ≡ Plain s n → s + n ≤ len
-    → ◌≡◌ {A = Cell} (Held (value_in column.ctype (take n (drop (start + s) page)))) (cell_of bytes column (shown_at (take len (drop start page)) attr))
-plain_cell bytes column page start len s n attr is le =
-    ap (λ (piece : List ℕ). Held (value_in column.ctype piece)) (sym (piece_in_piece start len s n page le))
-    ∙ sym (ap (λ (a : AttrPlace). cell_of bytes column (shown_at (take len (drop start page)) a)) is)
 
 pub returns-in-Plain-clause-told : goal.returns-in-Plain-clause-told
 returns-in-Plain-clause-told g c = λ names told there.
