@@ -26,6 +26,13 @@ pub record IsLeafWith (page : List ℕ) (item : ℕ) : Type 0 where
   pub from : first_data page ≤ item
   pub to : item ≤ count_of page
 
+-- the same of its first data item
+abbrev pub IsFirstLeaf : List ℕ → Type 0
+IsFirstLeaf page = IsLeafWith page (first_data page)
+
+abbrev pub first_in_hand : (block : ℕ) → List ℕ → InHand
+first_in_hand block page = in_hand block (first_data page) page
+
 -- a leaf in hand is such a page
 abbrev pub IsLeaf : InHand → Type 0
 IsLeaf hand = hand.block ≢ 0 → IsLeafWith hand.bytes hand.item

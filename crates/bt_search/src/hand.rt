@@ -1,13 +1,16 @@
 //! A leaf in hand, for look-ups that go on along it.
-ghost use Rattle.std.specs.Prelude.{◌≡◌, ℕ, ◌<◌, IfOk, IfSome, List};
+ghost use Rattle.std.specs.Prelude.{◌≡◌, ℕ, ◌<◌, IfOk, IfSome, List, OnErr, OnOk};
 ghost use Rattle.std.specs.Bool.{OnFalse, OnTrue};
-ghost use Rattle.outside.specs.Outside.{Names as Held};
+ghost use Rattle.outside.specs.Outside.{AskedAtMost, IfTold, Names as Held};
 ghost use Rattle.page_layout.specs.View.{page_bytes};
+ghost use Rattle.rel_files.specs.Faults.{read_fault};
+ghost use Rattle.rel_files.specs.Relation.{IsAttached};
 ghost use Rattle.key_orders.specs.Keys.{IsKey};
 ghost use Rattle.bt_levels.specs.declared.sound.SoundTree.{SoundTree as Sound};
-ghost use Rattle.bt_levels.specs.Sound.{block_count, specs_of};
+ghost use Rattle.bt_levels.specs.Files.{relation_of};
+ghost use Rattle.bt_levels.specs.Sound.{block_count, file_of, held_block, specs_of};
 ghost use Rattle.bt_search.specs.Cached.{IsCacheOf};
-ghost use Rattle.bt_search.specs.InHand.{IsHandOf, IsLeafOf, IsLeafWith, in_hand};
+ghost use Rattle.bt_search.specs.InHand.{IsFirstLeaf, IsHandOf, IsLeafOf, IsLeafWith, first_in_hand, in_hand};
 ghost use Rattle.bt_search.specs.Lookups.{IsAtSpot};
 
 use crate::cache::PageCache;
@@ -16,8 +19,9 @@ use crate::spot::Spot;
 use bt_levels::SoundTree;
 use bt_meta::opaque;
 use bt_steps::{Sought, is_live_leaf};
-use outside::NoMemory;
+use outside::{Files, NoMemory};
 use page_layout::{PageKind, PageView};
+use rel_files::ReadFault;
 use std::alloc::Global;
 use std::marker::Model;
 use tree_image::first_data;
@@ -143,5 +147,37 @@ impl LeafInHand {
         *self.bytes = *page;
         self.block = block;
         self.item = at.item;
+    }
+
+    /// Reads a block of an index into the hand, without a cache. Where it is a leaf in use with entries, the hand has
+    /// this block and this page then, and look-ups go on from its first data item; else no leaf is in hand.
+    ///
+    /// `ReadFault` comes only where the files couldn't be read, and then no leaf is in hand either.
+    pub fn read<F: Files>(
+        &mut self,
+        tree: &SoundTree,
+        files: &mut F,
+        block: u32,
+    ) -> Result<(), ReadFault>
+        requires attached { IfTold F.seen files.old (λ names. IsAttached names (relation_of (file_of tree.now))) }
+        requires below { block < block_count tree.now }
+        ensures of { IfTold F.seen files.old (λ names. IsHandOf names tree.now self.new) }
+        ensures taken { OnOk result (IfTold F.seen files.old (λ names.
+            IsFirstLeaf (held_block names tree.now block)
+            → self.new ≡ first_in_hand block (held_block names tree.now block))) }
+        ensures left { OnOk result (IfTold F.seen files.old (λ names.
+            ¬ IsFirstLeaf (held_block names tree.now block) → self.new.block ≡ 0)) }
+        ensures none { OnErr result (self.new.block ≡ 0) }
+        ensures asked { AskedAtMost 1 F.seen files.old files.new result read_fault }
+    {
+        self.block = 0;
+        tree.read_block(files, block, &mut self.bytes)?;
+        let page = PageView::new(&self.bytes);
+        let item = first_data(page);
+        if is_leaf_with(page, item) {
+            self.block = block;
+            self.item = item;
+        }
+        Ok(())
     }
 }

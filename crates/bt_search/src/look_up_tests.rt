@@ -131,6 +131,45 @@ fn finds_entries_near_others(rt: HostRuntime) -> Result<(), Fail> {
     Ok(())
 }
 
+// Looks for the entry 20 on a block that is read into the hand.
+fn on_block(
+    tree: &SoundTree,
+    files: &mut Untold<'_>,
+    mut hand: LeafInHand,
+    block: u32,
+) -> Option<Spot> {
+    let key = key_of(20);
+    if !fits_columns(tree.specs(), &key) || key.as_slice().len() != tree.specs().len() {
+        return None;
+    }
+    if block >= tree.blocks() {
+        return None;
+    }
+    hand.read(tree, files, block).ok()?;
+    let tid = Tid { block: 0, item: 2 };
+    hand.find(tree, Sought { key: &key, tid })
+}
+
+#[test]
+fn reads_a_leaf_into_the_hand(rt: HostRuntime) -> Result<(), Fail> {
+    let alloc = rt.alloc();
+    let bytes = index_file(alloc, 4, 1, &SIX)?;
+    let mut files = Untold::new(bytes.as_slice());
+    let tree = tree_of(alloc, ONE, &mut files)?;
+    // Block 4 is the root, and block 0 the metapage.
+    for (block, want) in [
+        (0, None),
+        (1, None),
+        (2, Some(at(2, 2))),
+        (4, None),
+        (5, None),
+    ] {
+        let found = on_block(&tree, &mut files, LeafInHand::new(alloc)?, block);
+        assert_eq!(rt; found, want);
+    }
+    Ok(())
+}
+
 // From each entry of a leaf of twelve each one from there on is found, and none before it.
 #[test]
 fn finds_entries_onward(rt: HostRuntime) -> Result<(), Fail> {

@@ -114,12 +114,7 @@ impl<'a> Seeker<'a> {
     }
 
     // Looks on a leaf for the entry from a data item on: by steps that double until they pass it, and then by halves.
-    fn find_onward<'p>(
-        self,
-        page: PageView<'p>,
-        from: u16,
-        keys: &mut ItemKeys<'p>,
-    ) -> Option<Place>
+    fn find_onward(self, page: PageView<'_>, from: u16) -> Option<Place>
         requires page { page_rule_of PageKind.Tree (page_bytes page) ≡ None }
         requires from { first_data (page_bytes page) ≤ from }
         requires last { from ≤ count_of (page_bytes page) }
@@ -130,6 +125,7 @@ impl<'a> Seeker<'a> {
             self.entry.sought.key.now self.entry.sought.tid at.item at.nth) }
     {
         let prefix = key_prefix(self.specs, self.sought.key.as_slice());
+        let mut keys = ItemKeys::new();
         let mut low = from;
         let mut high = page.item_count() + 1;
         let mut step = 1u16;
@@ -137,7 +133,7 @@ impl<'a> Seeker<'a> {
             let middle = low + step.min((high - low) / 2);
             let mut order = self.glance(prefix, page, middle);
             if order.is_eq() {
-                order = self.order_at(page, middle, keys);
+                order = self.order_at(page, middle, &mut keys);
                 if order.is_eq() {
                     return Some(Place {
                         item: middle,
@@ -169,12 +165,11 @@ impl<'a> Seeker<'a> {
         ensures { IfSome result (λ at. HasSought self.entry.specs.now (page_bytes page.entry)
             self.entry.sought.key.now self.entry.sought.tid at.item at.nth) }
     {
-        let mut keys = ItemKeys::new();
         if let Some(item) = item_with(page, from, self.sought.tid) {
             if self.is_at(page, item) {
                 return Some(Place { item, nth: 0 });
             }
         }
-        self.find_onward(page, from, &mut keys)
+        self.find_onward(page, from)
     }
 }

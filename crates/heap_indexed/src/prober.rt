@@ -11,14 +11,12 @@ ghost use Rattle.heap_indexed.specs.ProbingLaws.{goes_on, keeps, more, since, st
 
 use crate::joined::LookUps;
 use bt_levels::SoundTree;
-use bt_search::{Spot, Visits, find, spots_are_of_entries};
+use bt_search::{Visits, find, spots_are_of_entries};
 use bt_steps::Sought;
 use key_orders::{KeyRefs, Tid, key_orders_are_total};
 use key_runs::LookUp;
 use outside::Files;
-use page_layout::PageView;
 use rel_files::ReadFault;
-use tree_image::first_data;
 
 // Counts visits.
 fn count_visits(visits: &mut Visits, more: u64)
@@ -104,12 +102,9 @@ fn step_right<F: Files>(
     };
     look_ups.saved -= 1;
     count_visits(&mut look_ups.visits, 1);
-    let item = first_data(PageView::new(look_ups.cache.page(tree, files, block)?));
-    look_ups.take(Some(Spot {
-        block,
-        item,
-        nth: 0,
-    }));
+    if let Some(hand) = &mut look_ups.hand {
+        hand.read(tree, files, block)?;
+    }
     Ok(true)
 }
 

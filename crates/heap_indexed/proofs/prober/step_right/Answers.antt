@@ -1,9 +1,13 @@
 use Rattle.heap_indexed.proofs.prober.step_right.Goals as goal
 
-pub page-requires-clause-of : goal.page-requires-clause-of
-page-requires-clause-of g c = λ names told. (c.requires.of names told).cache
+pub returns-in_err-read-clause-of : goal.returns-in_err-read-clause-of
+returns-in_err-read-clause-of g c = λ names told.
+    record { cache = (c.requires.of names told).cache; hand = c.read.ensures.of names told }
 
-pub returns-clause-of : goal.returns-clause-of
-returns-clause-of g c = λ names told.
-    c.take.ensures.of names c.args.tree.now c.in-Some.ensures.inside
-    (record { cache = c.page.follows.holds-at-none.1 names told; hand = (c.requires.of names told).hand })
+pub returns-in_ok-read-clause-of : goal.returns-in_ok-read-clause-of
+returns-in_ok-read-clause-of g c = λ names told.
+    record { cache = (c.requires.of names told).cache; hand = c.read.ensures.of names told }
+
+pub returns-in_default-hand-clause-of : goal.returns-in_default-hand-clause-of
+returns-in_default-hand-clause-of g c = λ names told.
+    record { cache = (c.requires.of names told).cache; hand = (c.requires.of names told).hand }
