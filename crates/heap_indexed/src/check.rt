@@ -81,7 +81,7 @@ fn probe_in_turn<F: Files>(
 /// rising TID.
 ///
 /// Rows of a heap of 64 blocks or more are looked up in runs, in the order of their keys; those of a smaller one, each
-/// as it comes. Pages of the index are looked at through the cache, and each look is a visit.
+/// as it comes. Pages of the index are looked at through the cache or in hand, and each look is a visit.
 ///
 /// `ReadFault` comes only where the count of the files' faults rose, and `NoFile` and `TooLarge` never. After an error
 /// the report has a first part of what it would have got.
