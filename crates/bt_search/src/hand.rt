@@ -128,6 +128,33 @@ impl LeafInHand {
         })
     }
 
+    /// Looks for an entry at the very next item of the leaf, behind that from which look-ups go on, as far as its bytes
+    /// tell it as they lie. Look-ups go on from that item then. `None` says nothing.
+    #[inline]
+    pub fn find_next(&mut self, tree: &SoundTree, sought: Sought<'_>) -> Option<Spot>
+        ensures found { IfSome result (λ at. (names : Held) → IsHandOf names tree.now self.old
+            → IsAtSpot names tree.now sought.entry.key.now sought.entry.tid at) }
+        ensures block { self.new.block ≡ self.old.block }
+        ensures bytes { self.new.bytes ≡ self.old.bytes }
+    {
+        if self.block == 0 {
+            return None;
+        }
+        tree.keyed();
+        let seeker = Seeker {
+            specs: tree.specs(),
+            sought,
+        };
+        let item = seeker.find_next(PageView::new(&self.bytes), self.item)?;
+        self.item = item;
+        let block = self.block;
+        Some(Spot {
+            block,
+            item,
+            nth: 0,
+        })
+    }
+
     /// Takes the leaf of an entry in hand, where the page that was used last in a cache is of its block, and a leaf in
     /// use with its item: the hand then has this block and this page, and look-ups go on from this item. Else all is as
     /// it was.

@@ -50,6 +50,26 @@ fn new_through(alloc: Global) -> Result<Through, NoMemory> {
     Ok(Through { cache, hand })
 }
 
+// Looks for an entry at the very next item of the leaf of a spot, which is taken in hand.
+fn next_of(
+    tree: &SoundTree,
+    files: &mut Untold<'_>,
+    mut through: Through,
+    entry: (i64, u16),
+    at: Spot,
+) -> Option<Spot> {
+    let key = key_of(entry.0);
+    let tid = Tid {
+        block: 0,
+        item: entry.1,
+    };
+    if at.block < tree.blocks() {
+        through.cache.page(tree, files, at.block).ok()?;
+    }
+    through.hand.take(&through.cache, at);
+    through.hand.find_next(tree, Sought { key: &key, tid })
+}
+
 // Looks for an entry with the leaf of a spot in hand, from the spot's item on.
 fn near(
     tree: &SoundTree,
@@ -170,7 +190,8 @@ fn reads_a_leaf_into_the_hand(rt: HostRuntime) -> Result<(), Fail> {
     Ok(())
 }
 
-// From each entry of a leaf of twelve each one from there on is found, and none before it.
+// From each entry of a leaf of twelve each one from there on is found, and none before it. Right behind it the next
+// one alone is.
 #[test]
 fn finds_entries_onward(rt: HostRuntime) -> Result<(), Fail> {
     let alloc = rt.alloc();
@@ -199,6 +220,15 @@ fn finds_entries_onward(rt: HostRuntime) -> Result<(), Fail> {
             let entry = (i64::from(to), to);
             let found = near(&tree, &mut files, new_through(alloc)?, entry, at(1, from));
             assert_eq!(rt; found, if from <= to { Some(at(1, to)) } else { None });
+            let next = next_of(&tree, &mut files, new_through(alloc)?, entry, at(1, from));
+            assert_eq!(rt;
+                next,
+                if from + 1 == to {
+                    Some(at(1, to))
+                } else {
+                    None
+                }
+            );
         }
     }
     Ok(())

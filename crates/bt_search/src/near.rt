@@ -113,6 +113,25 @@ impl<'a> Seeker<'a> {
         is_plain_entry(page, i, self.specs, self.sought.key, self.sought.tid)
     }
 
+    /// Looks for the entry at the item behind a data item of a leaf, as far as its bytes tell it as they lie.
+    #[inline]
+    pub fn find_next(self, page: PageView<'_>, from: u16) -> Option<u16>
+        requires page { page_rule_of PageKind.Tree (page_bytes page) ≡ None }
+        requires from { first_data (page_bytes page) ≤ from }
+        requires last { from ≤ count_of (page_bytes page) }
+        requires few { length self.specs.now ≤ 8 }
+        requires aligned { All HasAlignment (key_types self.specs.now) }
+        ensures has { IfSome result (λ i. HasSought self.entry.specs.now (page_bytes page.entry)
+            self.entry.sought.key.now self.entry.sought.tid i 0) }
+        ensures next { IfSome result (λ i. (first_data (page_bytes page.entry) ≤ i)
+            × (i ≤ count_of (page_bytes page.entry))) }
+    {
+        if page.item_count() <= from || !self.is_at(page, from + 1) {
+            return None;
+        }
+        Some(from + 1)
+    }
+
     // Looks on a leaf for the entry from a data item on: by steps that double until they pass it, and then by halves.
     fn find_onward(self, page: PageView<'_>, from: u16) -> Option<Place>
         requires page { page_rule_of PageKind.Tree (page_bytes page) ≡ None }

@@ -15,3 +15,4 @@ pub mod RowBodies
 pub mod RowFinds
 pub mod RowHeads
 pub mod RowCopies
+pub mod PlainRow

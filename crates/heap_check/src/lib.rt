@@ -1,6 +1,7 @@
 //! The rows of a sound heap: its live tuples, each with the root of its chain and the values of its columns.
 #![tactic(auto)]
 
+mod plain_row;
 mod row_cells;
 mod row_cursor;
 mod row_laws;

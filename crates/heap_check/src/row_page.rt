@@ -30,12 +30,13 @@ use reports::PageFault;
 use std::alloc::Global;
 use varlena_attrs::TupleColumns;
 
-// How many items a page may have.
-const MAX_ITEMS: u16 = 2042;
+/// How many items a page may have.
+pub(crate) const MAX_ITEMS: u16 = 2042;
 
-// The attributes of the tuple that a line pointer of a page points to, to be read one after the other; none
-// where they can't be read, which can't be of a live tuple of a sound heap.
-fn tuple_attributes<'p>(
+/// The attributes of the tuple that a line pointer of a page points to, to be read one after the other; none
+/// where they can't be read, which can't be of a live tuple of a sound heap.
+#[inline]
+pub(crate) fn tuple_attributes<'p>(
     page: &'p [u8; 8192],
     pointer: LinePtr,
     columns: &'p [ColType],
@@ -178,9 +179,10 @@ impl RowPage {
         self.know(files, table)
     }
 
-    // Whether an item of the page in hand is a live tuple, by its line pointer where the page is plain, and
-    // else by its state.
-    fn is_live_item(&self, pointer: LinePtr, item: u16) -> bool
+    /// Whether an item of the page in hand is a live tuple, by its line pointer where the page is plain, and
+    /// else by its state.
+    #[inline]
+    pub(crate) fn is_live_item(&self, pointer: LinePtr, item: u16) -> bool
         requires { pointer ≡ item_of self.now.bytes item }
         ensures { result ≡ is_live_in self.now item }
     {

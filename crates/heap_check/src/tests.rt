@@ -4,9 +4,10 @@ ghost use Rattle.outside.specs.Outside.{IfTold};
 ghost use Rattle.heap_files.specs.Found.{IsQuiet};
 ghost use Rattle.heap_files.specs.Files.{BelongTo, IsSoundHeapOf, files_of};
 
-use crate::{Cell, HeapFiles, LiveRow, LiveRows, SoundHeap, check_heap};
+use crate::row_values::AskedColumns;
+use crate::{Cell, HeapFiles, LiveRow, LiveRows, RowCursor, SoundHeap, check_heap};
 use case_file::{Case, read_case};
-use key_orders::{Tid, Value};
+use key_orders::{Tid, Value, ValueRef};
 use outside::{Files, MemFiles, Part};
 use reports::Report;
 use std::alloc::Global;
@@ -135,5 +136,44 @@ fn a_value_in_the_toast_table_is_joined(rt: HostRuntime) -> Result<(), Fail> {
 #[test]
 fn a_row_without_hint_bits_is_found(rt: HostRuntime) -> Result<(), Fail> {
     assert!(rt; is_found(rt.alloc(), 0x0806)?);
+    Ok(())
+}
+
+// Whether the first row of a heap is told as its bytes lie, with the value 'ab', and is the last.
+fn is_told<F: Files>(
+    alloc: Global,
+    files: &mut F,
+    case: &Case,
+    heap: &SoundHeap,
+) -> Result<bool, Fail>
+    requires told { IfTold F.seen files.old (λ names. IsSoundHeapOf case.now names heap.now × IsQuiet case.now names) }
+    requires belong { BelongTo case.now (files_of heap.now) }
+{
+    let mut cursor = RowCursor::asking(alloc, case, heap, AskedColumns::All)?;
+    cursor.find(files)?;
+    let Some(place) = cursor.place_after(cursor.done()) else {
+        return Ok(false);
+    };
+    let tid = Tid { block: 0, item: 1 };
+    let is_first = place.tid == tid && place.root == tid;
+    let is_read = match cursor.value_after(cursor.done(), 0) {
+        Some(ValueRef::Bytes(bytes)) => bytes == b"ab".as_slice(),
+        _ => false,
+    };
+    cursor.pass_next();
+    let next = cursor.find(files)?;
+    Ok(is_first && is_read && next.is_none())
+}
+
+#[test]
+fn a_row_is_told_as_its_bytes_lie(rt: HostRuntime) -> Result<(), Fail> {
+    let alloc = rt.alloc();
+    let mut files = MemFiles::new(alloc);
+    files.add("t", Part::Segment(0), &page(8160, 0x0902, 1, b"\x07ab"))?;
+    files.add("tt", Part::Segment(0), &[])?;
+    files.add("xact", Part::Slru(0), &[0x55u8; 8192])?;
+    let case: Case = read_case(alloc, CASE).ok().ok_or("refused")?;
+    let sound = sound_heap(alloc, &mut files, &case)?.ok_or("not sound")?;
+    assert!(rt; is_told(alloc, &mut files, &case, &sound)?);
     Ok(())
 }

@@ -16,7 +16,8 @@ use Rattle.reports.specs.Added.{joined}
 use Rattle.reports.specs.Lists.{Lists}
 use Rattle.bt_levels.specs.declared.sound.SoundTree.{SoundTree}
 use Rattle.heap_indexed.specs.declared.joins.Join.{Join}
-use Rattle.heap_indexed.specs.Joins.{AllAlike, AreAlike, EachFor, HasPagesOf, HaveGone, IsDone, IsReady}
+use Rattle.heap_indexed.specs.Joins.{AllAlike, AreAlike, EachFor, HasPagesOf, HaveGone, IsDone, IsReady, IsThrough}
+use Rattle.heap_indexed.specs.InStep.{HaveEntries}
 use Rattle.heap_indexed.specs.Looking.{AreOf, has_entry}
 use Rattle.heap_indexed.specs.Waiting.{AreAskedFrom, columns_in, run_lists}
 
@@ -113,7 +114,7 @@ written-back n new old is = ap (λ (m : ℕ). take m (new ++ drop (length new) o
 -- Those that differ in the memory of their runs at most
 
 pub all-alike : (joins : List Join) → AllAlike joins joins
-all-alike joins = record { same = refl; each = λ k d. record { first = refl; rows = refl; look_ups = refl; report = refl } }
+all-alike joins = record { same = refl; each = λ k d. record { first = refl; rows = refl; look_ups = refl; report = refl; ahead = refl } }
 
 pub alike-set : (old joins : List Join) (j : ℕ) (was new : Join) → AllAlike old joins → was ≡ get_or joins j was → j < length joins → AreAlike was new → AllAlike old (set joins j new)
 alike-set old joins j was new all is lt here = record {
@@ -122,7 +123,7 @@ alike-set old joins j was new all is lt here = record {
 }
   where
     then : (a b c : Join) → AreAlike a b → AreAlike b c → AreAlike a c
-    then a b c one two = record { first = two.first ∙ one.first; rows = two.rows ∙ one.rows; look_ups = two.look_ups ∙ one.look_ups; report = two.report ∙ one.report }
+    then a b c one two = record { first = two.first ∙ one.first; rows = two.rows ∙ one.rows; look_ups = two.look_ups ∙ one.look_ups; report = two.report ∙ one.report; ahead = two.ahead ∙ one.ahead }
 
     by : (k : ℕ) (d : Join) → (k ≡ j) ⊎ (k ≢ j) → AreAlike (get_or old k d) (get_or (set joins j new) k d)
     by k d (inl e) =
@@ -151,7 +152,14 @@ pub done-alike : (names : Names) (done : List LiveRow) (tree : SoundTree) (a b :
 done-alike names done tree a b same was =
     (λ i. joined (same.report i) (run_lists (number_of (file_of tree)) (has_entry names tree) (same.rows i))) ∙ was
 
+pub through-alike : (names : Names) (done left : List LiveRow) (tree : SoundTree) (a b : Join) → AreAlike a b → IsThrough names done left tree a → IsThrough names done left tree b
+through-alike names done left tree a b same was = record {
+  gone = done-alike names done tree a b same was.gone;
+  known = subst (λ (n : ℕ). HaveEntries names tree n left) (sym same.ahead) was.known;
+}
+
 -- where none is left all rows were gone through
 pub gone-all : (names : Names) (all left : List LiveRow) (trees : List SoundTree) (joins : List Join) → left ≡ [] → HaveGone names all left trees joins → EachFor (IsDone names all) trees joins
 gone-all names all left trees joins none gone =
-    subst (λ (rs : List LiveRow). EachFor (IsDone names rs) trees joins) (sym (gone.is ∙ ap (λ (rs : List LiveRow). gone.done ++ rs) none ∙ append-nil gone.done)) gone.each
+    subst (λ (rs : List LiveRow). EachFor (IsDone names rs) trees joins) (sym (gone.is ∙ ap (λ (rs : List LiveRow). gone.done ++ rs) none ∙ append-nil gone.done))
+    (each-map (IsThrough names gone.done left) (IsDone names gone.done) trees joins (λ tree join through. through.gone) gone.each)

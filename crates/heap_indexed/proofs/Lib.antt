@@ -6,3 +6,4 @@ pub mod Pages
 pub mod Cases
 pub mod Each
 pub mod Columns
+pub mod InStep

@@ -9,12 +9,15 @@ use Rattle.bt_levels.specs.Files.{number_of}
 use Rattle.bt_levels.specs.Sound.{block_count, file_of, held_block, specs_of}
 use Rattle.heap_files.specs.Files.{BelongTo, IsSoundHeapOf, files_of}
 use Rattle.heap_files.specs.Found.{IsQuiet}
+use Rattle.heap_check.specs.declared.row_cursor.RowCursor.{RowCursor}
 use Rattle.heap_check.specs.declared.row_values.AskedColumns.{AskedColumns}
 use Rattle.heap_check.specs.declared.rows.LiveRow.{LiveRow}
+use Rattle.heap_check.specs.RowCursor.{IsAtRow}
 use Rattle.root_set.specs.Targets.{is_in}
 use Rattle.indexed_rules.specs.Lists.{leaves_lists}
 use Rattle.heap_indexed.specs.declared.joined.IndexedTable.{IndexedTable}
 use Rattle.heap_indexed.specs.declared.joins.Join.{Join}
+use Rattle.heap_indexed.specs.InStep.{HaveEntries}
 use Rattle.heap_indexed.specs.Joined.{BelongTogether, HoldTogether}
 use Rattle.heap_indexed.specs.Looking.{AreOf}
 use Rattle.heap_indexed.specs.Waiting.{AreAskedFrom, AreKeyed, columns_in, owed_for, owed_in}
@@ -54,12 +57,22 @@ abbrev pub IsDone : Names → List LiveRow → SoundTree → Join → Type 0
 IsDone names done tree join =
     joined join.report (owed_in names tree join.waiting) ≡ owed_for names tree done
 
+-- these rows were gone through, and of those that are left it is known of so many that they have their entries
+pub record IsThrough (names : Names) (done left : List LiveRow) (tree : SoundTree) (join : Join) : Type 0 where
+  pub gone : IsDone names done tree join
+  pub known : HaveEntries names tree join.ahead left
+
 -- of all rows those that are not left were gone through
 pub record HaveGone (names : Names) (all left : List LiveRow) (trees : List SoundTree) (joins : List Join) : Type 0
   where
     pub done : List LiveRow
     pub is : all ≡ done ++ left
-    pub each : EachFor (IsDone names done) trees joins
+    pub each : EachFor (IsThrough names done left) trees joins
+
+-- the row at which a cursor is has its values at hand, or it is known that it has its entry
+abbrev pub IsAtOrAhead : RowCursor → List Join → Type 0
+IsAtOrAhead cursor joins =
+    (k : ℕ) (join : Join) → k < length joins → (slice_index_or joins k join).ahead ≡ 0 → IsAtRow cursor
 
 -- the entries of the index that name what the set doesn't have
 abbrev pub leaves_of : Names → List (List Bool) → SoundTree → Lists
@@ -76,6 +89,7 @@ pub record AreAlike (old new : Join) : Type 0 where
   pub rows : new.waiting.run.rows ≡ old.waiting.run.rows
   pub look_ups : new.look_ups ≡ old.look_ups
   pub report : new.report ≡ old.report
+  pub ahead : new.ahead ≡ old.ahead
 
 -- so it is with all, place by place
 pub record AllAlike (old new : List Join) : Type 0 where

@@ -1,12 +1,14 @@
 //! The check of a heap against all its indexes.
-ghost use Rattle.std.specs.Prelude.{◌≡◌, ◌⊎◌, ◌+◌, ◌++◌, ◌∷◌, [], IfErr, IfOk, OnOk, length, map};
+ghost use Rattle.std.specs.Prelude.{◌≡◌, ◌⊎◌, ◌+◌, ◌++◌, ◌∷◌, [], IfErr, IfOk, List, OnOk, length, map};
 ghost use Rattle.outside.specs.Outside.{Asked, IfTold, Names, Tells};
 ghost use Rattle.bt_levels.specs.Files.{number_of};
 ghost use Rattle.bt_levels.specs.Sound.{file_of};
 ghost use Rattle.heap_check.specs.declared.row_values.AskedColumns.{AskedColumns as Columns};
 ghost use Rattle.heap_check.specs.RowCursor.{AreAsked};
 ghost use Rattle.indexed_rules.specs.Lists.{indexed_lists};
-ghost use Rattle.heap_indexed.specs.Joins.{BelongToIt, EachFor, HasPagesOf, HoldIt, IsDone, IsReady, columns_of_all};
+ghost use Rattle.heap_check.specs.declared.rows.LiveRow.{LiveRow as Row};
+ghost use Rattle.heap_indexed.specs.Joins.{BelongToIt, EachFor, HasPagesOf, HoldIt, IsReady, IsThrough};
+ghost use Rattle.heap_indexed.specs.Joins.{columns_of_all};
 ghost use Rattle.heap_indexed.specs.Waiting.{columns_in};
 
 use crate::joined::IndexedTable;
@@ -53,7 +55,8 @@ fn new_joins(alloc: Global, blocks: u32, trees: &[SoundTree]) -> Result<Vec<Join
     ensures ready { IfOk result (λ joins. (asked : Columns) → AreAsked (columns_of_all trees.now) asked
         → EachFor (IsReady asked) trees.now joins.items) }
     ensures pages { IfOk result (λ joins. (names : Names) → EachFor (HasPagesOf names) trees.now joins.items) }
-    ensures done { IfOk result (λ joins. (names : Names) → EachFor (IsDone names []) trees.now joins.items) }
+    ensures done { IfOk result (λ joins. (names : Names) (rows : List Row)
+        → EachFor (IsThrough names [] rows) trees.now joins.items) }
 {
     let mut joins = Vec::new(alloc);
     let mut first = 0;

@@ -1,5 +1,7 @@
 //! The live rows of a heap against all its indexes at once: each row is read once, and looked up in each of them.
-ghost use Rattle.std.specs.Prelude.{◌≡◌, ◌+◌, ◌∷◌, ◌++◌, ◌≤◌, ◌*◌, [], IfOk, List, OnOk, length};
+ghost use Rattle.std.specs.Prelude.{◌≡◌, ◌+◌, ◌∷◌, ◌++◌, ◌≤◌, ◌*◌, ◌<◌, [], IfOk, List, OnOk, ℕ, drop, length};
+ghost use Rattle.std.specs.Prelude.{slice_index_or};
+ghost use Rattle.std.specs.Bool.{OnTrue};
 ghost use Rattle.std.specs.Prelude.{false, true};
 ghost use Rattle.outside.specs.Outside.{Asked, IfTold, Names, Tells};
 ghost use Rattle.rel_files.specs.Relation.{count_of};
@@ -8,13 +10,15 @@ ghost use Rattle.bt_levels.specs.Sound.{HoldsTree};
 ghost use Rattle.bt_levels.specs.declared.sound.SoundTree.{SoundTree as Tree};
 ghost use Rattle.heap_files.specs.Files.{heap_in};
 ghost use Rattle.heap_check.specs.declared.rows.LiveRow.{LiveRow as Row};
-ghost use Rattle.heap_check.specs.RowCursor.{IsAtRow, IsCursorOf, asked_at, case_at, rows_ahead};
+ghost use Rattle.heap_check.specs.RowCursor.{IsAtRow, IsCursorOf, IsSameCursor, asked_at, case_at, rows_ahead};
 ghost use Rattle.heap_indexed.specs.Joined.{BelongTogether};
 ghost use Rattle.heap_indexed.specs.Joins.{AllAlike, AreAlike, BelongToIt, EachFor, HasPagesOf, HaveGone, HoldIt};
-ghost use Rattle.heap_indexed.specs.Joins.{IsDone, IsJudged, IsReady, leaves_of};
+ghost use Rattle.heap_indexed.specs.Joins.{IsAtOrAhead, IsDone, IsJudged, IsReady, IsThrough, leaves_of};
+ghost use Rattle.heap_indexed.specs.declared.joins.Join.{Join as Waits};
 ghost use Rattle.heap_indexed.specs.Looking.{AreOf};
 ghost use Rattle.heap_indexed.specs.Waiting.{AreKeyed, IsAt, owed_in, rows_in};
 
+use crate::in_step::RowsInHand;
 use crate::joined::{IndexedHeap, IndexedTable, LookUps, RUN_BLOCKS, RUN_BYTES, new_look_ups};
 use crate::nearness::Nearness;
 use crate::waiting::{FoundRow, Waiting};
@@ -44,6 +48,8 @@ pub struct Join {
     pub waiting: Waiting,
     pub look_ups: LookUps,
     pub report: Report,
+    /// Of how many of the next rows it is known that they have their entries.
+    pub ahead: u16,
 }
 
 // No row of a heap of so many blocks waits yet; in a small one none will.
@@ -78,6 +84,19 @@ fn share_runs(alloc: Global, joins: &mut [Join], bytes: u32) -> Result<(), NoMem
     Ok(())
 }
 
+// Whether it is known for all indexes that the next row has its entry.
+fn are_ahead(joins: &[Join]) -> bool
+    ensures { OnTrue result ((k : ℕ) (join : Waits) → k < length joins.now
+        → 0 < (slice_index_or joins.now k join).ahead) }
+{
+    for j in 0..joins.len() {
+        if joins[j].ahead == 0 {
+            return false;
+        }
+    }
+    true
+}
+
 // Gives memory to those that want it, after so many rows, if it is the time for it. Which of the indexes have an order
 // in which rows don't come shows in the first rows, so they share nearly all of it; those of which it shows later share
 // a small part.
@@ -108,6 +127,7 @@ impl Join {
         ensures rows { IfOk result (λ join. rows_in join.waiting ≡ []) }
         ensures report { IfOk result (λ join. join.report ≡ nothing) }
         ensures pages { IfOk result (λ join. (names : Names) (tree : Tree) → HasPagesOf names tree join) }
+        ensures ahead { IfOk result (λ join. join.ahead ≡ 0) }
     {
         let run = KeyRun::new(alloc, 0)?;
         let look_ups = new_look_ups(alloc, blocks)?;
@@ -116,10 +136,37 @@ impl Join {
             waiting: new_waiting(run, blocks),
             look_ups,
             report: Report::new(alloc),
+            ahead: 0,
         })
     }
 
-    // Has a row wait, or looks it up.
+    // Sees how many of the next rows come in step with the entries of the leaf in hand.
+    fn look_ahead(&mut self, at: IndexedHeap<'_>, cursor: &RowCursor<'_>)
+        requires belong { BelongTogether at.case.now at.heap.now at.tree.now }
+        requires case { case_at cursor.now ≡ at.case.now }
+        requires ready { IsReady (asked_at cursor.now) at.tree.now self.old }
+        ensures ready { IsReady (asked_at cursor.now) at.entry.tree.now self.new }
+        ensures pages { (names : Names) → HasPagesOf names at.entry.tree.now self.old
+            → HasPagesOf names at.entry.tree.now self.new }
+        ensures through { (names : Names) (done : List Row) → HoldsTree names at.entry.tree.now
+            → HasPagesOf names at.entry.tree.now self.old → IsCursorOf names cursor.now
+            → IsThrough names done (rows_ahead names cursor.now) at.entry.tree.now self.old
+            → IsThrough names done (rows_ahead names cursor.now) at.entry.tree.now self.new }
+    {
+        if self.ahead > 0 || !self.waiting.is_in_order() {
+            return;
+        }
+        let rows = RowsInHand {
+            at,
+            first: self.first,
+            cursor,
+        };
+        let count = rows.count_found(&mut self.look_ups);
+        self.waiting.see_in_step(count);
+        self.ahead = count;
+    }
+
+    // Has a row wait, or looks it up, unless it is known that it has its entry.
     fn judge_row<F: Files>(
         &mut self,
         files: &mut F,
@@ -129,17 +176,23 @@ impl Join {
     ) -> Result<(), PageFault>
         requires belong { BelongTogether at.case.now at.heap.now at.tree.now }
         requires case { case_at cursor.now ≡ at.case.now }
-        requires at_row { IsAtRow cursor.now }
+        requires at_row { self.old.ahead ≡ 0 → IsAtRow cursor.now }
         requires ready { IsReady (asked_at cursor.now) at.tree.now self.old }
         requires holds { IfTold F.seen files.old (λ names. HoldsTree names at.tree.now) }
         requires pages { IfTold F.seen files.old (λ names. HasPagesOf names at.tree.now self.old) }
         ensures ready { IsReady (asked_at cursor.now) at.entry.tree.now self.new }
         ensures pages { IfTold F.seen files.old (λ names. HasPagesOf names at.entry.tree.now self.new) }
         ensures done { IfTold F.seen files.old (λ names. (done : List Row) (first : Row)
-            → IsAt names cursor.now place first → IsDone names done at.entry.tree.now self.old
-            → OnOk result (IsDone names (done ++ first ∷ []) at.entry.tree.now self.new)) }
+            → IsAt names cursor.now place first
+            → IsThrough names done (rows_ahead names cursor.now) at.entry.tree.now self.old
+            → OnOk result (IsThrough names (done ++ first ∷ []) (drop 1 (rows_ahead names cursor.now))
+            at.entry.tree.now self.new)) }
         ensures asked { Asked F.seen files.old files.new result PageFault.ReadFault }
     {
+        if self.ahead > 0 {
+            self.ahead -= 1;
+            return Ok(());
+        }
         let row = FoundRow {
             at,
             first: self.first,
@@ -172,6 +225,26 @@ impl Join {
 }
 
 impl IndexedTable<'_> {
+    // Sees for each index how many of the next rows come in step with its entries.
+    fn look_ahead(self, joins: &mut [Join], cursor: &RowCursor<'_>)
+        requires belong { BelongToIt self }
+        requires case { case_at cursor.now ≡ self.case.now }
+        requires ready { EachFor (IsReady (asked_at cursor.now)) self.trees.now joins.old }
+        ensures ready { EachFor (IsReady (asked_at cursor.now)) self.entry.trees.now joins.new }
+        ensures pages { (names : Names) → EachFor (HasPagesOf names) self.entry.trees.now joins.old
+            → EachFor (HasPagesOf names) self.entry.trees.now joins.new }
+        ensures through { (names : Names) (done : List Row) → HoldIt names self.entry
+            → EachFor (HasPagesOf names) self.entry.trees.now joins.old → IsCursorOf names cursor.now
+            → EachFor (IsThrough names done (rows_ahead names cursor.now)) self.entry.trees.now joins.old
+            → EachFor (IsThrough names done (rows_ahead names cursor.now)) self.entry.trees.now joins.new }
+    {
+        let IndexedTable { case, heap, trees } = self;
+        for j in 0..trees.len() {
+            let tree = &trees[j];
+            joins[j].look_ahead(IndexedHeap { case, heap, tree }, cursor);
+        }
+    }
+
     // Has the row at which a cursor is wait for each index, or looks it up there.
     fn judge_row<F: Files>(
         self,
@@ -182,15 +255,17 @@ impl IndexedTable<'_> {
     ) -> Result<(), PageFault>
         requires belong { BelongToIt self }
         requires case { case_at cursor.now ≡ self.case.now }
-        requires at_row { IsAtRow cursor.now }
+        requires at_row { IsAtOrAhead cursor.now joins.old }
         requires ready { EachFor (IsReady (asked_at cursor.now)) self.trees.now joins.old }
         requires hold { IfTold F.seen files.old (λ names. HoldIt names self) }
         requires pages { IfTold F.seen files.old (λ names. EachFor (HasPagesOf names) self.trees.now joins.old) }
         ensures ready { EachFor (IsReady (asked_at cursor.now)) self.entry.trees.now joins.new }
         ensures pages { IfTold F.seen files.old (λ names. EachFor (HasPagesOf names) self.entry.trees.now joins.new) }
         ensures done { IfTold F.seen files.old (λ names. (done : List Row) (first : Row)
-            → IsAt names cursor.now place first → EachFor (IsDone names done) self.entry.trees.now joins.old
-            → OnOk result (EachFor (IsDone names (done ++ first ∷ [])) self.entry.trees.now joins.new)) }
+            → IsAt names cursor.now place first
+            → EachFor (IsThrough names done (rows_ahead names cursor.now)) self.entry.trees.now joins.old
+            → OnOk result (EachFor (IsThrough names (done ++ first ∷ []) (drop 1 (rows_ahead names cursor.now)))
+            self.entry.trees.now joins.new)) }
         ensures asked { Asked F.seen files.old files.new result PageFault.ReadFault }
     {
         let IndexedTable { case, heap, trees } = self;
@@ -199,6 +274,44 @@ impl IndexedTable<'_> {
             joins[j].judge_row(files, IndexedHeap { case, heap, tree }, cursor, place)?;
         }
         Ok(())
+    }
+
+    // Goes past the next row, where it is known for all indexes that it has its entry, and it stands at the very next
+    // item of the page in hand; whether that is so.
+    fn pass_known<F: Files>(
+        self,
+        files: &mut F,
+        joins: &mut [Join],
+        cursor: &mut RowCursor<'_>,
+    ) -> Result<bool, PageFault>
+        requires belong { BelongToIt self }
+        requires case { case_at cursor.old ≡ self.case.now }
+        requires ready { EachFor (IsReady (asked_at cursor.old)) self.trees.now joins.old }
+        requires rows { IfTold F.seen files.old (λ names. IsCursorOf names cursor.old) }
+        requires hold { IfTold F.seen files.old (λ names. HoldIt names self) }
+        requires pages { IfTold F.seen files.old (λ names. EachFor (HasPagesOf names) self.trees.now joins.old) }
+        ensures same { IsSameCursor cursor.old cursor.new }
+        ensures ready { EachFor (IsReady (asked_at cursor.old)) self.entry.trees.now joins.new }
+        ensures rows { IfTold F.seen files.old (λ names. IsCursorOf names cursor.new) }
+        ensures pages { IfTold F.seen files.old (λ names. EachFor (HasPagesOf names) self.entry.trees.now joins.new) }
+        ensures gone { Tells F.seen files.old result (λ passed names. (all : List Row)
+            → HaveGone names all (rows_ahead names cursor.old) self.entry.trees.now joins.old
+            → HaveGone names all (rows_ahead names cursor.new) self.entry.trees.now joins.new) }
+        ensures next { Tells F.seen files.old result (λ passed names. passed ≡ true
+            → length (rows_ahead names cursor.old) ≡ length (rows_ahead names cursor.new) + 1) }
+        ensures left { Tells F.seen files.old result (λ passed names. passed ≡ false
+            → rows_ahead names cursor.new ≡ rows_ahead names cursor.old) }
+        ensures asked { Asked F.seen files.old files.new result PageFault.ReadFault }
+    {
+        if !are_ahead(joins) {
+            return Ok(false);
+        }
+        let Some(place) = cursor.place_after(cursor.done()) else {
+            return Ok(false);
+        };
+        self.judge_row(files, joins, &*cursor, place)?;
+        cursor.pass_next();
+        Ok(true)
     }
 
     // Goes to the next row and judges it; whether there is one.
@@ -227,9 +340,13 @@ impl IndexedTable<'_> {
         ensures end { Tells F.seen files.old result (λ found names. found ≡ false → rows_ahead names cursor.new ≡ []) }
         ensures asked { Asked F.seen files.old files.new result PageFault.ReadFault }
     {
+        if self.pass_known(files, joins, cursor)? {
+            return Ok(true);
+        }
         let Some(place) = cursor.find(files)? else {
             return Ok(false);
         };
+        self.look_ahead(joins, &*cursor);
         self.judge_row(files, joins, &*cursor, place)?;
         cursor.pass();
         Ok(true)
@@ -253,7 +370,8 @@ impl IndexedTable<'_> {
             length (rows_ahead names cursor.old) ≤ 2042 * count_of (heap_in self.heap.now)) }
         ensures ready { EachFor (IsReady (asked_at cursor.old)) self.entry.trees.now joins.new }
         ensures pages { IfTold F.seen files.old (λ names. EachFor (HasPagesOf names) self.entry.trees.now joins.new) }
-        ensures done { IfTold F.seen files.old (λ names. EachFor (IsDone names []) self.entry.trees.now joins.old
+        ensures done { IfTold F.seen files.old (λ names.
+            EachFor (IsThrough names [] (rows_ahead names cursor.old)) self.entry.trees.now joins.old
             → OnOk result (EachFor (IsDone names (rows_ahead names cursor.old)) self.entry.trees.now joins.new)) }
         ensures asked { Asked F.seen files.old files.new result PageFault.ReadFault }
     {

@@ -4,6 +4,7 @@
 
 mod check;
 mod check_all;
+mod in_step;
 mod joined;
 mod joins;
 mod nearness;

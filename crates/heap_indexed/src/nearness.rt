@@ -27,6 +27,13 @@ impl Nearness {
         self.spare > 0
     }
 
+    /// Counts rows that came in step with the entries of a leaf: all are hits.
+    pub fn count_hits(&mut self, hits: u16) {
+        if self.spare > 0 {
+            self.spare = self.spare.saturating_add(hits.min(64) as u8).min(PATIENCE);
+        }
+    }
+
     /// Counts a row that was looked up as it came: a hit, where its entry stands on the leaf of the row before.
     pub fn count(&mut self, is_hit: bool) {
         if self.spare == 0 {

@@ -45,6 +45,40 @@ fn find_in_hand(tree: &SoundTree, sought: Sought<'_>, look_ups: &mut LookUps) ->
     found.is_some()
 }
 
+// Looks for an entry at the very next item of the leaf in hand, if there is one.
+#[inline]
+fn find_next_in_hand(tree: &SoundTree, sought: Sought<'_>, look_ups: &mut LookUps) -> bool
+    requires key { IsKey (specs_of tree.now) sought.key.now }
+    ensures found { result ≡ true → (names : Held) → HoldsTree names tree.now → AreOf names tree.now look_ups.old
+        → has_entry names tree.now sought.entry.key.now sought.entry.tid ≡ true }
+    ensures of { (names : Held) → AreOf names tree.now look_ups.old → AreOf names tree.now look_ups.new }
+{
+    spots_are_of_entries();
+    key_orders_are_total();
+    let Some(hand) = &mut look_ups.hand else {
+        return false;
+    };
+    let found = hand.find_next(tree, sought);
+    found.is_some()
+}
+
+/// Whether an entry stands at the very next item of the leaf in hand, as that of the next row in order does: it is a
+/// visit, and saves one. A miss says nothing, and is no visit yet: a look-up follows it, whose first visit it is.
+#[inline]
+pub fn look_next(tree: &SoundTree, sought: Sought<'_>, look_ups: &mut LookUps) -> bool
+    requires key { IsKey (specs_of tree.now) sought.key.now }
+    ensures found { result ≡ true → (names : Held) → HoldsTree names tree.now → AreOf names tree.now look_ups.old
+        → has_entry names tree.now sought.entry.key.now sought.entry.tid ≡ true }
+    ensures of { (names : Held) → AreOf names tree.now look_ups.old → AreOf names tree.now look_ups.new }
+{
+    if !find_next_in_hand(tree, sought, look_ups) {
+        return false;
+    }
+    count_visits(&mut look_ups.visits, 1);
+    look_ups.saved = look_ups.saved.saturating_add(1);
+    true
+}
+
 // Looks for an entry on the leaf in hand, which is a visit. A hit saves one.
 fn look_in_hand(tree: &SoundTree, sought: Sought<'_>, look_ups: &mut LookUps) -> bool
     requires key { IsKey (specs_of tree.now) sought.key.now }

@@ -206,8 +206,8 @@ impl Waiting {
         Ok(())
     }
 
-    // Whether rows are looked up as they come. None waits then.
-    fn is_in_order(&self) -> bool
+    /// Whether rows are looked up as they come. None waits then.
+    pub fn is_in_order(&self) -> bool
         ensures { result ≡ true → rows_in self.now ≡ [] }
     {
         self.nearness.is_hoped() && self.run.is_empty()
@@ -218,6 +218,13 @@ impl Waiting {
         ensures run { self.new.run ≡ self.old.run }
     {
         self.nearness.count(before == after);
+    }
+
+    /// Notes that so many rows came in step with the entries of a leaf.
+    pub fn see_in_step(&mut self, rows: u16)
+        ensures run { self.new.run ≡ self.old.run }
+    {
+        self.nearness.count_hits(rows);
     }
 
     // Looks up a row as it comes.
@@ -253,6 +260,7 @@ impl Waiting {
         Ok(())
     }
 
+    // Has a row wait, or looks it up as it comes. Where the run can't hold it, those that wait are looked up
     // first, and a row that an empty run doesn't hold is looked up by itself.
     fn add_row<F: Files>(
         &mut self,

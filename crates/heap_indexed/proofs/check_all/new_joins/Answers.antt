@@ -6,9 +6,10 @@ use Rattle.key_runs.specs.Rows.{GatheredRow}
 use Rattle.bt_levels.specs.Sound.{specs_of}
 use Rattle.bt_levels.specs.declared.sound.SoundTree.{SoundTree}
 use Rattle.heap_indexed.specs.declared.joins.Join.{Join}
-use Rattle.heap_indexed.specs.Joins.{HasPagesOf, IsDone, IsReady}
+use Rattle.heap_indexed.specs.Joins.{HasPagesOf, IsReady, IsThrough}
 use Rattle.heap_indexed.proofs.Columns.{asked-here, columns-count}
 use Rattle.heap_indexed.proofs.Each.{below-all, below-push}
+use Rattle.heap_indexed.proofs.InStep.{none-known}
 use Rattle.heap_indexed.proofs.Walks.{done-none}
 use Rattle.heap_indexed.proofs.check_all.new_joins.Goals as goal
 
@@ -35,10 +36,13 @@ loop-j-preserved c =
       pages = λ names.
           subst (λ (js : List Join). (k : ℕ) (t : SoundTree) (d : Join) → k < c.loop-j.j + 1 → HasPagesOf names (slice_index_or trees k t) (slice_index_or js k d)) (sym pushed)
           (below-push (HasPagesOf names) trees joins c.loop-j.j tree join inv.many c.index-trees-j.is (omega arith) (inv.pages names) (c.in_ok-join.ensures.pages names tree));
-      done = λ names.
-          subst (λ (js : List Join). (k : ℕ) (t : SoundTree) (d : Join) → k < c.loop-j.j + 1 → IsDone names [] (slice_index_or trees k t) (slice_index_or js k d)) (sym pushed)
-          (below-push (IsDone names []) trees joins c.loop-j.j tree join inv.many c.index-trees-j.is (omega arith) (inv.done names)
-          (done-none names tree join.waiting join.report c.in_ok-join.ensures.report none));
+      done = λ names rows.
+          subst (λ (js : List Join). (k : ℕ) (t : SoundTree) (d : Join) → k < c.loop-j.j + 1 → IsThrough names [] rows (slice_index_or trees k t) (slice_index_or js k d)) (sym pushed)
+          (below-push (IsThrough names [] rows) trees joins c.loop-j.j tree join inv.many c.index-trees-j.is (omega arith) (inv.done names rows)
+          (record {
+            gone = done-none names tree join.waiting join.report c.in_ok-join.ensures.report none;
+            known = none-known names tree join.ahead rows c.in_ok-join.ensures.ahead;
+          }));
     }
 
 pub returns-clause-ready : goal.returns-clause-ready

@@ -13,7 +13,7 @@ use Rattle.heap_check.specs.RowCursor.{AreAsked, asked_at, rows_ahead}
 use Rattle.root_set.specs.Targets.{is_in}
 use Rattle.indexed_rules.specs.Lists.{indexed_lists}
 use Rattle.heap_indexed.specs.declared.joins.Join.{Join}
-use Rattle.heap_indexed.specs.Joins.{EachFor, HasPagesOf, IsDone, IsJudged, IsReady, columns_of_all}
+use Rattle.heap_indexed.specs.Joins.{EachFor, HasPagesOf, IsDone, IsJudged, IsReady, IsThrough, columns_of_all}
 use Rattle.heap_indexed.specs.Waiting.{AreKeyed}
 use Rattle.heap_indexed.proofs.Cases.{both-are, entries-are, rows-are}
 use Rattle.heap_indexed.proofs.Columns.{all-there}
@@ -75,8 +75,8 @@ returns-clause-reports g c = λ names told.
     let rows = rows_ahead names c.in_ok-cursor.cursor in
     let set : List (List Bool) = c.targets.result.now in
     let says = set-says case names heap c.requires.belong.heap hold.heap set c.targets.ensures (c.set_tells_of_pages.ensures.tells (heap_page case names) (heap_blocks case names)) in
-    let start : EachFor (IsDone names []) trees c.deref_mut.result.now =
-    subst (λ (js : List Join). EachFor (IsDone names []) trees js) (sym c.deref_mut.ensures.value) (c.in_ok-joins.ensures.done names) in
+    let start : EachFor (IsThrough names [] rows) trees c.deref_mut.result.now =
+    subst (λ (js : List Join). EachFor (IsThrough names [] rows) trees js) (sym c.deref_mut.ensures.value) (c.in_ok-joins.ensures.done names rows) in
     let before : length c.in_ok-joins.joins.items ≡ length trees = (c.in_ok-joins.ensures.pages names).same in
     let after : length c.judge_rows.new.joins ≡ length trees = c.judge_rows.ensures.ready.same in
     let back = written-back c.in_ok-joins.joins.len c.judge_rows.new.joins c.in_ok-joins.joins.items (omega (arith, before, after, c.deref_mut.ensures.len, ap length c.deref_mut.ensures.value)) in

@@ -3,21 +3,46 @@ use Rattle.std.specs.Prelude.{Option, drop}
 use Rattle.heap_check.specs.declared.row_cursor.RowPlace.{RowPlace}
 use Rattle.heap_check.specs.declared.rows.LiveRow.{LiveRow}
 use Rattle.heap_check.specs.RowCursor.{IsPlaceOfFirst, rows_ahead}
+use Rattle.heap_indexed.specs.Joins.{EachFor, IsThrough}
 use Rattle.heap_indexed.proofs.Walks.{first-row}
 use Rattle.heap_indexed.proofs.joined.IndexedTable.judge_next.Goals as goal
 
+pub find-requires : goal.find-requires
+find-requires g c = record { told = λ names told. c.pass_known.ensures.rows names (sym c.pass_known.ensures.asked.same ∙ told) }
+
+pub returns-in_err-place-clause-rows : goal.returns-in_err-place-clause-rows
+returns-in_err-place-clause-rows g c = λ names told. c.find.ensures.told names (c.pass_known.ensures.asked.same ∙ told)
+
+pub returns-in_default-clause-rows : goal.returns-in_default-clause-rows
+returns-in_default-clause-rows g c = λ names told. c.find.ensures.told names (c.pass_known.ensures.asked.same ∙ told)
+
 pub judge_row-requires-clause-hold : goal.judge_row-requires-clause-hold
-judge_row-requires-clause-hold g c = λ names told. c.requires.hold names (sym c.find.ensures.asked.same ∙ told)
+judge_row-requires-clause-hold g c = λ names told. c.requires.hold names (sym c.pass_known.ensures.asked.same ∙ sym c.find.ensures.asked.same ∙ told)
+
+pub judge_row-requires-clause-pages : goal.judge_row-requires-clause-pages
+judge_row-requires-clause-pages g c = λ names told.
+    c.look_ahead.ensures.pages names (c.pass_known.ensures.pages names (sym c.pass_known.ensures.asked.same ∙ sym c.find.ensures.asked.same ∙ told))
+
+pub returns-in_err-judge_row-clause-rows : goal.returns-in_err-judge_row-clause-rows
+returns-in_err-judge_row-clause-rows g c = λ names told. c.find.ensures.told names (c.pass_known.ensures.asked.same ∙ told)
 
 pub returns-clause-rows : goal.returns-clause-rows
-returns-clause-rows g c = λ names told. c.pass.ensures.told names (c.find.ensures.told names told)
+returns-clause-rows g c = λ names told. c.pass.ensures.told names (c.find.ensures.told names (c.pass_known.ensures.asked.same ∙ told))
 
 pub returns-clause-gone : goal.returns-clause-gone
-returns-clause-gone g c = λ names told all gone.
+returns-clause-gone g c = λ names told all start.
+    let trees = c.args.self.trees.now in
+    let held = c.pass_known.ensures.asked.same ∙ told in
+    let gone = c.in_ok-pass_known.ensures.gone names told all start in
     let cursor = c.find.new.self in
-    let first = first-row names cursor c.in-Some.place (subst (λ (o : Option RowPlace). IsPlaceOfFirst o (rows_ahead names cursor)) c.in-Some.is (c.in_ok-place.ensures.first names told)) in
-    let was : rows_ahead names c.args.cursor.now ≡ first.row ∷ first.rows = sym (c.find.ensures.left names told) ∙ first.ahead in
-    let left : rows_ahead names c.pass.new.self ≡ first.rows = c.pass.ensures.left names (c.find.ensures.told names told) ∙ ap (λ (rs : List LiveRow). drop 1 rs) first.ahead in
+    let are = c.find.ensures.told names held in
+    let first = first-row names cursor c.in-Some.place (subst (λ (o : Option RowPlace). IsPlaceOfFirst o (rows_ahead names cursor)) c.in-Some.is (c.in_ok-place.ensures.first names held)) in
+    let was : rows_ahead names c.pass_known.new.cursor ≡ first.row ∷ first.rows = sym (c.find.ensures.left names held) ∙ first.ahead in
+    let left : rows_ahead names c.pass.new.self ≡ first.rows = c.pass.ensures.left names are ∙ ap (λ (rs : List LiveRow). drop 1 rs) first.ahead in
+    let hold = c.requires.hold names told in
+    let pages = c.pass_known.ensures.pages names told in
+    let before = subst (λ (rs : List LiveRow). EachFor (IsThrough names gone.done rs) trees c.pass_known.new.joins) (sym (c.find.ensures.left names held)) gone.each in
+    let ahead = c.look_ahead.ensures.through names gone.done hold pages are before in
     record {
       done = gone.done ++ first.row ∷ [];
       is =
@@ -25,7 +50,8 @@ returns-clause-gone g c = λ names told all gone.
           ∙ sym (append_assoc gone.done (first.row ∷ []) first.rows)
           ∙ ap (λ (rs : List LiveRow). (gone.done ++ first.row ∷ []) ++ rs) (sym left);
       each =
-          c.in_ok-judge_row.ensures.done names (c.find.ensures.asked.same ∙ told) gone.done first.row
-          (record { cursor_of = c.find.ensures.told names told; rows = first.rows; ahead = first.ahead; tid = first.tid; root = first.root })
-          gone.each;
+          subst (λ (rs : List LiveRow). EachFor (IsThrough names (gone.done ++ first.row ∷ []) rs) trees c.judge_row.new.joins) (sym (c.pass.ensures.left names are))
+          (c.in_ok-judge_row.ensures.done names (c.find.ensures.asked.same ∙ held) gone.done first.row
+          (record { cursor_of = are; rows = first.rows; ahead = first.ahead; tid = first.tid; root = first.root })
+          ahead);
     }

@@ -2,8 +2,8 @@ use Rattle.std.proofs.Common.{◌∙◌, sym, subst, arith}
 use Rattle.outside.proofs.Asking.{Passed-next}
 use Rattle.heap_check.specs.declared.row_values.AskedColumns.{AskedColumns}
 use Rattle.heap_check.specs.RowCursor.{asked_at, rows_ahead}
-use Rattle.heap_indexed.specs.Joins.{EachFor, HasPagesOf, IsDone, IsReady}
-use Rattle.heap_indexed.proofs.Each.{done-alike, each-alike, gone-all, pages-alike, ready-alike}
+use Rattle.heap_indexed.specs.Joins.{EachFor, HasPagesOf, IsReady, IsThrough}
+use Rattle.heap_indexed.proofs.Each.{each-alike, gone-all, pages-alike, ready-alike, through-alike}
 use Rattle.heap_indexed.proofs.joined.IndexedTable.judge_rows.Goals as goal
 
 pub judge_next-requires-clause-rows : goal.judge_next-requires-clause-rows
@@ -34,7 +34,7 @@ rows-preserved g c =
       gone = λ names told start.
           let before = inv.gone names told start in
           next.gone names (inv.asked.same ∙ told) (rows_ahead names c.args.cursor.now)
-          (record { done = before.done; is = before.is; each = each-alike (IsDone names before.done) (done-alike names before.done) c.args.self.trees.now c.rows.joins c.share_at.new.joins c.share_at.ensures before.each });
+          (record { done = before.done; is = before.is; each = each-alike (IsThrough names before.done (rows_ahead names c.rows.cursor)) (through-alike names before.done (rows_ahead names c.rows.cursor)) c.args.self.trees.now c.rows.joins c.share_at.new.joins c.share_at.ensures before.each });
       few = λ names told.
           let one = next.next names (inv.asked.same ∙ told) c.if-not-branch.false in
           let before = inv.few names told in
@@ -57,4 +57,4 @@ returns-then-not-branch-clause-done g c = λ names told start.
     let all = rows_ahead names c.args.cursor.now in
     gone-all names all (rows_ahead names c.judge_next.new.cursor) c.args.self.trees.now c.judge_next.new.joins (c.in_ok-judge_next.ensures.end names (inv.asked.same ∙ told) c.if-not-branch.true)
     (c.in_ok-judge_next.ensures.gone names (inv.asked.same ∙ told) all
-    (record { done = before.done; is = before.is; each = each-alike (IsDone names before.done) (done-alike names before.done) c.args.self.trees.now c.rows.joins c.share_at.new.joins c.share_at.ensures before.each }))
+    (record { done = before.done; is = before.is; each = each-alike (IsThrough names before.done (rows_ahead names c.rows.cursor)) (through-alike names before.done (rows_ahead names c.rows.cursor)) c.args.self.trees.now c.rows.joins c.share_at.new.joins c.share_at.ensures before.each }))
