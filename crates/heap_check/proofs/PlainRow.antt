@@ -5,11 +5,9 @@ use Rattle.std.proofs.lemmas.List.{get_or-map, length-map}
 use Rattle.std.proofs.lemmas.Option.{slice_get-get_or}
 use Rattle.outside.specs.Outside.{Names}
 use Rattle.key_orders.specs.Types.{HasAlignment, HasLength}
-use Rattle.key_orders.specs.Values.{value_in}
 use Rattle.key_orders.specs.declared.columns.ColType.{ColType}
 use Rattle.key_orders.specs.declared.columns.Value.{Value}
 use Rattle.case_file.specs.declared.case.Column.{Column}
-use Rattle.varlena_attrs.specs.Forms.{Attribute}
 use Rattle.varlena_attrs.specs.InTurn.{IsAttributeOf, TupleParts}
 use Rattle.varlena_attrs.specs.Shown.{shown_at}
 use Rattle.varlena_attrs.specs.declared.places.AttrPlace.TheVariants.{Plain}
@@ -32,7 +30,6 @@ use Rattle.heap_check.proofs.RowHeads.{one_cell, same_column}
 use Rattle.heap_check.proofs.RowLaws.{never_in, read_or_not}
 use Rattle.heap_check.proofs.RowPages.{one_row, told_state}
 use Rattle.heap_check.proofs.RowSteps.{each_from-next}
-use Rattle.heap_check.proofs.RowValues.{cell_is}
 
 -- The row of an item
 

@@ -1,4 +1,4 @@
-use Rattle.std.proofs.Common.{◌+◌, ◌∙◌, refl, sym, arith}
+use Rattle.std.proofs.Common.{◌∙◌, refl, sym, arith}
 use Rattle.heap_pages.specs.Found.{states_of}
 use Rattle.heap_files.specs.Case.{table_of}
 use Rattle.heap_check.specs.RowCursor.{case_at}

@@ -12,12 +12,11 @@ use Rattle.varlena_attrs.specs.Shown.{shown_at}
 use Rattle.varlena_attrs.specs.declared.places.AttrPlace.TheVariants.{Plain}
 use Rattle.heap_pages.specs.Found.{live_attributes}
 use Rattle.heap_files.specs.Case.{table_of}
-use Rattle.heap_check.specs.declared.row_cells.Cell.{Cell}
 use Rattle.heap_check.specs.declared.row_cells.Cell.TheVariants.{Held}
 use Rattle.heap_check.specs.declared.rows.LiveRow.{LiveRow}
 use Rattle.heap_check.specs.RowValues.{column_asked}
 use Rattle.heap_check.specs.Rows.{cell_at, toast_bytes}
-use Rattle.heap_check.proofs.PlainRow.{attributes_after, cell_after, piece_fits, row_after, row_of, type_is, type_of_column, within_columns}
+use Rattle.heap_check.proofs.PlainRow.{attributes_after, cell_after, piece_fits, row_after, type_is, type_of_column, within_columns}
 use Rattle.heap_check.proofs.RowSources.{columns_readable}
 use Rattle.heap_check.proofs.RowValues.{cell_is, some_column}
 use Rattle.heap_check.proofs.row_cursor.RowCursor.value_after.Goals as goal

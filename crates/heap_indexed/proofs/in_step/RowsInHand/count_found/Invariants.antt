@@ -1,4 +1,3 @@
-use Rattle.std.proofs.Common.{◌≤◌}
 use Rattle.outside.specs.Outside.{Names}
 use Rattle.bt_levels.specs.Sound.{HoldsTree}
 use Rattle.heap_check.specs.RowCursor.{IsCursorOf}

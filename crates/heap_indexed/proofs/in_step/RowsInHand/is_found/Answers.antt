@@ -1,4 +1,3 @@
-use Rattle.std.proofs.Common.{refl}
 use Rattle.heap_indexed.proofs.InStep.{row-there}
 use Rattle.heap_indexed.proofs.in_step.RowsInHand.is_found.Goals as goal
 

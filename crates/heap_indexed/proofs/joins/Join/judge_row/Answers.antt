@@ -1,9 +1,8 @@
-use Rattle.std.proofs.Common.{◌≡◌, ◌∙◌, ◌-◌, ◌∷◌, ◌++◌, [], List, drop, sym, subst, arith}
+use Rattle.std.proofs.Common.{◌≡◌, ◌-◌, ◌∷◌, ◌++◌, [], List, drop, sym, subst, arith}
 use Rattle.reports.specs.Added.{joined}
 use Rattle.heap_check.specs.declared.rows.LiveRow.{LiveRow}
 use Rattle.heap_check.specs.RowCursor.{rows_ahead}
 use Rattle.heap_indexed.specs.InStep.{HaveEntries}
-use Rattle.heap_indexed.specs.Joins.{IsThrough}
 use Rattle.heap_indexed.specs.Waiting.{owed_for, owed_in}
 use Rattle.heap_indexed.proofs.InStep.{first-known, known-done, none-known, ok-then}
 use Rattle.heap_indexed.proofs.Walks.{done-more}
