@@ -73,7 +73,7 @@ nothing_read : (toast : Option ℕ) (chunks : List Chunk) (block item : ℕ) (ou
 nothing_read toast chunks block item (Ok list) e = nothing_in toast chunks block item list e
 nothing_read toast chunks block item (Err fault) e = absurd cc
 
-left_is_nothing : (kind : TableKind) (toast : Option ℕ) (chunks : List Chunk) (block item : ℕ) (outcome : Outcome) → leaves_nothing kind outcome ≡ true → left_by kind toast chunks block item (kept_by_values None outcome) ≡ nothing_found
+pub left_is_nothing : (kind : TableKind) (toast : Option ℕ) (chunks : List Chunk) (block item : ℕ) (outcome : Outcome) → leaves_nothing kind outcome ≡ true → left_by kind toast chunks block item (kept_by_values None outcome) ≡ nothing_found
 left_is_nothing kind.Heap toast chunks block item outcome e = ap (λ (lists : Lists). record { listed = nothing; late = lists; chunks = [] }) (nothing_read toast chunks block item outcome e)
 left_is_nothing kind.Toast toast chunks block item outcome e = absurd cc
 

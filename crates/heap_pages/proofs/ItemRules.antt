@@ -11,7 +11,6 @@ use Rattle.page_layout.specs.Page.{count_of, item_of, page_rule_of}
 use Rattle.page_layout.specs.declared.page.LineFlag.{LineFlag}
 use Rattle.page_layout.specs.declared.page.LineFlag.TheVariants as flag
 use Rattle.page_layout.specs.declared.page.LinePtr.{LinePtr}
-use Rattle.varlena_attrs.specs.Forms.{Attribute}
 use Rattle.page_layout.specs.declared.page.PageKind.TheVariants.{Heap}
 use Rattle.page_layout.specs.declared.rules.Rule.{Rule}
 use Rattle.toast_chunks.specs.declared.map.Chunk.{Chunk}
@@ -91,13 +90,19 @@ pub redirect_verdict : (table : Table) (page : List ℕ) (i : ℕ) (item : LineP
 redirect_verdict table page i item value is =
     verdict_by_flag table page i item flag.Redirect value is ∙ ap (λ (p : LinePtr). Passes (Redirect p.off)) (sym value)
 
+-- of an item that passes and leaves nothing, nothing is found
+pub passing_item : (table : Table) (chunks : List Chunk) (block : ℕ) (page : List ℕ) (i : ℕ) (state : ItemState) → left_by table.kind table.toast chunks block i (attributes_by (attributes_in table.columns (tuple_at page i)) (Passes state)) ≡ nothing_found → item_verdict table page i ≡ Passes state → item_found table chunks block page i ≡ nothing_found
+passing_item table chunks block page i state leaves passes =
+    sym (item_is table chunks block page i (rel_of table.kind) (Passes state) refl (sym passes)) ∙ ap (λ (f : FoundLists). both_found f nothing_found) leaves
+
+pub bare_item : (table : Table) (chunks : List Chunk) (block : ℕ) (page : List ℕ) (i : ℕ) (state : ItemState) → attributes_by (attributes_in table.columns (tuple_at page i)) (Passes state) ≡ [] → item_verdict table page i ≡ Passes state → item_found table chunks block page i ≡ nothing_found
+bare_item table chunks block page i state none passes =
+    passing_item table chunks block page i state
+    (ap (left_by table.kind table.toast chunks block i) none ∙ none_left table.kind table.toast chunks block i) passes
+
 pub bare_adds_nothing : (table : Table) (chunks : List Chunk) (block : ℕ) (page : List ℕ) (i : ℕ) (state : ItemState) (old : FoundLists) → attributes_by (attributes_in table.columns (tuple_at page i)) (Passes state) ≡ [] → item_verdict table page i ≡ Passes state → old ≡ both_found old (item_found table chunks block page i)
 bare_adds_nothing table chunks block page i state old none passes =
-    let found : item_found table chunks block page i ≡ nothing_found =
-    sym (item_is table chunks block page i (rel_of table.kind) (Passes state) refl (sym passes))
-    ∙ ap (λ (list : List Attribute). both_found (left_by table.kind table.toast chunks block i list) nothing_found) none
-    ∙ ap (λ (f : FoundLists). both_found f nothing_found) (none_left table.kind table.toast chunks block i)
-    in sym (ap (both_found old) found ∙ found_parts.with_none old)
+    sym (ap (both_found old) (bare_item table chunks block page i state none passes) ∙ found_parts.with_none old)
 
 pub bare_state : (table : Table) (page : List ℕ) (i : ℕ) (state : ItemState) (old new : List ItemState) → item_verdict table page i ≡ Passes state → new ≡ old ++ state ∷ [] → new ≡ old ++ item_state table page i
 unfolding item_state

@@ -32,10 +32,13 @@ nothing_here : (rel : Rel) (block : ℕ) (items : List ItemState) → ((i : ℕ)
 unfolding chain_found
 nothing_here rel block items none i = ap (finding_at (Item rel block i)) (none i)
 
+pub nothing_of_chains : (rel : Rel) (block : ℕ) (items : List ItemState) → ((i : ℕ) → chain_rule block items i ≡ None) → each_upto report_lists (chain_found rel block items) (length items) ≡ nothing
+nothing_of_chains rel block items none = nothing_of_each (chain_found rel block items) (length items) (nothing_here rel block items none)
+
 -- items without chains break no chain rule
 pub no_chains_found : (rel : Rel) (block : ℕ) (items : List ItemState) (old : FoundLists) → ((i : ℕ) → chain_rule block items i ≡ None) → old ≡ both_found old (only_listed (each_upto report_lists (chain_found rel block items) (length items)))
 no_chains_found rel block items old none =
-    sym (ap (λ (l : Lists). both_found old (only_listed l)) (nothing_of_each (chain_found rel block items) (length items) (nothing_here rel block items none)) ∙ found_parts.with_none old)
+    sym (ap (λ (l : Lists). both_found old (only_listed l)) (nothing_of_chains rel block items none) ∙ found_parts.with_none old)
 
 -- Whether something was found of the items
 

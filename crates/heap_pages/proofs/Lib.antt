@@ -17,3 +17,4 @@ pub mod TupleRules
 pub mod ValueLaws
 pub mod ValueRules
 pub mod Judged
+pub mod QuietLaws

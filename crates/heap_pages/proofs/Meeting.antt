@@ -8,7 +8,7 @@ use Rattle.page_layout.specs.Page.{header_of, item_of, upper_of}
 use Rattle.page_layout.specs.declared.page.LineFlag.{LineFlag}
 use Rattle.page_layout.specs.declared.page.PageHeader.{PageHeader}
 use Rattle.page_layout.specs.declared.page.LinePtr.{LinePtr}
-use Rattle.heap_pages.specs.Storage.{has_storage, shares_byte, meets_item_below, covers, is_covered, AreCells, AreMarked, IsTakenBetween, LiesBetween, Marking, taken_with}
+use Rattle.heap_pages.specs.Storage.{AreAbove, has_storage, shares_byte, meets_item_below, covers, is_covered, AreCells, AreMarked, IsTakenBetween, LiesBetween, Marking, taken_with}
 
 aligned_by : (normal : Bool) (upper off len : ℕ) → (normal && not (normal && (not (off % 8 == 0) || nat_lt off upper || nat_lt 8192 (off + len) || nat_lt len 24))) ≡ true → off % 8 ≡ 0
 aligned_by normal upper off len e = grind (arith, common_steps)
@@ -180,11 +180,7 @@ unmarked_next page k upper item test cells above it tested none are =
     let P : ℕ → Type 0 = λ j. has_storage (upper_of page) (item_of page j) ≡ false → AreMarked page j cells in
     subst P number (λ e. skipped page k cells e are) (rw (← above, ← it, ← tested) none)
 
--- no byte of the items 1, .., n of the page lies below this place
-abbrev pub AreAbove : List ℕ → ℕ → ℕ → Type 0
-AreAbove page n place = (j : ℕ) → 1 ≤ j → j ≤ n → has_storage (upper_of page) (item_of page j) ≡ true → place ≤ (item_of page j).off
-
-above_by_last : (page : List ℕ) (i place j : ℕ) → (has_storage (upper_of page) (item_of page i) ≡ true → place ≤ (item_of page i).off) → AreAbove page (i - 1) place → 1 ≤ j → j ≤ i → has_storage (upper_of page) (item_of page j) ≡ true → place ≤ (item_of page j).off
+pub above_by_last : (page : List ℕ) (i place j : ℕ) → (has_storage (upper_of page) (item_of page i) ≡ true → place ≤ (item_of page i).off) → AreAbove page (i - 1) place → 1 ≤ j → j ≤ i → has_storage (upper_of page) (item_of page j) ≡ true → place ≤ (item_of page j).off
 above_by_last page i place j last before some upto storage = elim (cases_lt (i - 1) j) [
   | inr lower ↦ before j some lower storage
   | inl later ↦ let same : i ≡ j = omega arith in subst (λ (k : ℕ). has_storage (upper_of page) (item_of page k) ≡ true → place ≤ (item_of page k).off) same last storage

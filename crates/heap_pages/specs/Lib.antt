@@ -6,6 +6,7 @@ pub mod Verdicts
 pub mod Found
 pub mod Pages
 pub mod States
+pub mod Quiet
 pub mod Broken
 pub mod Left
 pub mod Truth

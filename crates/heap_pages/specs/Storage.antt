@@ -75,12 +75,16 @@ pub record LiesBetween (page : List ℕ) (n lowest end : ℕ) : Type 0 where
   pub begins : (item_of page item).off ≡ lowest
   pub ends : (item_of page item).off + (item_of page item).len ≡ end
 
+-- no byte of the items 1, .., n of the page lies below this place
+abbrev pub AreAbove : List ℕ → ℕ → ℕ → Type 0
+AreAbove page n place =
+    (j : ℕ) → 1 ≤ j → j ≤ n → has_storage (upper_of page) (item_of page j) ≡ true → place ≤ (item_of page j).off
+
 -- the items 1, .., n of the page are added
 pub record AreCells (page : List ℕ) (n : ℕ) (cells : Marking) : Type 0 where
   pub some : cells.marked ≤ n
   pub right : AreMarked page cells.marked cells.taken
-  pub above : (j : ℕ) → 1 ≤ j → j ≤ n → has_storage (upper_of page) (item_of page j) ≡ true →
-      cells.lowest ≤ (item_of page j).off
+  pub above : AreAbove page n cells.lowest
   pub lies : 0 < cells.end → LiesBetween page n cells.lowest cells.end
 
 -- no cell is taken

@@ -8,6 +8,7 @@ mod items;
 mod joint;
 mod laws;
 mod page;
+mod quiet;
 mod storage;
 mod table;
 mod tuple;

@@ -9,6 +9,7 @@ ghost use Rattle.heap_pages.specs.Table.{AreReadable, chunks_seen, table_seen};
 
 use crate::items::judge_items;
 use crate::joint::judge_joint;
+use crate::quiet::is_quiet_page;
 use crate::table::TableRules;
 use crate::work::Work;
 use liveness::Transactions;
@@ -52,6 +53,9 @@ fn judge_sound_page<F: Transactions>(
         at.entry.bits at.entry.block (page_bytes at.entry.view) None))) }
     ensures asked { Asked F.seen files.old files.new result PageFault.ReadFault }
 {
+    if is_quiet_page(table, at) {
+        return Ok(());
+    }
     let before = work.found.counts();
     work.clear();
     judge_items(files, table, at, work)?;

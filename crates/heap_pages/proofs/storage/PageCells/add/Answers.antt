@@ -1,8 +1,8 @@
 use Rattle.std.proofs.Common.{◌≡◌, ◌+◌, ◌-◌, ◌≤◌, ℕ, false, List, sym, ap, arith}
 use Rattle.page_layout.specs.Page.{item_of}
 use Rattle.page_layout.specs.declared.page.LinePtr.{LinePtr}
-use Rattle.heap_pages.specs.Storage.{Marking, meets_item_below}
-use Rattle.heap_pages.proofs.Meeting.{AreAbove, meets_none_above}
+use Rattle.heap_pages.specs.Storage.{AreAbove, Marking, meets_item_below}
+use Rattle.heap_pages.proofs.Meeting.{meets_none_above}
 use Rattle.heap_pages.proofs.Overlaps.{meeting_told}
 use Rattle.heap_pages.proofs.storage.PageCells.add.Goals as goal
 
