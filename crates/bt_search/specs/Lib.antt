@@ -7,3 +7,4 @@ pub mod Cached
 pub mod Lending
 pub mod Lookups
 pub mod InHand
+pub mod Fixed

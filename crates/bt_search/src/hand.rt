@@ -1,19 +1,23 @@
 //! A leaf in hand, for look-ups that go on along it.
-ghost use Rattle.std.specs.Prelude.{◌≡◌, ℕ, ◌<◌, IfOk, IfSome, List, OnErr, OnOk};
+ghost use Rattle.std.specs.Prelude.{◌≡◌, ◌+◌, ◌∷◌, ℕ, ◌<◌, [], IfOk, IfSome, List, None, OnErr, OnOk, length};
 ghost use Rattle.std.specs.Bool.{OnFalse, OnTrue};
 ghost use Rattle.outside.specs.Outside.{AskedAtMost, IfTold, Names as Held};
 ghost use Rattle.page_layout.specs.View.{page_bytes};
 ghost use Rattle.rel_files.specs.Faults.{read_fault};
 ghost use Rattle.rel_files.specs.Relation.{IsAttached};
 ghost use Rattle.key_orders.specs.Keys.{IsKey};
+ghost use Rattle.key_orders.specs.Values.{value_in};
+ghost use Rattle.key_orders.specs.declared.columns.ColType.{ColType as Column};
 ghost use Rattle.bt_levels.specs.declared.sound.SoundTree.{SoundTree as Sound};
 ghost use Rattle.bt_levels.specs.Files.{relation_of};
 ghost use Rattle.bt_levels.specs.Sound.{block_count, file_of, held_block, specs_of};
 ghost use Rattle.bt_search.specs.Cached.{IsCacheOf};
+ghost use Rattle.bt_search.specs.Fixed.{HasFixedKey};
 ghost use Rattle.bt_search.specs.InHand.{IsFirstLeaf, IsHandOf, IsLeafOf, IsLeafWith, first_in_hand, in_hand};
 ghost use Rattle.bt_search.specs.Lookups.{IsAtSpot};
 
 use crate::cache::PageCache;
+use crate::fixed::FixedSought;
 use crate::near::Seeker;
 use crate::spot::Spot;
 use bt_levels::SoundTree;
@@ -134,8 +138,9 @@ impl LeafInHand {
     pub fn find_next(&mut self, tree: &SoundTree, sought: Sought<'_>) -> Option<Spot>
         ensures found { IfSome result (λ at. (names : Held) → IsHandOf names tree.now self.old
             → IsAtSpot names tree.now sought.entry.key.now sought.entry.tid at) }
-        ensures block { self.new.block ≡ self.old.block }
-        ensures bytes { self.new.bytes ≡ self.old.bytes }
+        ensures next { IfSome result (λ at.
+            self.new ≡ in_hand self.old.block (self.old.item + 1) self.old.bytes) }
+        ensures left { result ≡ None → self.new ≡ self.old }
     {
         if self.block == 0 {
             return None;
@@ -146,6 +151,30 @@ impl LeafInHand {
             sought,
         };
         let item = seeker.find_next(PageView::new(&self.bytes), self.item)?;
+        self.item = item;
+        let block = self.block;
+        Some(Spot {
+            block,
+            item,
+            nth: 0,
+        })
+    }
+
+    /// The same in an index with one key column of a fixed length: its bytes are those of the entry's value, behind its
+    /// TID.
+    #[inline]
+    pub fn find_next_fixed(&mut self, sought: FixedSought<'_>) -> Option<Spot>
+        ensures found { IfSome result (λ at. (names : Held) (tree : Sound) (ctype : Column)
+            → HasFixedKey (specs_of tree) ctype (length sought.entry.value.now) → IsHandOf names tree self.old
+            → IsAtSpot names tree (value_in ctype sought.entry.value.now ∷ []) sought.entry.tid at) }
+        ensures next { IfSome result (λ at.
+            self.new ≡ in_hand self.old.block (self.old.item + 1) self.old.bytes) }
+        ensures left { result ≡ None → self.new ≡ self.old }
+    {
+        if self.block == 0 {
+            return None;
+        }
+        let item = sought.find_next(PageView::new(&self.bytes), self.item)?;
         self.item = item;
         let block = self.block;
         Some(Spot {

@@ -2,7 +2,7 @@
 //! caches of one page and of all, and over a read that fails. Places and visits are worked out by hand.
 use crate::tests::{ENTRY, LEAF, LISTED, ONE, SIX, tree_of};
 use crate::trees::{IndexTuple, TreePage, Untold, index_file};
-use crate::{LeafInHand, PageCache, Spot, Visits, find};
+use crate::{FixedSought, LeafInHand, PageCache, Spot, Visits, find};
 use bt_levels::SoundTree;
 use bt_steps::Sought;
 use key_orders::{KeyRefs, Tid, ValueRef, fits_columns};
@@ -50,31 +50,51 @@ fn new_through(alloc: Global) -> Result<Through, NoMemory> {
     Ok(Through { cache, hand })
 }
 
-// Looks for an entry at the very next item of the leaf of a spot, which is taken in hand.
+// Takes the leaf of a spot in hand.
+fn hand_at(
+    tree: &SoundTree,
+    files: &mut Untold<'_>,
+    through: Through,
+    at: Spot,
+) -> Option<LeafInHand> {
+    let Through {
+        mut cache,
+        mut hand,
+    } = through;
+    if at.block < tree.blocks() {
+        cache.page(tree, files, at.block).ok()?;
+    }
+    hand.take(&cache, at);
+    Some(hand)
+}
+
+// Looks for an entry at the very next item of the leaf of a spot, which is taken in hand: by its key, or by the bytes of
+// its value.
 fn next_of(
     tree: &SoundTree,
     files: &mut Untold<'_>,
-    mut through: Through,
+    through: Through,
     entry: (i64, u16),
-    at: Spot,
+    (at, is_fixed): (Spot, bool),
 ) -> Option<Spot> {
-    let key = key_of(entry.0);
     let tid = Tid {
         block: 0,
         item: entry.1,
     };
-    if at.block < tree.blocks() {
-        through.cache.page(tree, files, at.block).ok()?;
+    let mut hand = hand_at(tree, files, through, at)?;
+    if is_fixed {
+        let value = [entry.0 as u8, 0, 0, 0];
+        return hand.find_next_fixed(FixedSought { value: &value, tid });
     }
-    through.hand.take(&through.cache, at);
-    through.hand.find_next(tree, Sought { key: &key, tid })
+    let key = key_of(entry.0);
+    hand.find_next(tree, Sought { key: &key, tid })
 }
 
 // Looks for an entry with the leaf of a spot in hand, from the spot's item on.
 fn near(
     tree: &SoundTree,
     files: &mut Untold<'_>,
-    mut through: Through,
+    through: Through,
     entry: (i64, u16),
     at: Spot,
 ) -> Option<Spot> {
@@ -86,11 +106,8 @@ fn near(
     if !fits_columns(tree.specs(), &key) || key.as_slice().len() != tree.specs().len() {
         return None;
     }
-    if at.block < tree.blocks() {
-        through.cache.page(tree, files, at.block).ok()?;
-    }
-    through.hand.take(&through.cache, at);
-    through.hand.find(tree, Sought { key: &key, tid })
+    let mut hand = hand_at(tree, files, through, at)?;
+    hand.find(tree, Sought { key: &key, tid })
 }
 
 #[test]
@@ -220,15 +237,19 @@ fn finds_entries_onward(rt: HostRuntime) -> Result<(), Fail> {
             let entry = (i64::from(to), to);
             let found = near(&tree, &mut files, new_through(alloc)?, entry, at(1, from));
             assert_eq!(rt; found, if from <= to { Some(at(1, to)) } else { None });
-            let next = next_of(&tree, &mut files, new_through(alloc)?, entry, at(1, from));
-            assert_eq!(rt;
-                next,
-                if from + 1 == to {
-                    Some(at(1, to))
-                } else {
-                    None
-                }
-            );
+            for is_fixed in [false, true] {
+                let through = new_through(alloc)?;
+                let spot = (at(1, from), is_fixed);
+                let next = next_of(&tree, &mut files, through, entry, spot);
+                assert_eq!(rt;
+                    next,
+                    if from + 1 == to {
+                        Some(at(1, to))
+                    } else {
+                        None
+                    }
+                );
+            }
         }
     }
     Ok(())

@@ -1,5 +1,5 @@
 //! Looks for an entry onward from another one, on the same leaf.
-ghost use Rattle.std.specs.Prelude.{◌≡◌, ◌≤◌, None, All, IfSome, length};
+ghost use Rattle.std.specs.Prelude.{◌≡◌, ◌+◌, ◌≤◌, None, All, IfSome, length};
 ghost use Rattle.std.specs.Bool.{OnTrue};
 ghost use Rattle.std.specs.declared.cmp.Ordering.TheVariants.{Equal};
 ghost use Rattle.page_layout.specs.Page.{count_of, item_of, page_rule_of};
@@ -123,8 +123,7 @@ impl<'a> Seeker<'a> {
         requires aligned { All HasAlignment (key_types self.specs.now) }
         ensures has { IfSome result (λ i. HasSought self.entry.specs.now (page_bytes page.entry)
             self.entry.sought.key.now self.entry.sought.tid i 0) }
-        ensures next { IfSome result (λ i. (first_data (page_bytes page.entry) ≤ i)
-            × (i ≤ count_of (page_bytes page.entry))) }
+        ensures next { IfSome result (λ i. (i ≡ from + 1) × (i ≤ count_of (page_bytes page.entry))) }
     {
         if page.item_count() <= from || !self.is_at(page, from + 1) {
             return None;

@@ -15,6 +15,7 @@ mod tests;
 
 pub use heap_files::{HeapFiles, SoundHeap, check_heap};
 pub use heap_pages::{judge_page, lone_pages_are_judged};
+pub use plain_row::FixedColumn;
 pub use reports::{CheckFault, PageFault, Which};
 pub use row_cells::{Cell, CellRef, Cells};
 pub use row_cursor::{RowCursor, RowPlace};

@@ -84,18 +84,12 @@ pub(crate) struct ValueSources<'a> {
     pub(crate) starts: &'a [Option<usize>],
 }
 
-impl ValueSources<'_> {
-    // Where the k-th column that is asked for begins in tuples without nulls, if that is known.
-    #[inline]
-    fn start(&self, k: usize) -> Option<usize>
-        ensures { IfSome result (IsStart self.now.starts.now k) }
-    {
-        if k < self.starts.len() {
-            self.starts[k]
-        } else {
-            None
-        }
-    }
+/// Where the k-th column that is asked for begins in tuples without nulls, if that is known.
+#[inline]
+pub(crate) fn start_at(starts: &[Option<usize>], k: usize) -> Option<usize>
+    ensures { IfSome result (IsStart starts.now k) }
+{
+    if k < starts.len() { starts[k] } else { None }
 }
 
 /// Where each of these columns begins in a tuple without nulls, where all columns before it have a fixed length.
@@ -305,7 +299,7 @@ impl RowValues {
         if from.columns.len() <= a {
             return Ok(None);
         }
-        if let Some(start) = from.start(k) {
+        if let Some(start) = start_at(from.starts, k) {
             if let Some(piece) = attrs.plain_value(a, start) {
                 return Ok(Some(ValuePlace::OnPage {
                     start: tuple.start + piece.start,

@@ -33,6 +33,23 @@ name = \"a\"
 type = \"text\"
 ";
 
+// A table of one column of numbers.
+const NUMBERS: &[u8] = b"[cluster]
+next_xid = 1000
+oldest_xid = 3
+next_multi = 10
+oldest_multi = 1
+next_member = 100
+xact = \"xact\"
+offsets = \"offsets\"
+members = \"members\"
+[heap]
+file = \"t\"
+[[column]]
+name = \"a\"
+type = \"int4\"
+";
+
 // A heap page with one item at this place, whose tuple is of transaction 700: its header, and its body.
 fn page(off: u16, infomask: u16, natts: u8, body: &[u8]) -> [u8; 8192]
     requires { off + 24 + length body.now ≤ 8192 }
@@ -160,9 +177,42 @@ fn is_told<F: Files>(
         Some(ValueRef::Bytes(bytes)) => bytes == b"ab".as_slice(),
         _ => false,
     };
-    cursor.pass_next();
+    let passed = cursor.pass_live(2);
     let next = cursor.find(files)?;
-    Ok(is_first && is_read && next.is_none())
+    Ok(is_first && is_read && passed == 1 && next.is_none())
+}
+
+// Whether the first row of a heap has the number 7 at a fixed place.
+fn is_seven<F: Files>(
+    alloc: Global,
+    files: &mut F,
+    case: &Case,
+    heap: &SoundHeap,
+) -> Result<bool, Fail>
+    requires told { IfTold F.seen files.old (λ names. IsSoundHeapOf case.now names heap.now × IsQuiet case.now names) }
+    requires belong { BelongTo case.now (files_of heap.now) }
+{
+    let mut cursor = RowCursor::asking(alloc, case, heap, AskedColumns::All)?;
+    cursor.find(files)?;
+    let (Some(_), Some(column)) = (cursor.place_after(cursor.done()), cursor.fixed_column(0)) else {
+        return Ok(false);
+    };
+    match cursor.fixed_value_after(cursor.done(), column) {
+        Some(bytes) => Ok(bytes == b"\x07\0\0\0".as_slice()),
+        None => Ok(false),
+    }
+}
+
+#[test]
+fn a_number_is_told_at_its_place(rt: HostRuntime) -> Result<(), Fail> {
+    let alloc = rt.alloc();
+    let mut files = MemFiles::new(alloc);
+    files.add("t", Part::Segment(0), &page(8160, 0x0900, 1, b"\x07\0\0\0"))?;
+    files.add("xact", Part::Slru(0), &[0x55u8; 8192])?;
+    let case: Case = read_case(alloc, NUMBERS).ok().ok_or("refused")?;
+    let sound = sound_heap(alloc, &mut files, &case)?.ok_or("not sound")?;
+    assert!(rt; is_seven(alloc, &mut files, &case, &sound)?);
+    Ok(())
 }
 
 #[test]

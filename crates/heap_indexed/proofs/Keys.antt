@@ -1,14 +1,16 @@
 -- The key of a row, value by value.
 use Rattle.std.proofs.Common.{◌≡◌, ◌∙◌, ℕ, ◌+◌, ◌-◌, ◌<◌, ◌≤◌, true, false, List, [], ◌∷◌, ◌++◌, length, drop, get_or, refl, sym, ap, subst, arith, add-one, append-nil, append_assoc, drop-cons}
-use Rattle.std.specs.Prelude.{All, Option, Some, None, min, option_map, slice_get, take, unwrap_or}
+use Rattle.std.specs.Prelude.{All, Option, Some, None, map, min, option_map, slice_get, take, unwrap_or}
 use Rattle.std.specs.List.{AllByRecursion}
 use Rattle.std.proofs.lemmas.Bool.{and_from}
 use Rattle.std.proofs.Math.Nat.{min-le_right}
 use Rattle.std.proofs.Math.Seq.{take-length}
 use Rattle.std.proofs.lemmas.List.{get_or-drop, get_or-take, get_or_default, length-drop, length-map, length-take}
 use Rattle.std.proofs.lemmas.List.Elements.{All-from_recursion, All-map}
-use Rattle.std.proofs.lemmas.Option.{slice_get-get_or, slice_get_within}
+use Rattle.std.proofs.lemmas.Option.{same_Some, slice_get-get_or, slice_get-map, slice_get_within}
 use Rattle.std.proofs.Math.ListN.{get_or-map}
+use Rattle.key_orders.specs.Types.{HasAlignment}
+use Rattle.key_orders.specs.declared.columns.ColType.{ColType}
 use Rattle.key_orders.specs.declared.columns.ColType.TheVariants.{Bool as BoolType}
 use Rattle.key_orders.specs.declared.columns.KeySpec.{KeySpec}
 use Rattle.key_orders.specs.declared.columns.Value.{Value}
@@ -22,7 +24,12 @@ use Rattle.heap_check.specs.declared.row_cells.Cell.{Cell}
 use Rattle.heap_check.specs.declared.row_cells.Cell.TheVariants.{Held, Packed}
 use Rattle.heap_check.specs.declared.row_values.AskedColumns.{AskedColumns}
 use Rattle.heap_check.specs.declared.row_values.AskedColumns.TheVariants.{All as Every, Only}
-use Rattle.heap_check.specs.RowCursor.{AreAsked}
+use Rattle.varlena_attrs.specs.Keyed.{key_types}
+use Rattle.bt_search.specs.Fixed.{HasFixedKey}
+use Rattle.heap_check.specs.declared.plain_row.FixedColumn.{FixedColumn}
+use Rattle.heap_check.specs.declared.row_cursor.RowCursor.{RowCursor}
+use Rattle.heap_check.specs.PlainRow.{IsFixedColumn, types_at}
+use Rattle.heap_check.specs.RowCursor.{AreAsked, asked_at, case_at}
 use Rattle.heap_check.specs.RowFits.{FitsColumn}
 use Rattle.heap_check.specs.RowValues.{column_asked, count_asked}
 use Rattle.indexed_rules.specs.Rows.{key_in, with_value}
@@ -130,6 +137,41 @@ pub value-fits : (columns : List Column) (specs : List KeySpec) (k : ℕ) (d : K
 value-fits columns specs k d v sound lt fits =
     let has = has-column columns (get_or specs k d) (All-from_recursion (IsSoundKey columns) specs sound k d lt) in
     ap (λ t. fits_type t v) (sym has.ctype) ∙ fits has.column has.there
+
+-- A key of one column
+
+-- its one value is that of the column
+pub one-key : (specs : List KeySpec) (cells : List Cell) (first : ℕ) (asked : AskedColumns) (ctype : ColType) (len : ℕ) (v : Value) → HasFixedKey specs ctype len → AreAskedFrom first (columns_in specs) asked → slice_get cells (column_asked asked first) ≡ Some (Held v) → Some (v ∷ []) ≡ key_in specs cells
+one-key specs cells first asked ctype len v fixed are cell =
+    let column : column_asked asked first ≡ fixed.spec.column = one-column specs first asked ctype len fixed are in
+    ap (λ (c : Option Cell). with_value c (Some [])) (sym cell ∙ ap (slice_get cells) column)
+    ∙ ap (λ (ks : List KeySpec). key_in ks cells) (sym fixed.one)
+  where
+    one-column : (specs : List KeySpec) (first : ℕ) (asked : AskedColumns) (ctype : ColType) (len : ℕ) (fixed : HasFixedKey specs ctype len) → AreAskedFrom first (columns_in specs) asked → column_asked asked first ≡ fixed.spec.column
+    one-column specs first asked ctype len fixed are =
+        let some : 0 < length specs = omega (arith, ap length fixed.one) in
+        ap (column_asked asked) (omega arith) ∙ asked-column first specs asked 0 any-spec are some ∙ ap (λ (ks : List KeySpec). (get_or ks 0 any-spec).column) fixed.one
+
+-- a column of a fixed length that is the only one of a key
+pub fixed-key : (case : CaseRecord) (cursor : RowCursor) (first : ℕ) (specs : List KeySpec) (column : FixedColumn) → case_at cursor ≡ case → AreAskedFrom first (columns_in specs) (asked_at cursor) → AllByRecursion (IsSoundKey case.columns) specs → All HasAlignment (key_types specs) → length specs ≡ 1 → IsFixedColumn cursor first column → HasFixedKey specs column.ctype column.len
+fixed-key case cursor first [] column is asked sound aligns one found = absurd (omega (arith, one))
+fixed-key case cursor first (spec ∷ s ∷ specs) column is asked sound aligns one found = absurd (omega (arith, one))
+fixed-key case cursor first (spec ∷ []) column is asked sound aligns one found =
+    let at : column_asked (asked_at cursor) first ≡ spec.column = ap (column_asked (asked_at cursor)) (omega arith) ∙ asked-column first (spec ∷ []) (asked_at cursor) 0 any-spec asked (omega arith) in
+    let here : Some spec.ctype ≡ Some column.ctype =
+    sym sound.0.is_there
+    ∙ sym (slice_get-map (λ (c : Column). c.ctype) case.columns spec.column)
+    ∙ ap (λ (cs : List Column). slice_get (map (λ (c : Column). c.ctype) cs) spec.column) (ap (λ (r : CaseRecord). r.columns) (sym is))
+    ∙ ap (slice_get (types_at cursor)) (sym (found.number ∙ at))
+    ∙ found.there in
+    let same : spec.ctype ≡ column.ctype = same_Some spec.ctype column.ctype here in
+    record {
+      spec = spec;
+      one = refl;
+      ctype_is = same;
+      aligned = subst HasAlignment same (aligns 0 spec.ctype (omega arith));
+      fixed = found.length;
+    }
 
 -- The key of an index of a case
 

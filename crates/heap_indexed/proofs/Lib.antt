@@ -7,3 +7,4 @@ pub mod Cases
 pub mod Each
 pub mod Columns
 pub mod InStep
+pub mod Passing

@@ -7,7 +7,9 @@ use Rattle.bt_levels.specs.declared.sound.SoundTree.{SoundTree}
 use Rattle.bt_levels.specs.Sound.{specs_of}
 use Rattle.heap_check.specs.declared.row_cursor.RowCursor.{RowCursor}
 use Rattle.heap_check.specs.declared.rows.LiveRow.{LiveRow}
-use Rattle.heap_check.specs.PlainRow.{rows_after}
+use Rattle.bt_search.specs.Fixed.{HasFixedKey}
+use Rattle.heap_check.specs.declared.plain_row.FixedColumn.{FixedColumn}
+use Rattle.heap_check.specs.PlainRow.{IsFixedColumn, rows_after}
 use Rattle.heap_check.specs.RowCursor.{asked_at, case_at}
 use Rattle.heap_indexed.specs.declared.in_step.RowsInHand.{RowsInHand}
 use Rattle.heap_indexed.specs.Joined.{BelongTogether}
@@ -32,3 +34,8 @@ pub record HasEntryAfter (names : Names) (tree : SoundTree) (cursor : RowCursor)
   pub row : LiveRow
   pub first : rows_after names cursor done ≡ row ∷ rows_after names cursor (done + 1)
   pub found : HasEntry names tree row
+
+-- the index's key is one column of a fixed length, which the cursor finds at a fixed place
+pub record IsFixedKey (rows : RowsInHand) (column : FixedColumn) : Type 0 where
+  pub found : IsFixedColumn rows.cursor.now rows.first column
+  pub key : HasFixedKey (specs_of rows.at.tree.now) column.ctype column.len

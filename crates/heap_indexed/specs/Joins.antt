@@ -1,5 +1,5 @@
 -- The rows of a heap against all its indexes at once.
-use Rattle.std.specs.Prelude.{◌≡◌, ℕ, ◌<◌, ◌++◌, Bool, List, All, length, slice_index_or}
+use Rattle.std.specs.Prelude.{◌≡◌, ℕ, ◌+◌, ◌<◌, ◌≤◌, ◌++◌, Bool, List, All, length, slice_index_or}
 use Rattle.std.specs.List.{flat_map}
 use Rattle.outside.specs.Outside.{Names}
 use Rattle.reports.specs.Added.{joined}
@@ -9,10 +9,8 @@ use Rattle.bt_levels.specs.Files.{number_of}
 use Rattle.bt_levels.specs.Sound.{block_count, file_of, held_block, specs_of}
 use Rattle.heap_files.specs.Files.{BelongTo, IsSoundHeapOf, files_of}
 use Rattle.heap_files.specs.Found.{IsQuiet}
-use Rattle.heap_check.specs.declared.row_cursor.RowCursor.{RowCursor}
 use Rattle.heap_check.specs.declared.row_values.AskedColumns.{AskedColumns}
 use Rattle.heap_check.specs.declared.rows.LiveRow.{LiveRow}
-use Rattle.heap_check.specs.RowCursor.{IsAtRow}
 use Rattle.root_set.specs.Targets.{is_in}
 use Rattle.indexed_rules.specs.Lists.{leaves_lists}
 use Rattle.heap_indexed.specs.declared.joined.IndexedTable.{IndexedTable}
@@ -69,11 +67,6 @@ pub record HaveGone (names : Names) (all left : List LiveRow) (trees : List Soun
     pub is : all ≡ done ++ left
     pub each : EachFor (IsThrough names done left) trees joins
 
--- the row at which a cursor is has its values at hand, or it is known that it has its entry
-abbrev pub IsAtOrAhead : RowCursor → List Join → Type 0
-IsAtOrAhead cursor joins =
-    (k : ℕ) (join : Join) → k < length joins → (slice_index_or joins k join).ahead ≡ 0 → IsAtRow cursor
-
 -- the entries of the index that name what the set doesn't have
 abbrev pub leaves_of : Names → List (List Bool) → SoundTree → Lists
 leaves_of names targets tree =
@@ -95,3 +88,21 @@ pub record AreAlike (old new : Join) : Type 0 where
 pub record AllAlike (old new : List Join) : Type 0 where
   pub same : length new ≡ length old
   pub each : (k : ℕ) (join : Join) → AreAlike (slice_index_or old k join) (slice_index_or new k join)
+
+-- it is known for each index of so many of the next rows that they have their entries
+abbrev pub AreAhead : ℕ → List Join → Type 0
+AreAhead count joins = (k : ℕ) (join : Join) → k < length joins → count ≤ (slice_index_or joins k join).ahead
+
+-- two that differ in that so many of these rows are passed
+pub record IsPassed (count : ℕ) (old new : Join) : Type 0 where
+  pub first : new.first ≡ old.first
+  pub rows : new.waiting.run.rows ≡ old.waiting.run.rows
+  pub look_ups : new.look_ups ≡ old.look_ups
+  pub report : new.report ≡ old.report
+  pub ahead : new.ahead + count ≡ old.ahead
+
+-- so it is with all, place by place
+pub record AllPass (count : ℕ) (old new : List Join) : Type 0 where
+  pub same : length new ≡ length old
+  pub each : (k : ℕ) (join : Join) → k < length old
+      → IsPassed count (slice_index_or old k join) (slice_index_or new k join)

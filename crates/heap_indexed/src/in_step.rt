@@ -1,23 +1,25 @@
 //! Rows of a page that come in step with the entries of a leaf: each has its entry right behind that of the row before.
-ghost use Rattle.std.specs.Prelude.{◌≡◌, ◌∷◌, ◌≤◌, List, Some, length};
+ghost use Rattle.std.specs.Prelude.{◌≡◌, ◌∷◌, ◌≤◌, IfSome, List, Some, length};
 ghost use Rattle.std.specs.Bool.{OnTrue};
 ghost use Rattle.std.specs.List.{AllByRecursion};
 ghost use Rattle.outside.specs.Outside.{Names};
 ghost use Rattle.key_orders.specs.Keys.{IsKey};
 ghost use Rattle.case_file.specs.Sound.{IsSoundKey};
 ghost use Rattle.bt_levels.specs.Sound.{HoldsTree, specs_of};
+ghost use Rattle.bt_search.specs.InHand.{IsHandOf};
 ghost use Rattle.heap_check.specs.PlainRow.{HasLiveAfter, rows_after};
 ghost use Rattle.heap_check.specs.RowCursor.{IsCursorOf, rows_ahead};
 ghost use Rattle.heap_check.specs.declared.rows.LiveRow.{LiveRow as Row};
 ghost use Rattle.indexed_rules.specs.Rows.{key_in};
-ghost use Rattle.heap_indexed.specs.InStep.{HaveEntries, HasEntryAfter, IsOfHeap};
+ghost use Rattle.heap_indexed.specs.InStep.{HaveEntries, HasEntryAfter, IsFixedKey, IsOfHeap};
 ghost use Rattle.heap_indexed.specs.Looking.{AreOf};
 
 use crate::joined::{IndexedHeap, LookUps};
 use crate::prober::look_next;
+use bt_search::{FixedSought, LeafInHand, spots_are_of_entries};
 use bt_steps::Sought;
-use heap_check::RowCursor;
-use key_orders::KeyRefs;
+use heap_check::{FixedColumn, RowCursor};
+use key_orders::{KeyRefs, key_orders_are_total};
 
 // A page has at most 2042 items.
 const MAX_ITEMS: u16 = 2042;
@@ -83,8 +85,90 @@ impl<'c> RowsInHand<'c, '_> {
         true
     }
 
-    /// How many of the next rows have their entries one right behind the other on the leaf in hand, from the item on
-    /// from which look-ups go on, as far as their bytes tell it as they lie. Look-ups go on from the last of them then.
+    // The same by the bytes of both, where the key is one column of a fixed length.
+    #[inline]
+    fn is_fixed_found(self, done: u16, column: FixedColumn, hand: &mut LeafInHand) -> bool
+        requires rows { IsOfHeap self }
+        requires key { IsFixedKey self column }
+        ensures found { OnTrue result ((names : Names) → HoldsTree names self.entry.at.tree.now
+            → IsHandOf names self.entry.at.tree.now hand.old → IsCursorOf names self.entry.cursor.now
+            → HasEntryAfter names self.entry.at.tree.now self.entry.cursor.now done) }
+        ensures of { (names : Names) → IsHandOf names self.entry.at.tree.now hand.old
+            → IsHandOf names self.entry.at.tree.now hand.new }
+    {
+        spots_are_of_entries();
+        key_orders_are_total();
+        let Some(place) = self.cursor.place_after(done) else {
+            return false;
+        };
+        let Some(value) = self.cursor.fixed_value_after(done, column) else {
+            return false;
+        };
+        let found = hand.find_next_fixed(FixedSought {
+            value,
+            tid: place.root,
+        });
+        found.is_some()
+    }
+
+    // The column of the key, where it is the only one and has a fixed length at a fixed place.
+    fn fixed_key(self) -> Option<FixedColumn>
+        requires rows { IsOfHeap self }
+        requires sound { AllByRecursion (IsSoundKey self.at.case.now.columns) (specs_of self.at.tree.now) }
+        ensures { IfSome result (IsFixedKey self.entry) }
+    {
+        self.at.tree.keyed();
+        if self.at.tree.specs().len() != 1 {
+            return None;
+        }
+        self.cursor.fixed_column(self.first)
+    }
+
+    // How many of the next rows have their entries so on the leaf in hand, in an index with such a key.
+    fn count_fixed(self, column: FixedColumn, hand: &mut LeafInHand) -> u16
+        requires rows { IsOfHeap self }
+        requires key { IsFixedKey self column }
+        ensures found { (names : Names) → HoldsTree names self.entry.at.tree.now
+            → IsHandOf names self.entry.at.tree.now hand.old → IsCursorOf names self.entry.cursor.now
+            → HaveEntries names self.entry.at.tree.now result (rows_ahead names self.entry.cursor.now) }
+        ensures of { (names : Names) → IsHandOf names self.entry.at.tree.now hand.old
+            → IsHandOf names self.entry.at.tree.now hand.new }
+    {
+        let done = self.cursor.done();
+        for after in done..MAX_ITEMS {
+            if !self.is_fixed_found(after, column, hand) {
+                return after - done;
+            }
+        }
+        // A page has room for fewer tuples.
+        0
+    }
+
+    // The same in any index.
+    fn count_plain(self, look_ups: &mut LookUps) -> u16
+        requires rows { IsOfHeap self }
+        requires few { length (specs_of self.at.tree.now) ≤ 8 }
+        requires sound { AllByRecursion (IsSoundKey self.at.case.now.columns) (specs_of self.at.tree.now) }
+        ensures found { (names : Names) → HoldsTree names self.entry.at.tree.now
+            → AreOf names self.entry.at.tree.now look_ups.old → IsCursorOf names self.entry.cursor.now
+            → HaveEntries names self.entry.at.tree.now result (rows_ahead names self.entry.cursor.now) }
+        ensures of { (names : Names) → AreOf names self.entry.at.tree.now look_ups.old
+            → AreOf names self.entry.at.tree.now look_ups.new }
+    {
+        let mut key = KeyRefs::new();
+        let done = self.cursor.done();
+        for after in done..MAX_ITEMS {
+            if !self.is_found(after, &mut key, look_ups) {
+                return after - done;
+            }
+        }
+        // A page has room for fewer tuples.
+        0
+    }
+
+    /// Of how many of the next rows, so many at least, the entries stand one right behind the other on the leaf in hand,
+    /// from the item on from which look-ups go on, as far as their bytes tell it as they lie. Look-ups go on from the
+    /// last of them then.
     pub fn count_found(self, look_ups: &mut LookUps) -> u16
         requires rows { IsOfHeap self }
         ensures found { (names : Names) → HoldsTree names self.entry.at.tree.now
@@ -95,13 +179,14 @@ impl<'c> RowsInHand<'c, '_> {
     {
         self.at.case.sound();
         self.at.tree.keyed();
-        let mut key = KeyRefs::new();
-        let done = self.cursor.done();
-        for after in done..MAX_ITEMS {
-            if !self.is_found(after, &mut key, look_ups) {
-                return after - done;
-            }
-        }
-        0
+        let Some(column) = self.fixed_key() else {
+            return self.count_plain(look_ups);
+        };
+        let Some(hand) = &mut look_ups.hand else {
+            return 0;
+        };
+        let count = self.count_fixed(column, hand);
+        look_ups.count_saved(count);
+        count
     }
 }

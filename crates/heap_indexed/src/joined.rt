@@ -62,6 +62,15 @@ impl LookUps {
         }
     }
 
+    /// Counts look-ups that found their entries on the leaf in hand: each is a visit, and saves one.
+    pub fn count_saved(&mut self, count: u16)
+        ensures same { (self.new.hand ≡ self.old.hand) × (self.new.cache ≡ self.old.cache) }
+    {
+        let count = u64::from(count);
+        self.visits.count = self.visits.count.saturating_add(count);
+        self.saved = self.saved.saturating_add(count);
+    }
+
     /// The block of the leaf in hand, 0 where there is none.
     pub fn block_in_hand(&self) -> u32 {
         match &self.hand {

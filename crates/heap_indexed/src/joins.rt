@@ -9,11 +9,12 @@ ghost use Rattle.reports.specs.Added.{joined, nothing};
 ghost use Rattle.bt_levels.specs.Sound.{HoldsTree};
 ghost use Rattle.bt_levels.specs.declared.sound.SoundTree.{SoundTree as Tree};
 ghost use Rattle.heap_files.specs.Files.{heap_in};
+ghost use Rattle.heap_check.specs.declared.row_values.AskedColumns.{AskedColumns as Columns};
 ghost use Rattle.heap_check.specs.declared.rows.LiveRow.{LiveRow as Row};
 ghost use Rattle.heap_check.specs.RowCursor.{IsAtRow, IsCursorOf, IsSameCursor, asked_at, case_at, rows_ahead};
 ghost use Rattle.heap_indexed.specs.Joined.{BelongTogether};
-ghost use Rattle.heap_indexed.specs.Joins.{AllAlike, AreAlike, BelongToIt, EachFor, HasPagesOf, HaveGone, HoldIt};
-ghost use Rattle.heap_indexed.specs.Joins.{IsAtOrAhead, IsDone, IsJudged, IsReady, IsThrough, leaves_of};
+ghost use Rattle.heap_indexed.specs.Joins.{AllAlike, AllPass, AreAhead, AreAlike, BelongToIt, EachFor, HasPagesOf};
+ghost use Rattle.heap_indexed.specs.Joins.{HaveGone, HoldIt, IsDone, IsJudged, IsPassed, IsReady, IsThrough, leaves_of};
 ghost use Rattle.heap_indexed.specs.declared.joins.Join.{Join as Waits};
 ghost use Rattle.heap_indexed.specs.Looking.{AreOf};
 ghost use Rattle.heap_indexed.specs.Waiting.{AreKeyed, IsAt, owed_in, rows_in};
@@ -34,7 +35,7 @@ use std::alloc::Global;
 // A page has at most 2042 items.
 const MAX_ITEMS: u64 = 2042;
 
-// After how many rows memory is given to those indexes in whose order they don't come, and after how many more again.
+// After how many steps, each of a row or of some that are passed at once, memory is given to those indexes in whose order they don't come, and after how many more again.
 const SHARE_ROWS: u64 = 1024;
 
 // The bytes that those share of which it shows later, all together: 4 MiB.
@@ -84,20 +85,50 @@ fn share_runs(alloc: Global, joins: &mut [Join], bytes: u32) -> Result<(), NoMem
     Ok(())
 }
 
-// Whether it is known for all indexes that the next row has its entry.
-fn are_ahead(joins: &[Join]) -> bool
-    ensures { OnTrue result ((k : ℕ) (join : Waits) → k < length joins.now
-        → 0 < (slice_index_or joins.now k join).ahead) }
+// Of how many of the next rows it is known for all indexes that they have their entries.
+fn fewest_ahead(joins: &[Join]) -> u16
+    ensures { AreAhead result joins.now }
 {
+    let mut fewest = u16::MAX;
     for j in 0..joins.len() {
-        if joins[j].ahead == 0 {
-            return false;
-        }
+        fewest = fewest.min(joins[j].ahead);
     }
-    true
+    fewest
 }
 
-// Gives memory to those that want it, after so many rows, if it is the time for it. Which of the indexes have an order
+// Passes so many of these rows for each index.
+fn pass_rows(joins: &mut [Join], count: u16)
+    requires { AreAhead count joins.old }
+    ensures { AllPass count joins.old joins.new }
+{
+    for j in 0..joins.len() {
+        joins[j].pass(count);
+    }
+}
+
+// Goes past the next rows of which it is known for all indexes that they have their entries, as far as they stand at the
+// very next items of the page in hand; whether there is one.
+fn pass_known(joins: &mut [Join], cursor: &mut RowCursor<'_>) -> bool
+    ensures same { IsSameCursor cursor.old cursor.new }
+    ensures ready { (asked : Columns) (trees : List Tree)
+        → EachFor (IsReady asked) trees joins.old → EachFor (IsReady asked) trees joins.new }
+    ensures pages { (names : Names) (trees : List Tree)
+        → EachFor (HasPagesOf names) trees joins.old → EachFor (HasPagesOf names) trees joins.new }
+    ensures rows { (names : Names) → IsCursorOf names cursor.old → IsCursorOf names cursor.new }
+    ensures gone { (names : Names) (trees : List Tree) (all : List Row) → IsCursorOf names cursor.old
+        → HaveGone names all (rows_ahead names cursor.old) trees joins.old
+        → HaveGone names all (rows_ahead names cursor.new) trees joins.new }
+    ensures next { (names : Names) → IsCursorOf names cursor.old → result ≡ true
+        → length (rows_ahead names cursor.new) < length (rows_ahead names cursor.old) }
+    ensures left { (names : Names) → IsCursorOf names cursor.old → result ≡ false
+        → rows_ahead names cursor.new ≡ rows_ahead names cursor.old }
+{
+    let count = cursor.pass_live(fewest_ahead(joins));
+    pass_rows(joins, count);
+    count > 0
+}
+
+// Gives memory to those that want it, after so many steps, if it is the time for it. Which of the indexes have an order
 // in which rows don't come shows in the first rows, so they share nearly all of it; those of which it shows later share
 // a small part.
 fn share_at(alloc: Global, joins: &mut [Join], rows: u64) -> Result<(), NoMemory>
@@ -140,6 +171,14 @@ impl Join {
         })
     }
 
+    // Passes so many rows of which it is known that they have their entries.
+    fn pass(&mut self, count: u16)
+        requires { count ≤ self.old.ahead }
+        ensures { IsPassed count self.old self.new }
+    {
+        self.ahead -= count;
+    }
+
     // Sees how many of the next rows come in step with the entries of the leaf in hand.
     fn look_ahead(&mut self, at: IndexedHeap<'_>, cursor: &RowCursor<'_>)
         requires belong { BelongTogether at.case.now at.heap.now at.tree.now }
@@ -176,7 +215,7 @@ impl Join {
     ) -> Result<(), PageFault>
         requires belong { BelongTogether at.case.now at.heap.now at.tree.now }
         requires case { case_at cursor.now ≡ at.case.now }
-        requires at_row { self.old.ahead ≡ 0 → IsAtRow cursor.now }
+        requires at_row { IsAtRow cursor.now }
         requires ready { IsReady (asked_at cursor.now) at.tree.now self.old }
         requires holds { IfTold F.seen files.old (λ names. HoldsTree names at.tree.now) }
         requires pages { IfTold F.seen files.old (λ names. HasPagesOf names at.tree.now self.old) }
@@ -255,7 +294,7 @@ impl IndexedTable<'_> {
     ) -> Result<(), PageFault>
         requires belong { BelongToIt self }
         requires case { case_at cursor.now ≡ self.case.now }
-        requires at_row { IsAtOrAhead cursor.now joins.old }
+        requires at_row { IsAtRow cursor.now }
         requires ready { EachFor (IsReady (asked_at cursor.now)) self.trees.now joins.old }
         requires hold { IfTold F.seen files.old (λ names. HoldIt names self) }
         requires pages { IfTold F.seen files.old (λ names. EachFor (HasPagesOf names) self.trees.now joins.old) }
@@ -276,45 +315,8 @@ impl IndexedTable<'_> {
         Ok(())
     }
 
-    // Goes past the next row, where it is known for all indexes that it has its entry, and it stands at the very next
-    // item of the page in hand; whether that is so.
-    fn pass_known<F: Files>(
-        self,
-        files: &mut F,
-        joins: &mut [Join],
-        cursor: &mut RowCursor<'_>,
-    ) -> Result<bool, PageFault>
-        requires belong { BelongToIt self }
-        requires case { case_at cursor.old ≡ self.case.now }
-        requires ready { EachFor (IsReady (asked_at cursor.old)) self.trees.now joins.old }
-        requires rows { IfTold F.seen files.old (λ names. IsCursorOf names cursor.old) }
-        requires hold { IfTold F.seen files.old (λ names. HoldIt names self) }
-        requires pages { IfTold F.seen files.old (λ names. EachFor (HasPagesOf names) self.trees.now joins.old) }
-        ensures same { IsSameCursor cursor.old cursor.new }
-        ensures ready { EachFor (IsReady (asked_at cursor.old)) self.entry.trees.now joins.new }
-        ensures rows { IfTold F.seen files.old (λ names. IsCursorOf names cursor.new) }
-        ensures pages { IfTold F.seen files.old (λ names. EachFor (HasPagesOf names) self.entry.trees.now joins.new) }
-        ensures gone { Tells F.seen files.old result (λ passed names. (all : List Row)
-            → HaveGone names all (rows_ahead names cursor.old) self.entry.trees.now joins.old
-            → HaveGone names all (rows_ahead names cursor.new) self.entry.trees.now joins.new) }
-        ensures next { Tells F.seen files.old result (λ passed names. passed ≡ true
-            → length (rows_ahead names cursor.old) ≡ length (rows_ahead names cursor.new) + 1) }
-        ensures left { Tells F.seen files.old result (λ passed names. passed ≡ false
-            → rows_ahead names cursor.new ≡ rows_ahead names cursor.old) }
-        ensures asked { Asked F.seen files.old files.new result PageFault.ReadFault }
-    {
-        if !are_ahead(joins) {
-            return Ok(false);
-        }
-        let Some(place) = cursor.place_after(cursor.done()) else {
-            return Ok(false);
-        };
-        self.judge_row(files, joins, &*cursor, place)?;
-        cursor.pass_next();
-        Ok(true)
-    }
-
-    // Goes to the next row and judges it; whether there is one.
+    // Goes past the next rows, where they are known to have their entries, or else to the next row and judges it; whether
+    // there is one.
     fn judge_next<F: Files>(
         self,
         files: &mut F,
@@ -336,11 +338,11 @@ impl IndexedTable<'_> {
             → HaveGone names all (rows_ahead names cursor.old) self.entry.trees.now joins.old
             → OnOk result (HaveGone names all (rows_ahead names cursor.new) self.entry.trees.now joins.new)) }
         ensures next { Tells F.seen files.old result (λ found names. found ≡ true
-            → length (rows_ahead names cursor.old) ≡ length (rows_ahead names cursor.new) + 1) }
+            → length (rows_ahead names cursor.new) < length (rows_ahead names cursor.old)) }
         ensures end { Tells F.seen files.old result (λ found names. found ≡ false → rows_ahead names cursor.new ≡ []) }
         ensures asked { Asked F.seen files.old files.new result PageFault.ReadFault }
     {
-        if self.pass_known(files, joins, cursor)? {
+        if pass_known(joins, cursor) {
             return Ok(true);
         }
         let Some(place) = cursor.find(files)? else {

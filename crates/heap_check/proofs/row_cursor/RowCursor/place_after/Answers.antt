@@ -1,4 +1,5 @@
-use Rattle.std.proofs.Common.{◌∙◌, refl, sym, arith}
+use Rattle.std.proofs.Common.{refl, arith}
+use Rattle.std.proofs.lemmas.Bool.{OnTrue_at}
 use Rattle.heap_pages.specs.Found.{states_of}
 use Rattle.heap_files.specs.Case.{table_of}
 use Rattle.heap_check.specs.RowCursor.{case_at}
@@ -12,11 +13,7 @@ unfolding row_at
 returns-clause-row c = λ names are.
     let cursor = c.args.self.now in
     let done = c.args.done in
-    let live : HasLiveAfter cursor.page done = record {
-      inside = omega (arith, c.if-done-min.false, c.min.ensures);
-      few = omega (arith, c.if-done-min.false, c.min.ensures);
-      live = sym c.is_live_item.ensures ∙ c.if-not-is_live_item.false;
-    } in
+    let live : HasLiveAfter cursor.page done = OnTrue_at c.if-not-has_live_after.false c.has_live_after.ensures.live in
     let states = states_of (table_of (case_at cursor) names) cursor.page.bytes in
     let known = known_after names cursor done are live in
     let count = known.tells.count in

@@ -1,5 +1,5 @@
 use Rattle.std.proofs.Common.{◌≡◌, ℕ, ◌+◌, ◌-◌, ◌<◌, ◌∙◌, ◌∷◌, [], List, drop, get_or, length, take, sym, ap, subst, arith}
-use Rattle.std.specs.Prelude.{Some, map, slice_get, true}
+use Rattle.std.specs.Prelude.{Option, Some, map, slice_get, true}
 use Rattle.key_orders.specs.Types.{HasLength}
 use Rattle.key_orders.specs.Values.{value_in, value_shown}
 use Rattle.key_orders.specs.Orders.{fits_type}
@@ -14,7 +14,7 @@ use Rattle.heap_pages.specs.Found.{live_attributes}
 use Rattle.heap_files.specs.Case.{table_of}
 use Rattle.heap_check.specs.declared.row_cells.Cell.TheVariants.{Held}
 use Rattle.heap_check.specs.declared.rows.LiveRow.{LiveRow}
-use Rattle.heap_check.specs.RowValues.{column_asked}
+use Rattle.heap_check.specs.RowValues.{IsStart, column_asked}
 use Rattle.heap_check.specs.Rows.{cell_at, toast_bytes}
 use Rattle.heap_check.proofs.PlainRow.{attributes_after, cell_after, piece_fits, row_after, type_is, type_of_column, within_columns}
 use Rattle.heap_check.proofs.RowSources.{columns_readable}
@@ -53,9 +53,11 @@ returns-clause-cell c = λ names row rows are is.
     let lt : a < length columns = within_columns columns types a Bool c.column_types-types.ensures (omega (arith, c.if-types-a.false)) in
     let d : Column = some_column columns a lt in
     let read : AreRead attrs list = c.in_ok-attrs.ensures.read (done + 1) list c.line_pointer.ensures (attributes_after names cursor done are c.requires.live types c.column_types-types.ensures) in
+    let known : IsStart cursor.starts.items k c.in_ok-start.start =
+    subst (λ (starts : List (Option ℕ)). IsStart starts k c.in_ok-start.start) c.deref.ensures.value c.in_ok-start.ensures in
     let layout : IsLayout attrs.columns a c.in_ok-start.start =
     subst (λ (ts : List ColType). IsLayout ts a c.in_ok-start.start) (sym (c.in_ok-attrs.ensures.columns ∙ c.column_types-types.ensures))
-    (subst (λ (n : ℕ). IsLayout (map (λ (t : Column). t.ctype) columns) n c.in_ok-start.start) (sym c.column-a.ensures) (are.starts k c.in_ok-start.start c.in_ok-start.ensures)) in
+    (subst (λ (n : ℕ). IsLayout (map (λ (t : Column). t.ctype) columns) n c.in_ok-start.start) (sym c.column-a.ensures) (are.starts k c.in_ok-start.start known)) in
     let own : slice_get list a ≡ Some (shown_at attrs.body (Plain p.start p.len)) = c.in_ok-piece.ensures.read list layout read in
     let bytes = toast_bytes cursor.case.now names in
     let shown : v ≡ value_in (get_or columns a d).ctype (take p.len (drop p.start attrs.body)) =

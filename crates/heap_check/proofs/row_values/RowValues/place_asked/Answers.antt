@@ -24,7 +24,7 @@ returns-in-Some-plain_value-clause-told g c = λ names told list are starts insi
     let k = c.args.k in
     let p = c.in-Some-plain_value.piece in
     let bytes = bytes_seen names (option_copied from.toast) from.chunks.now in
-    let is : IsStart from.starts.now k c.in-Some.start = has_value c.start.result c.in-Some.start (IsStart from.starts.now k) c.in-Some.is c.start.ensures in
+    let is : IsStart from.starts.now k c.in-Some.start = has_value c.start_at.result c.in-Some.start (IsStart from.starts.now k) c.in-Some.is c.start_at.ensures in
     let layout : IsLayout attrs.columns a c.in-Some.start =
     subst (λ (ts : List ColType). IsLayout ts a c.in-Some.start) (sym c.requires.types)
     (subst (λ (i : ℕ). IsLayout (map (λ (t : Column). t.ctype) columns) i c.in-Some.start) (sym c.column-a.ensures) (starts k c.in-Some.start is)) in

@@ -1,9 +1,8 @@
-use Rattle.std.proofs.Common.{◌≡◌, ◌∙◌, ◌∷◌, ◌++◌, [], drop, subst, sym, arith}
+use Rattle.std.proofs.Common.{◌∙◌, ◌∷◌, ◌++◌, [], drop, subst, sym, arith}
 use Rattle.outside.proofs.Asking.{Passed-next}
 use Rattle.bt_levels.specs.Sound.{HoldsTree}
 use Rattle.bt_levels.specs.declared.sound.SoundTree.{SoundTree}
 use Rattle.heap_check.specs.RowCursor.{asked_at, rows_ahead}
-use Rattle.heap_indexed.specs.declared.joins.Join.{Join}
 use Rattle.heap_indexed.specs.Joined.{BelongTogether}
 use Rattle.heap_indexed.specs.Joins.{HasPagesOf, IsReady, IsThrough}
 use Rattle.heap_indexed.proofs.Each.{above-set, below-all, below-set, each-at, each-set, still-before}
@@ -51,12 +50,6 @@ pub judge_row-requires-clause-belong : goal.judge_row-requires-clause-belong
 judge_row-requires-clause-belong g c =
     let tree : SoundTree = c.index-trees-j.result in
     subst (λ (t : SoundTree). BelongTogether c.args.self.case.now c.args.self.heap.now t) (sym c.index-trees-j.is) (c.requires.belong.each c.loop-j.j tree (omega arith))
-
-pub judge_row-requires-clause-at_row : goal.judge_row-requires-clause-at_row
-judge_row-requires-clause-at_row g c = λ none.
-    let join : Join = c.index-joins-j.result in
-    c.requires.at_row c.loop-j.j join (omega (arith, c.loop-j.invariant.ready.same, c.requires.ready.same))
-    (subst (λ (d : Join). d.ahead ≡ 0) (c.loop-j.invariant.same c.loop-j.j join (omega arith)) none)
 
 pub returns-clause-done : goal.returns-clause-done
 returns-clause-done g c = λ names told done first is was.

@@ -3,7 +3,7 @@ use Rattle.bt_levels.specs.Sound.{HoldsTree}
 use Rattle.heap_check.specs.RowCursor.{IsCursorOf}
 use Rattle.heap_indexed.specs.Looking.{AreOf}
 use Rattle.heap_indexed.proofs.InStep.{AreInStep}
-use Rattle.heap_indexed.proofs.in_step.RowsInHand.count_found.Given as goal
+use Rattle.heap_indexed.proofs.in_step.RowsInHand.count_plain.Given as goal
 
 -- the rows so far have their entries
 abbrev pub invariant-loop-after : goal.invariant-loop-after
