@@ -169,13 +169,15 @@ pub(crate) fn is_quiet_page(table: &TableRules<'_>, at: PageInHand<'_>) -> bool
         TableKind::Toast => return false,
         TableKind::Heap => {}
     }
-    if breaks_bits(at) {
+    let header = at.view.header();
+    // A tuple was deleted or updated there, and is not gone yet (`pd_prune_xid`).
+    if header.prune_xid != 0 || breaks_bits(at) {
         return false;
     }
     let glance = Glance {
         table,
         page: at.view,
-        upper: at.view.header().upper,
+        upper: header.upper,
         all_frozen: at.bits.all_frozen,
     };
     if !glance.is_quiet() {
