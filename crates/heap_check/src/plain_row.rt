@@ -1,5 +1,5 @@
 //! Rows of the page in hand that are told by their bytes as they lie: most are, and then no place of a value is kept.
-ghost use Rattle.std.specs.Prelude.{◌≡◌, ◌≤◌, ◌∷◌, List, ℕ, Some, IfSome, is_some, length, slice_get, true};
+ghost use Rattle.std.specs.Prelude.{◌≡◌, ◌<◌, ◌≤◌, ◌∷◌, List, ℕ, Some, IfSome, is_some, length, slice_get, true};
 ghost use Rattle.std.specs.Bool.{OnFalse, OnTrue};
 ghost use Rattle.outside.specs.Outside.{Names};
 ghost use Rattle.case_file.specs.declared.case.Column.{Column as TableColumn};
@@ -179,9 +179,10 @@ impl RowCursor<'_> {
     }
 
     /// Goes past the next rows, up to so many, as long as they stand at the very next items of the page in hand; how
-    /// many they were.
+    /// many they were: fewer only where the next item is no live tuple, or there is none.
     pub fn pass_live(&mut self, most: u16) -> u16
         ensures most { result ≤ most }
+        ensures fewer { result < most → ¬ HasLiveAfter self.new.page self.new.page.done }
         ensures past { (names : Names) → IsCursorOf names self.old
             → ArePast (rows_ahead names self.old) result (rows_ahead names self.new) }
         ensures told { (names : Names) → IsCursorOf names self.old → IsCursorOf names self.new }
