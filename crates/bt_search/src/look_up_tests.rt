@@ -83,8 +83,11 @@ fn next_of(
     };
     let mut hand = hand_at(tree, files, through, at)?;
     if is_fixed {
-        let value = [entry.0 as u8, 0, 0, 0];
-        return hand.find_next_fixed(FixedSought { value: &value, tid });
+        let bytes = entry.0.cast_unsigned().to_le_bytes();
+        return hand.find_next_fixed(FixedSought {
+            value: &bytes[..4],
+            tid,
+        });
     }
     let key = key_of(entry.0);
     hand.find_next(tree, Sought { key: &key, tid })
