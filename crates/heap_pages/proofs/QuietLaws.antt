@@ -1,7 +1,7 @@
 -- Of a quiet page nothing is found.
 use Rattle.std.proofs.Common.{◌≡◌, inl, inr, ℕ, zero, suc, ◌+◌, ◌-◌, ◌≤◌, Bool, true, false, not, ◌==◌, ◌&&◌, ◌||◌, List, [], All, length, refl, sym, ap, subst, ◌∙◌, arith}
 use Rattle.std.specs.Prelude.{nat_lt, nat_le, Option, Some, None, IsNone}
-use Rattle.std.proofs.lemmas.Bool.{and_cases, and_parts, and_right, both_ways, cond-false, cond-true, false_from_ne_true, leb-true, ltb-true, not-true, not_from_true, or_cases}
+use Rattle.std.proofs.lemmas.Bool.{and_cases, and_parts, and_right, both_ways, cases_Bool, cond-false, cond-true, false_from_ne_true, leb-true, ltb-true, not-true, not_from_true, or_cases}
 use Rattle.std.proofs.lemmas.List.Elements.{All-cons, All-nil}
 use Rattle.outside.specs.Adds.{one_list}
 use Rattle.page_layout.specs.Items.{is_misplaced_heap_item, is_normal}
@@ -10,7 +10,7 @@ use Rattle.page_layout.specs.declared.page.LineFlag.TheVariants as flag
 use Rattle.page_layout.specs.declared.page.LinePtr.{LinePtr}
 use Rattle.page_layout.specs.declared.rules.Rule.{Rule}
 use Rattle.page_layout.specs.declared.rules.Rule.TheVariants.{V1, V2, V3, V4}
-use Rattle.tuple_head.specs.Head.{is_heap_only, is_hinted_invalid, is_old_form, is_xmax_invalid, is_xmin_committed, needs_freezing, seen_xmin, tuple_head_of}
+use Rattle.tuple_head.specs.Head.{is_heap_only, is_hinted_invalid, is_locked_only, is_old_form, is_xmax_invalid, is_xmin_committed, needs_freezing, seen_xmin, tuple_head_of}
 use Rattle.tuple_head.specs.declared.HeapHead.{HeapHead}
 use Rattle.heap_tuples.specs.Places.{tuple_at}
 use Rattle.heap_tuples.specs.Tuples.{attributes_in}
@@ -52,7 +52,7 @@ use Rattle.heap_pages.proofs.TupleRules.{judged_verdict, placed_verdict}
 record IsQuietHead (in_range : ℕ → Bool) (all_frozen : Bool) (head : HeapHead) : Type 0 where
   form : is_old_form head ≡ false
   committed : is_xmin_committed head ≡ true
-  invalid : is_xmax_invalid head ≡ true
+  kept : (is_xmax_invalid head || is_locked_only head) ≡ true
   root : is_heap_only head ≡ false
   seen : (seen_xmin head == 0) ≡ false
   ranged : (nat_lt (seen_xmin head) 3 || in_range (seen_xmin head)) ≡ true
@@ -69,7 +69,7 @@ quiet_parts in_range all_frozen head quiet =
     record {
       form = not-true (is_old_form head) second.0;
       committed = second.1;
-      invalid = third.1;
+      kept = third.1;
       root = not-true (is_heap_only head) fourth.1;
       seen = not-true (seen_xmin head == 0) fifth.1;
       ranged = sixth.1;
@@ -101,7 +101,16 @@ module _ (logs : Logs) (all_frozen : Bool) (head : HeapHead) (parts : IsQuietHea
 
   kept : deleter_judged logs head ≡ plain Live
   unfolding deleter_judged
-  kept = cond-true _ _ _ parts.invalid
+  kept = elim (cases_Bool (is_xmax_invalid head)) [
+    | inl invalid ↦ cond-true _ _ _ invalid
+    | inr counts ↦ cond-false _ _ _ counts ∙ cond-true _ _ _ (locks counts)
+  ]
+    where
+      locks : is_xmax_invalid head ≡ false → is_locked_only head ≡ true
+      locks counts = elim (or_cases (is_xmax_invalid head) (is_locked_only head) parts.kept) [
+        | inl invalid ↦ absurd (both_ways (is_xmax_invalid head) counts invalid)
+        | inr locked ↦ locked
+      ]
 
   -- its tuple is live
   quiet_is_live : judged_of logs head ≡ plain Live

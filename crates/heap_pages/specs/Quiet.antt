@@ -1,7 +1,7 @@
 -- Quiet pages: each item is unused, or a live tuple of which hint bits and its header tell that nothing is wrong.
 use Rattle.std.specs.Prelude.{◌≡◌, ℕ, Bool, true, not, ◌==◌, ◌&&◌, ◌||◌, nat_lt, List, length, None}
-use Rattle.tuple_head.specs.Head.{head_rule_of, is_heap_only, is_old_form, is_xmax_invalid, is_xmin_committed}
-use Rattle.tuple_head.specs.Head.{needs_freezing, seen_xmin, tuple_head_of}
+use Rattle.tuple_head.specs.Head.{head_rule_of, is_heap_only, is_locked_only, is_old_form, is_xmax_invalid}
+use Rattle.tuple_head.specs.Head.{is_xmin_committed, needs_freezing, seen_xmin, tuple_head_of}
 use Rattle.tuple_head.specs.declared.HeapHead.{HeapHead}
 use Rattle.varlena_attrs.specs.Inline.{are_inline}
 use Rattle.heap_tuples.specs.Tuples.{attributes_in}
@@ -14,12 +14,12 @@ use Rattle.heap_pages.specs.Table.{Table, logs_in}
 use Rattle.heap_pages.specs.Verdicts.{item_verdict}
 use Rattle.heap_pages.specs.declared.verdict.ItemVerdict.TheVariants.{Passes}
 
--- a seen inserter, which is in range, is hinted to have committed, and xmax not to count; index entries name the tuple;
--- and where its block is called all-frozen, no field of it would be frozen
+-- a seen inserter, which is in range, is hinted to have committed, and xmax not to count or to lock alone; index entries
+-- name the tuple; and where its block is called all-frozen, no field of it would be frozen
 abbrev pub is_quiet_head : (in_range : ℕ → Bool) → (all_frozen : Bool) → HeapHead → Bool
 is_quiet_head in_range all_frozen head =
-    not (is_old_form head) && is_xmin_committed head && is_xmax_invalid head && not (is_heap_only head)
-    && not (seen_xmin head == 0) && (nat_lt (seen_xmin head) 3 || in_range (seen_xmin head))
+    not (is_old_form head) && is_xmin_committed head && (is_xmax_invalid head || is_locked_only head)
+    && not (is_heap_only head) && not (seen_xmin head == 0) && (nat_lt (seen_xmin head) 3 || in_range (seen_xmin head))
     && not (all_frozen && needs_freezing head)
 
 -- the header of a tuple is such a one and keeps its rules, and all values are stored in line

@@ -17,6 +17,7 @@ ghost use Rattle.heap_pages.specs.Storage.{AreAbove};
 ghost use Rattle.heap_pages.specs.Table.{AreReadable, chunks_seen, table_seen};
 
 use crate::page::PageInHand;
+use crate::storage::PAGE_BYTES;
 use crate::table::{TableKind, TableRules};
 use heap_tuples::are_inline;
 use hot_chains::pages_without_chains;
@@ -25,20 +26,17 @@ use rel_files::{Cluster, xid_in_range};
 use tuple_head::{HeapHead, heap_head, kept_rules_place_attributes};
 use vis_map::map_rule;
 
-// How many bytes a page has.
-const PAGE_BYTES: u16 = 8192;
-
 // The first transaction that is given out.
 const FIRST_NORMAL_XID: u32 = 3;
 
-// Whether hint bits tell that a tuple is live: a seen inserter, which was given out, committed, and xmax doesn't count;
-// index entries name it; and where its block is called all-frozen, a freeze would change nothing of it.
+// Whether hint bits tell that a tuple is live: a seen inserter, which was given out, committed, and xmax doesn't count
+// or only locks; index entries name it; and where its block is called all-frozen, a freeze would change nothing of it.
 fn is_quiet_head(head: &HeapHead, cluster: &Cluster, all_frozen: bool) -> bool
     ensures { result ≡ is_quiet_head (is_xid_in_range cluster.now) all_frozen head.now }
 {
     !head.old_form()
         && head.is_xmin_committed()
-        && head.is_xmax_invalid()
+        && (head.is_xmax_invalid() || head.locked_only())
         && !head.heap_only()
         && head.xmin_seen() != 0
         && (head.xmin_seen() < FIRST_NORMAL_XID || xid_in_range(cluster, head.xmin_seen()))
@@ -128,6 +126,20 @@ impl Glance<'_> {
         }
     }
 
+    // Whether line pointers alone tell that an item isn't: it is dead or a redirect. So it is of most pages that aren't
+    // quiet. Nothing is promised of that.
+    fn has_other_pointers(self) -> bool
+        requires { HasItems (page_bytes self.page) }
+    {
+        for k in 0..self.page.item_count() {
+            match self.page.item(k + 1).flag {
+                LineFlag::Normal | LineFlag::Unused => {}
+                LineFlag::Redirect | LineFlag::Dead => return true,
+            }
+        }
+        false
+    }
+
     // Whether each item is.
     fn is_quiet(self) -> bool
         requires columns { AreReadable self.table.now.columns.now }
@@ -180,7 +192,7 @@ pub(crate) fn is_quiet_page(table: &TableRules<'_>, at: PageInHand<'_>) -> bool
         upper: header.upper,
         all_frozen: at.bits.all_frozen,
     };
-    if !glance.is_quiet() {
+    if glance.has_other_pointers() || !glance.is_quiet() {
         return false;
     }
     true

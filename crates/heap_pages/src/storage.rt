@@ -14,8 +14,8 @@ use std::marker::Model;
 // How many cells a page of 8192 bytes has.
 const CELLS: usize = 1024;
 
-// How many bytes a page has.
-const PAGE_BYTES: u16 = 8192;
+/// How many bytes a page has.
+pub(crate) const PAGE_BYTES: u16 = 8192;
 
 /// The items of a page that were added, kept so that it can be asked whether another item's storage
 /// meets theirs. Made once, and cleared for each page.
