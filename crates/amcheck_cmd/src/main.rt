@@ -1,48 +1,8 @@
-//! Judges the files of a cleanly stopped PostgreSQL cluster, without a server.
+//! The command line of the checker: the words, the real files and standard output are given to `run` of `amcheck`.
 #![tactic(auto)]
 
-mod all;
-mod blocks;
-mod case;
-mod fault;
-#[cfg(test)]
-mod fault_tests;
-#[cfg(test)]
-mod fixtures;
-mod generated;
-#[cfg(test)]
-mod generated_tests;
-mod heap;
-#[cfg(test)]
-mod heap_tests;
-mod index;
-#[cfg(test)]
-mod index_tests;
-#[cfg(test)]
-mod indexed_tests;
-mod indexes;
-mod laws;
-#[cfg(test)]
-mod level_tests;
-#[cfg(test)]
-mod level_trees;
-mod numbers;
-mod output;
-mod pages;
-mod run;
-mod show;
-mod status;
-#[cfg(test)]
-mod tests;
-mod text;
-mod together;
-#[cfg(test)]
-mod trees;
-mod words;
-mod write;
-
+use amcheck::run;
 use outside::{DiskFiles, OutSink};
-use run::run;
 use std::env;
 use std::io::{self, ErrorKind};
 use std::process::ExitCode;

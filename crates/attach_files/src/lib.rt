@@ -11,9 +11,6 @@ use rel_files::{AttachFault, Relation};
 use reports::{CheckFault, Which};
 use std::alloc::Global;
 
-#[cfg(test)]
-mod tests;
-
 /// How many blocks a heap, a TOAST table or an index may have: 128 MiB of blocks of 8192 bytes.
 pub const BLOCK_LIMIT: u32 = 16384;
 

@@ -9,6 +9,7 @@ use Rattle.rel_files.specs.Relation.{IsAttached, base_of, count_of, size_of}
 use Rattle.tree_rules.specs.Rules.{KeepsLevelRules}
 use Rattle.tree_image.specs.Image.{TreeIndex, index_image}
 use Rattle.tree_image.specs.Pages.{KeepsTreeRules}
+use Rattle.bt_walks.specs.Counts.{half_dead_in, right_halves_in}
 use Rattle.bt_levels.specs.declared.files.TreeFile.{TreeFile}
 use Rattle.bt_levels.specs.declared.sound.SoundTree.{SoundTree}
 use Rattle.bt_levels.specs.Files.{BelongsTo, number_of, relation_of}
@@ -51,10 +52,13 @@ held_block names sound = block_of names (base_of (relation_of (file_of sound))) 
 abbrev pub image_of : Names → SoundTree → TreeIndex
 image_of names sound = index_image (specs_of sound) [] (block_count sound) (held_block names sound)
 
--- the names hold the index: its pages break no rule, nor do its levels, and its numbers are those of the metapage
+-- the names hold the index: its pages break no rule, nor do its levels; its fast root and the level of that are those
+-- of the metapage, and its numbers of right halves and half-dead leaves are those of its levels
 pub record HoldsTree (names : Names) (sound : SoundTree) : Type 0 where
   pub attached : IsAttached names (relation_of (file_of sound))
   pub pages : KeepsTreeRules (specs_of sound) [] (block_count sound) (held_block names sound)
   pub levels : KeepsLevelRules (order_of (specs_of sound)) (image_of names sound)
   pub fastroot : fastroot_of sound ≡ (image_of names sound).fastroot
   pub fastlevel : fastlevel_of sound ≡ (image_of names sound).fastlevel
+  pub right_halves : right_halves_of sound ≡ right_halves_in (image_of names sound)
+  pub half_dead : half_dead_of sound ≡ half_dead_in (image_of names sound)

@@ -17,10 +17,11 @@ use crate::sound::SoundTree;
 use bt_pages::TreeRules;
 use bt_walks::TreeShape;
 use case_file::Case;
-use key_orders::KeySpec;
+use key_orders::{KeySpec, key_orders_are_total};
 use outside::{Files, NoMemory};
 use reports::{CheckFault, PageFault, Report};
 use std::alloc::Global;
+use tree_image::kept_rules_make_a_sound_image;
 
 // What the rules of the index need to know.
 fn rules_of<'p>(case: &'p Case, at: &'p TreeFile) -> TreeRules<'p>
@@ -102,6 +103,8 @@ pub fn check_tree<F: Files>(
         CheckFault.ReadFault }
 {
     indexes_are_judged();
+    key_orders_are_total();
+    kept_rules_make_a_sound_image();
     let Some(shape) = judge_file(alloc, files, case, &at, report)? else {
         return Ok(None);
     };

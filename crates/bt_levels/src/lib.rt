@@ -9,11 +9,9 @@ mod judge;
 mod laws;
 mod meta;
 mod sound;
-#[cfg(test)]
-mod tests;
 mod window;
 
 pub use check::check_tree;
 pub use files::TreeFile;
-pub use laws::{indexes_are_judged, sound_trees_are_searchable};
+pub use laws::{indexes_are_judged, levels_tile_the_keys, sound_trees_are_searchable};
 pub use sound::SoundTree;

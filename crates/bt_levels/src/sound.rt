@@ -61,14 +61,15 @@ impl SoundTree {
         self.shape.fastlevel
     }
 
-    /// How many of its pages are right halves, to which no downlink leads yet.
+    /// How many of its pages, on all levels, are right halves, to which no downlink leads yet; 0 in an empty
+    /// tree. A search goes to each by the link of its left sibling, which is one more visit.
     pub fn right_halves(&self) -> u32
         ensures { result ≡ right_halves_of self.now }
     {
         self.shape.right_halves
     }
 
-    /// How many of its leaves are half-dead.
+    /// How many of its leaves, in the chain of the lowest level, are half-dead; 0 in an empty tree.
     pub fn half_dead(&self) -> u32
         ensures { result ≡ half_dead_of self.now }
     {

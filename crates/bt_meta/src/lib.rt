@@ -6,8 +6,6 @@
 mod layout;
 mod readers;
 mod records;
-#[cfg(test)]
-mod tests;
 
 pub use readers::{is_idle, meta, meta_rule, opaque, tree_head};
 pub use records::{HeadKind, Meta, Opaque, TreeHead};

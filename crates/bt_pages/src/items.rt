@@ -30,9 +30,6 @@ pub struct ItemFound {
     pub doubt: Option<Reason>,
 }
 
-// Where a page says at which byte its items begin (storage/bufpage.h).
-const PD_UPPER: usize = 14;
-
 // Of the info word of an index tuple: the size is in the bits below this one (access/itup.h,
 // INDEX_SIZE_MASK).
 const SIZE_LIMIT: u16 = 0x2000;
@@ -47,7 +44,7 @@ fn form_rule(page: PageView<'_>, i: u16) -> Option<Rule>
         → result ≡ own_rule specs more (page_bytes page.entry) i }
 {
     let item = page.item(i);
-    if item.is_misplaced_tree_item(page.u16_at(PD_UPPER)) {
+    if item.is_misplaced_tree_item(page.upper()) {
         return Some(Rule::B5);
     }
     let head = tree_head(page.piece(item.off, item.len));

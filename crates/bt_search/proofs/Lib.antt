@@ -6,4 +6,5 @@ mod There
 mod Here
 mod FixedLaws
 mod Lookups
+mod Ways
 mod Onward

@@ -1,5 +1,5 @@
 -- A look-up of one entry: the way to the leaf on which alone it may stand, and what is found there.
-use Rattle.std.specs.Prelude.{◌≡◌, ◌≢◌, ℕ, ◌+◌, ◌-◌, ◌<◌, true, false, List, Contains, Option, None, Some}
+use Rattle.std.specs.Prelude.{◌≡◌, ◌≢◌, ◌==◌, ℕ, ◌+◌, ◌-◌, ◌<◌, true, false, cond, List, Contains, Option, None, Some}
 use Rattle.outside.specs.Outside.{Names}
 use Rattle.tree_search.specs.Keys.{Entry}
 use Rattle.tree_search.specs.Probe.{halves_down, leaf_after}
@@ -9,16 +9,24 @@ use Rattle.key_orders.specs.declared.Tid.{Tid}
 use Rattle.bt_meta.specs.Flags.{is_half_dead, is_leaf}
 use Rattle.bt_meta.specs.Pages.{is_idle, opaque_of}
 use Rattle.bt_levels.specs.declared.sound.SoundTree.{SoundTree}
-use Rattle.bt_levels.specs.Sound.{block_count, fastroot_of, held_block, image_of, specs_of}
+use Rattle.bt_levels.specs.Sound.{block_count, fastlevel_of, fastroot_of, half_dead_of, held_block, image_of}
+use Rattle.bt_levels.specs.Sound.{right_halves_of, specs_of}
 use Rattle.bt_steps.specs.Sought.{HasSought, IsSought, is_below}
 use Rattle.bt_search.specs.declared.spot.Spot.{Spot}
 
--- the most visits that the way takes: one for each level from the fast root down, and one for each right half on them
+-- the most visits that the way takes: one for each level from the fast root down, and one for each right half on them.
+-- In an empty tree there is no way
 abbrev pub way_length : Names → SoundTree → ℕ
 way_length names sound =
-    (image_of names sound).fastlevel + 1
+    cond (fastroot_of sound == 0) 0
+    ((image_of names sound).fastlevel + 1
     + halves_down (image_of names sound) (image_of names sound).fastlevel
-    ((image_of names sound).level - (image_of names sound).fastlevel)
+    ((image_of names sound).level - (image_of names sound).fastlevel))
+
+-- more than that, by what the tree itself tells: one for each level from the fast root down, for each right half and
+-- for each half-dead leaf of the index, and one more
+abbrev pub most_visits : SoundTree → ℕ
+most_visits sound = fastlevel_of sound + 1 + right_halves_of sound + half_dead_of sound + 1
 
 -- from a block the way of the entry ends on this leaf, within so many visits
 abbrev pub EndsOn : Names → SoundTree → List Value → Tid → (visits block leaf : ℕ) → Type 0

@@ -18,9 +18,6 @@ use bt_meta::{HeadKind, TreeHead, tree_head};
 use key_orders::Tid;
 use page_layout::{LineFlag, LinePtr, PageKind, PageView, has_bit};
 
-// Where the upper place of a page stands in its header, in bytes from the page's start.
-const UPPER: usize = 14;
-
 // How many bytes the head of an entry has, before its values where it has no null bits.
 const HEAD: usize = 8;
 
@@ -109,7 +106,7 @@ impl FixedSought<'_> {
             → item_outcome specs [] LeafItem (page_bytes page.entry) i
             ≡ Ok (Plain (value_in ctype self.entry.value.now ∷ []) [] self.entry.tid (is_dead at.flag))) }
     {
-        if at.is_misplaced_tree_item(page.u16_at(UPPER)) {
+        if at.is_misplaced_tree_item(page.upper()) {
             return false;
         }
         self.is_tuple(page.piece(at.off, at.len))

@@ -6,8 +6,6 @@
 #![tactic(auto)]
 
 mod cache;
-#[cfg(test)]
-mod cache_tests;
 mod descent;
 mod entry;
 mod fixed;
@@ -17,15 +15,9 @@ mod kept;
 mod laws;
 mod leaf;
 mod look_up;
-#[cfg(test)]
-mod look_up_tests;
 mod near;
 mod next;
 mod spot;
-#[cfg(test)]
-mod tests;
-#[cfg(test)]
-mod trees;
 
 pub use cache::PageCache;
 pub use descent::descend;
@@ -33,6 +25,6 @@ pub use entry::entry_at;
 pub use fixed::FixedSought;
 pub use hand::LeafInHand;
 pub use laws::searches_go_in_steps;
-pub use look_up::{entries_have_a_leaf, find, probe, spots_are_of_entries};
+pub use look_up::{entries_have_a_leaf, find, probe, spots_are_of_entries, ways_are_short};
 pub use next::next_entry;
 pub use spot::{EntryRef, Spot, Visits};

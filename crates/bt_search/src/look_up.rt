@@ -9,7 +9,7 @@ ghost use Rattle.bt_levels.specs.declared.sound.SoundTree.{SoundTree as Sound};
 ghost use Rattle.bt_levels.specs.Sound.{HoldsTree, block_count, fastroot_of, image_of, specs_of};
 ghost use Rattle.bt_search.specs.Cached.{IsCacheOf, KeepsAll};
 ghost use Rattle.bt_steps.specs.Sought.{HasAlive};
-ghost use Rattle.bt_search.specs.Lookups.{HasLeaf, IsAtSpot, IsLookedUp, way_length};
+ghost use Rattle.bt_search.specs.Lookups.{HasLeaf, IsAtSpot, IsLookedUp, most_visits, way_length};
 ghost use Rattle.bt_search.specs.declared.spot.Spot.{Spot as Stands};
 
 use crate::cache::PageCache;
@@ -33,6 +33,14 @@ pub fn entries_have_a_leaf()
     keys_are_searchable();
 }
 
+/// In an index that the names hold, the way of an entry takes fewer visits than the index's own numbers say
+/// (`most_visits`).
+pub fn ways_are_short()
+    ensures { (names : Held) (sound : Sound) → HoldsTree names sound → way_length names sound < most_visits sound }
+{
+    sound_trees_are_searchable();
+}
+
 /// Where an unkilled entry stands at a spot of an index that the names hold, its leaves have one.
 pub fn spots_are_of_entries()
     ensures { (names : Held) (sound : Sound) (key : List Value) (tid : At) (at : Stands) → HoldsTree names sound
@@ -41,7 +49,8 @@ pub fn spots_are_of_entries()
 
 /// Looks up the entry with these values and this TID, unless it is killed. `None` comes exactly where each
 /// such entry of the leaves, linked or not, is killed. Pages are looked at through the cache, and each look
-/// is a visit: at most one for each level from the fast root down, and one for each right half on these.
+/// is a visit: at most one for each level from the fast root down, and one for each right half on these. So they are
+/// no more than `fastlevel` + 1 + `right_halves` + `half_dead` + 1 of the tree say.
 ///
 /// Where the cache keeps every block from 1 on, the files aren't asked for anything, no fault comes, and all of these
 /// are still kept. `ReadFault` comes only where the files couldn't be read. Whether memory for a page of the cache is
@@ -61,6 +70,7 @@ pub fn find<F: Files>(
         IsLookedUp names tree.now sought.entry.key.now sought.entry.tid found) }
     ensures visits { IfTold F.seen files.old (λ names.
         visits.new.count ≤ visits.old.count + way_length names tree.now) }
+    ensures most { IfTold F.seen files.old (λ names. visits.new.count ≤ visits.old.count + most_visits tree.now) }
     ensures of { IfTold F.seen files.old (λ names. IsCacheOf names tree.now cache.new) }
     ensures capacity { cache.new.capacity ≡ cache.old.capacity }
     ensures kept { KeepsAll (block_count tree.now) cache.old
@@ -70,6 +80,7 @@ pub fn find<F: Files>(
     ensures asked { AskedAtMost (visits.new.count - visits.old.count) F.seen files.old files.new result read_fault }
 {
     entries_have_a_leaf();
+    ways_are_short();
     tree.keyed();
     let limit = visits.count + u64::from(tree.blocks());
     let mut block = tree.fastroot();
@@ -117,6 +128,7 @@ pub fn probe<F: Files>(
         (found ≡ true) ↔ HasAlive (image_of names tree.now) sought.entry.key.now sought.entry.tid) }
     ensures visits { IfTold F.seen files.old (λ names.
         visits.new.count ≤ visits.old.count + way_length names tree.now) }
+    ensures most { IfTold F.seen files.old (λ names. visits.new.count ≤ visits.old.count + most_visits tree.now) }
     ensures of { IfTold F.seen files.old (λ names. IsCacheOf names tree.now cache.new) }
     ensures capacity { cache.new.capacity ≡ cache.old.capacity }
     ensures kept { KeepsAll (block_count tree.now) cache.old

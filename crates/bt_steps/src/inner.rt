@@ -20,9 +20,6 @@ use key_orders::KeySpec;
 use page_layout::{PageKind, PageView};
 use tree_image::{first_data, has_high_key, spot_of};
 
-// Where a page says at which byte its items begin (storage/bufpage.h).
-const PD_UPPER: usize = 14;
-
 /// What a visit to a page leads to.
 #[derive(Clone, Copy, Debug, PartialEq, Eq)]
 pub enum Step {
@@ -129,7 +126,7 @@ fn downlink_at(page: PageView<'_>, i: u16) -> u32
         → result ≡ downlink_in (item_at specs [] (page_bytes page.entry) i) }
 {
     let item = page.item(i);
-    if item.is_misplaced_tree_item(page.u16_at(PD_UPPER)) {
+    if item.is_misplaced_tree_item(page.upper()) {
         return 0;
     }
     tree_head(page.piece(item.off, item.len)).block

@@ -6,8 +6,6 @@
 
 mod inner;
 mod leaf;
-#[cfg(test)]
-mod tests;
 mod way;
 
 pub use inner::{Step, step_on};

@@ -10,7 +10,7 @@ ghost use Rattle.bt_tuples.specs.Items.{Plain, is_dead, item_outcome, tuple_outc
 ghost use Rattle.bt_tuples.specs.Plain.{HasPrefix, IsPlainEntry};
 
 use crate::heads::body_of;
-use crate::items::{PD_UPPER, Spot3};
+use crate::items::Spot3;
 use crate::tuples::plain_head;
 use key_orders::{KeyRefs, KeySpec, Tid, key_prefix};
 use page_layout::{PageKind, PageView};
@@ -58,7 +58,7 @@ pub fn is_plain_entry(
         ≡ Ok (Plain key.now [] tid (is_dead (item_of (page_bytes page.entry) i).flag))) }
 {
     let at = page.item(i);
-    if at.is_misplaced_tree_item(page.u16_at(PD_UPPER)) {
+    if at.is_misplaced_tree_item(page.upper()) {
         return false;
     }
     is_plain_tuple(page.piece(at.off, at.len), specs, key, tid)
@@ -93,7 +93,7 @@ pub fn plain_entry_prefix(page: PageView<'_>, i: u16, specs: &[KeySpec]) -> Opti
     ensures { IfSome result (IsPlainEntry specs.now (page_bytes page.entry) i) }
 {
     let at = page.item(i);
-    if at.is_misplaced_tree_item(page.u16_at(PD_UPPER)) {
+    if at.is_misplaced_tree_item(page.upper()) {
         return None;
     }
     plain_prefix(page.piece(at.off, at.len), specs)

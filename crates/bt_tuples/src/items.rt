@@ -18,9 +18,6 @@ use bt_meta::{HeadKind, TreeHead};
 use key_orders::{KeyRefs, KeySpec, MoreRefs, MoreSpec, SepRef, Tid};
 use page_layout::{LineFlag, PageKind, PageView, Rule};
 
-// Where a page says at which byte its items begin (storage/bufpage.h).
-pub(crate) const PD_UPPER: usize = 14;
-
 /// The place of an item on its page, which says what form it has to have. The data items of a page
 /// are all but its high key.
 #[derive(Clone, Copy, Debug, PartialEq, Eq)]
@@ -173,7 +170,7 @@ pub fn tree_item<'p>(
     ensures outcome { outcome_shown result ≡ item_outcome specs.now more.now spot (page_bytes page.entry) i }
 {
     let at = page.item(i);
-    if at.is_misplaced_tree_item(page.u16_at(PD_UPPER)) {
+    if at.is_misplaced_tree_item(page.upper()) {
         return Err(ItemFault::Broken(Rule::B5));
     }
     let killed = matches!(at.flag, LineFlag::Dead);

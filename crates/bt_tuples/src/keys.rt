@@ -12,7 +12,7 @@ ghost use Rattle.bt_tuples.specs.Keys.{HasKeys, first_tid_in, last_tid_in};
 ghost use Rattle.bt_tuples.specs.Tuples.{number_of};
 
 use crate::heads::number_of;
-use crate::items::{ItemFault, PD_UPPER, Spot3, plain_tid};
+use crate::items::{ItemFault, Spot3, plain_tid};
 use crate::tids::TidList;
 use crate::tuples::{kept_tid, read_tuple};
 use bt_meta::{HeadKind, TreeHead};
@@ -132,7 +132,7 @@ impl<'p> ItemKeys<'p> {
             item_outcome specs.now more.now spot (page_bytes page.entry) i ≡ Err e) }
     {
         let at = page.item(i);
-        if at.is_misplaced_tree_item(page.u16_at(PD_UPPER)) {
+        if at.is_misplaced_tree_item(page.upper()) {
             return Err(ItemFault::Broken(Rule::B5));
         }
         read_tuple_keys(specs, more, spot, page.piece(at.off, at.len), self)

@@ -11,8 +11,6 @@ mod heads;
 mod items;
 mod keys;
 mod laws;
-#[cfg(test)]
-mod tests;
 mod tids;
 mod tuples;
 

@@ -5,6 +5,7 @@ use Rattle.std.proofs.lemmas.Bool.{cond-false, cond-true}
 use Rattle.std.proofs.lemmas.List.Elements.{recursion_from_All}
 use Rattle.page_layout.specs.declared.rules.Rule.TheVariants.{L2}
 use Rattle.tree_search.specs.Levels.{entry_page}
+use Rattle.tree_search.specs.Probe.{right_halves}
 use Rattle.tree_search.specs.Searchable.{IsInUse}
 use Rattle.std.proofs.lemmas.List.{length-append, length-reverse}
 use Rattle.tree_search.specs.Tree.{chain_of, linked_from}
@@ -26,6 +27,7 @@ use Rattle.level_walk.proofs.Carried.{verdict}
 use Rattle.bt_pages.specs.Trees.{Tree}
 use Rattle.bt_walks.specs.declared.levels.Levels.{Levels}
 use Rattle.bt_walks.specs.Budget.{pages_below}
+use Rattle.bt_walks.specs.Counts.{half_dead_among}
 use Rattle.bt_walks.specs.Downlinks.{TreeDownlink, in_hand, is_held}
 use Rattle.bt_walks.specs.Reading.{IsOfLevel, IsReading}
 use Rattle.bt_walks.specs.Sets.{is_in}
@@ -94,7 +96,7 @@ module _ (tree : Tree) (level : ℕ) (ds : List TreeDownlink) where
     within entry steps is enough =
         subst (λ (e : ℕ). IsWithin (image_of tree) e steps) (sym is) (λ stops. let fit = lefts_fit stops in omega (arith, fit, enough))
 
-    levels_of : (c : List ℕ) → Each (λ q. IsInUse (image_of tree) q × (((image_of tree).page q).level ≡ ((image_of tree).page entry_here).level)) c → Each (IsOfLevel (image_of tree) level) c
+    pub levels_of : (c : List ℕ) → Each (λ q. IsInUse (image_of tree) q × (((image_of tree).page q).level ≡ ((image_of tree).page entry_here).level)) c → Each (IsOfLevel (image_of tree) level) c
     levels_of c h = Each-map (λ q. IsInUse (image_of tree) q × (((image_of tree).page q).level ≡ ((image_of tree).page entry_here).level)) (IsOfLevel (image_of tree) level) c (λ q k. (k.0, k.1 ∙ here.1)) h
 
     pub chain_begins : (entry first : ℕ) → entry ≡ entry_here → IsFirstPage (image_of tree) entry (Some first) → BeginsChain tree level first
@@ -141,6 +143,10 @@ module _ (tree : Tree) (level : ℕ) (ds : List TreeDownlink) where
             sets = record {
               dead_pages = λ q. walked.dead_pages q ∙ ap (λ (b : ℕ). with_dead (is_in old.dead) (rows_met (image_of tree) (chain_from tree b) ds false None) q) begins;
               pages = λ q. walked.pages q ∙ ap (λ (b : ℕ). with_blocks (is_in old.stands) (chain_from tree b) q) begins;
+            };
+            counted = record {
+              right_halves = walked.counted.right_halves ∙ ap (λ (b : ℕ). old.right_halves + right_halves (rows_met (image_of tree) (chain_from tree b) ds false None)) begins;
+              half_dead = walked.counted.half_dead ∙ ap (λ (b : ℕ). old.half_dead + half_dead_among (image_of tree) (chain_from tree b)) begins;
             };
             enough = record { walks = walked.enough; steps = omega (arith, fit, steps_are, enough) };
             turns = omega (arith, turns);

@@ -4,6 +4,7 @@ pub mod Pages
 pub mod Reading
 pub mod Counting
 pub mod Hands
+pub mod Tallies
 pub mod Walking
 pub mod Seeing
 pub mod FirstPage

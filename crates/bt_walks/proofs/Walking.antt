@@ -1,16 +1,17 @@
 -- A walk along one level, page by page.
-use Rattle.std.proofs.Common.{◌≡◌, ◌≢◌, ℕ, suc, ◌+◌, ◌-◌, ◌<◌, ◌≤◌, Bool, true, false, List, [], ◌∷◌, length, refl, sym, ap, ◌∙◌, subst, arith}
+use Rattle.std.proofs.Common.{◌≡◌, ◌≢◌, ℕ, suc, ◌+◌, ◌-◌, ◌^◌, ◌<◌, ◌≤◌, Bool, true, false, List, [], ◌∷◌, length, refl, sym, ap, ◌∙◌, subst, arith}
 use Rattle.std.proofs.lemmas.List.{nil_from_length}
 use Rattle.std.specs.Prelude.{None, ◌==◌, ◌&&◌, ◌||◌, fold}
 use Rattle.std.specs.List.{list_any}
 use Rattle.std.proofs.lemmas.Bool.{cond-true, ne_eqb}
 use Rattle.tree_search.specs.Levels.{Role, Row, lower_after, row, row_page, row_role}
+use Rattle.tree_search.specs.Probe.{right_halves}
 use Rattle.tree_search.specs.Tree.{linked_from}
 use Rattle.tree_rules.specs.Cursor.{with_dead}
 use Rattle.tree_rules.specs.LevelWalk.{walk_start, walk_step}
 use Rattle.tree_rules.specs.Links.{Leads, to_right}
 use Rattle.tree_rules.specs.Meeting.{is_next, rows_met, unmet_after}
-use Rattle.tree_rules.specs.Tests.{is_dead}
+use Rattle.tree_rules.specs.Tests.{is_dead, is_right_half}
 use Rattle.tree_rules.specs.Walk.{with_blocks}
 use Rattle.tree_rules.proofs.Loops.{Ahead, FoldWalk, ahead_here, ahead_start, ahead_step, fold_end, fold_start, fold_step, linked_step, linked_zero, with_blocks_step, with_dead_step}
 use Rattle.level_walk.specs.declared.level.LevelWalk.{LevelWalk}
@@ -21,16 +22,52 @@ use Rattle.level_walk.proofs.Carried.{start, step}
 use Rattle.bt_pages.specs.Trees.{Tree}
 use Rattle.bt_walks.specs.declared.levels.Levels.{Levels}
 use Rattle.bt_walks.specs.Budget.{pages_below}
+use Rattle.bt_walks.specs.Counts.{half_dead_among, one_if}
 use Rattle.bt_walks.specs.Downlinks.{IsSettled, Reads, TreeDownlink, cursor_of}
 use Rattle.bt_walks.specs.Reading.{IsOfLevel}
 use Rattle.bt_walks.specs.Sets.{is_in}
 use Rattle.bt_walks.specs.Trees.{image_of, order_in, same_in}
-use Rattle.bt_walks.specs.Walked.{BeginsChain, ChangesBound, ChangesDownlinks, ChangesPage, ChangesSets, HasMarked, HasPassed, HasWalked, IsWalking, StandsBefore, TreeWalk, chain_from, role_at}
+use Rattle.bt_walks.specs.Walked.{BeginsChain, ChangesBound, ChangesDownlinks, ChangesPage, ChangesSets, HasMarked, HasPassed, HasRoom, HasWalked, IsReady, IsWalking, StandsBefore, TreeWalk, chain_from, role_at}
 use Rattle.bt_walks.proofs.Reading.{same_dead}
+use Rattle.bt_walks.proofs.Tallies.{half_dead_with, halves_with_row}
 
 or_false : (t : Bool) → (t || false) ≡ t
 or_false true = refl
 or_false false = refl
+
+-- a count that has moved on by one page, and one at the end
+moved : (new old one later sum : ℕ) → new ≡ old + one → old + (one + later) ≡ sum → new + later ≡ sum
+moved new old one later sum e h = omega (arith, e, h)
+
+ended : (n sum : ℕ) → n + 0 ≡ sum → n ≡ sum
+ended n sum h = omega (arith, h)
+
+-- a page that was read can be counted
+room : (n before now : ℕ) → n + before < 2 ^ 32 → now + 1 ≡ before → n + now + 1 < 2 ^ 32
+room n before now h e = omega (arith, h, e)
+
+fewer : (n now : ℕ) → n + now + 1 < 2 ^ 32 → n + now < 2 ^ 32
+fewer n now h = omega (arith, h)
+
+pub room_read : (a b : Levels) → ChangesPage a b → b.walks_left + 1 ≡ a.walks_left → IsReady a → HasRoom b
+room_read a b is walks ready =
+    subst HasRoom (sym is) (record {
+      right_halves = room a.right_halves a.walks_left b.walks_left ready.right_halves walks;
+      half_dead = room a.half_dead a.walks_left b.walks_left ready.half_dead walks;
+    })
+
+pub ready_read : (a b : Levels) → ChangesPage a b → b.walks_left + 1 ≡ a.walks_left → IsReady a → IsReady b
+ready_read a b is walks ready =
+    subst IsReady (sym is) (record {
+      columns = ready.columns;
+      upper = ready.upper;
+      lower = ready.lower;
+      dead = ready.dead;
+      stands = ready.stands;
+      steps = ready.steps;
+      right_halves = fewer a.right_halves b.walks_left (room a.right_halves a.walks_left b.walks_left ready.right_halves walks);
+      half_dead = fewer a.half_dead b.walks_left (room a.half_dead a.walks_left b.walks_left ready.half_dead walks);
+    })
 
 -- the next downlink leads to this page
 pub record Met (ds : List TreeDownlink) (b : ℕ) : Type 0 where
@@ -60,6 +97,8 @@ module _ (tree : Tree) (level : ℕ) where
         marked = record {
           dead_pages = λ p. k.marked.dead_pages p ∙ ap (λ (s : ℕ → Bool). s p || ((q == p) && is_dead (role_at tree w q))) dead;
           pages = λ p. k.marked.pages p ∙ ap (λ (s : ℕ → Bool). s p || (q == p)) stands;
+          right_halves = k.marked.right_halves ∙ ap (λ (l : Levels). l.right_halves + one_if (is_right_half (role_at tree w q))) is;
+          half_dead = k.marked.half_dead ∙ ap (λ (l : Levels). l.half_dead + one_if ((image_of tree).page q).half_dead) is;
         };
       }
 
@@ -67,10 +106,10 @@ module _ (tree : Tree) (level : ℕ) where
   before_bound a b left is k = subst (λ (l : Levels). StandsBefore tree level l left) (sym is) (record { fastroot = k.fastroot; reads = k.reads; settled = k.settled })
 
   -- a page of this level that is marked as dead is none of the level above
-  before_sets : (a b : Levels) (left : List TreeDownlink) (q : ℕ) (dead : Bool) → IsOfLevel (image_of tree) level q → ChangesSets a b → HasMarked a b q dead → StandsBefore tree level a left → StandsBefore tree level b left
-  before_sets a b left q dead here is marked k =
+  before_sets : (a b : Levels) (left : List TreeDownlink) (q : ℕ) (role : Role) (half_dead : Bool) → IsOfLevel (image_of tree) level q → ChangesSets a b → HasMarked a b q role half_dead → StandsBefore tree level a left → StandsBefore tree level b left
+  before_sets a b left q role half_dead here is marked k =
       let same : (p : ℕ) → ((image_of tree).page p).level ≡ suc level → is_in a.dead p ≡ is_in b.dead p =
-      λ p up. sym (marked.dead_pages p ∙ ap (λ (t : Bool). is_in a.dead p || (t && dead)) (ne_eqb q p (λ e. let one = here.1 in let two = up in let at : ((image_of tree).page q).level ≡ ((image_of tree).page p).level = ap (λ (z : ℕ). ((image_of tree).page z).level) e in absurd (omega (arith, one, two, at)))) ∙ or_false (is_in a.dead p)) in
+      λ p up. sym (marked.dead_pages p ∙ ap (λ (t : Bool). is_in a.dead p || (t && is_dead role)) (ne_eqb q p (λ e. let one = here.1 in let two = up in let at : ((image_of tree).page q).level ≡ ((image_of tree).page p).level = ap (λ (z : ℕ). ((image_of tree).page z).level) e in absurd (omega (arith, one, two, at)))) ∙ or_false (is_in a.dead p)) in
       let reading = same_dead (image_of tree) (is_in a.dead) (suc level) (is_in b.dead) a.upper.turns_left (cursor_of tree.specs tree.more a.upper) left same k.reads.reading in
       let upper : b.upper ≡ a.upper = ap (λ (l : Levels). l.upper) is in
       record {
@@ -84,13 +123,13 @@ module _ (tree : Tree) (level : ℕ) where
       → IsWalking tree level s0 c w → seen.block ≡ b → Sees (same_in tree) (order_in tree) (image_of tree) w seen
       → ChangesBound s0 s1 → s1.lower ≡ lower_after ((image_of tree).page b) (role_at tree w b) s0.lower
       → ChangesDownlinks s1 s2 → (StandsBefore tree level s1 w.ahead → StandsBefore tree level s2 (unmet_after w.ahead b))
-      → ChangesSets s2 s3 → HasMarked s2 s3 b (is_dead (role_at tree w b))
+      → ChangesSets s2 s3 → HasMarked s2 s3 b (role_at tree w b) ((image_of tree).page b).half_dead
       → c' ≡ after_page c seen s3.fastroot
       → HasPassed tree level w b s0 s3 c'
   page_passed s0 s1 s2 s3 c c' w b seen here k at sees one bound two follows three marked is =
       let before1 = before_bound s0 s1 w.ahead one k.before in
       let before2 = follows before1 in
-      let before3 = before_sets s2 s3 (unmet_after w.ahead b) b (is_dead (role_at tree w b)) here three marked before2 in
+      let before3 = before_sets s2 s3 (unmet_after w.ahead b) b (role_at tree w b) ((image_of tree).page b).half_dead here three marked before2 in
       let carries : Carries (after_page c seen (image_of tree).fastroot) (next_walk w seen.block) = step (same_in tree) (order_in tree) (image_of tree) w c seen k.carries sees in
       let lower : s3.lower ≡ s1.lower = ap (λ (l : Levels). l.lower) three ∙ ap (λ (l : Levels). l.lower) two in
       let dead : is_in s2.dead ≡ is_in s0.dead = ap (λ (l : Levels). is_in l.dead) two ∙ ap (λ (l : Levels). is_in l.dead) one in
@@ -104,6 +143,8 @@ module _ (tree : Tree) (level : ℕ) where
         marked = record {
           dead_pages = λ p. marked.dead_pages p ∙ ap (λ (s : ℕ → Bool). s p || ((b == p) && is_dead (role_at tree w b))) dead;
           pages = λ p. marked.pages p ∙ ap (λ (s : ℕ → Bool). s p || (b == p)) stands;
+          right_halves = marked.right_halves ∙ ap (λ (l : Levels). l.right_halves + one_if (is_right_half (role_at tree w b))) two ∙ ap (λ (l : Levels). l.right_halves + one_if (is_right_half (role_at tree w b))) one;
+          half_dead = marked.half_dead ∙ ap (λ (l : Levels). l.half_dead + one_if ((image_of tree).page b).half_dead) two ∙ ap (λ (l : Levels). l.half_dead + one_if ((image_of tree).page b).half_dead) one;
         };
       }
 
@@ -122,6 +163,9 @@ module _ (tree : Tree) (level : ℕ) where
       pub walking : IsWalking tree level levels c walk
       pub dead_pages : (q : ℕ) → with_dead (is_in levels.dead) (rows_met (image_of tree) (rest i b) walk.ahead walk.split walk.lower) q ≡ with_dead (is_in old.dead) (rows_met (image_of tree) (chain_from tree first) ds false None) q
       pub pages : (q : ℕ) → with_blocks (is_in levels.stands) (rest i b) q ≡ with_blocks (is_in old.stands) (chain_from tree first) q
+      -- what is left to be counted on this level
+      pub right_halves : levels.right_halves + right_halves (rows_met (image_of tree) (rest i b) walk.ahead walk.split walk.lower) ≡ old.right_halves + right_halves (rows_met (image_of tree) (chain_from tree first) ds false None)
+      pub half_dead : levels.half_dead + half_dead_among (image_of tree) (rest i b) ≡ old.half_dead + half_dead_among (image_of tree) (chain_from tree first)
       -- what is left to be walked over on this level, and all below it
       pub enough : length (rest i b) + pages_below (image_of tree) level ≤ levels.walks_left
 
@@ -138,6 +182,8 @@ module _ (tree : Tree) (level : ℕ) where
           walking = record { carries = start ds; lower = refl; before = record { fastroot = before.fastroot; reads = before.reads; settled = before.settled } };
           dead_pages = λ q. sym (ap (λ (n : ℕ). with_dead (is_in old.dead) (rows_met (image_of tree) (linked_from (to_right (image_of tree)) n first) ds false None) q) z);
           pages = λ q. sym (ap (λ (n : ℕ). with_blocks (is_in old.stands) (linked_from (to_right (image_of tree)) n first) q) z);
+          right_halves = sym (ap (λ (n : ℕ). old.right_halves + right_halves (rows_met (image_of tree) (linked_from (to_right (image_of tree)) n first) ds false None)) z);
+          half_dead = sym (ap (λ (n : ℕ). old.half_dead + half_dead_among (image_of tree) (linked_from (to_right (image_of tree)) n first)) z);
           enough = subst (λ (n : ℕ). length (linked_from (to_right (image_of tree)) n first) + pages_below (image_of tree) level ≤ old.walks_left) z enough;
         }))
 
@@ -155,6 +201,13 @@ module _ (tree : Tree) (level : ℕ) where
         let w : TreeWalk = next_walk g.walk b in
         let role : Role = role_at tree g.walk b in
         let later : List (Row _) = rows_met (image_of tree) (rest (i + 1) next) w.ahead w.split w.lower in
+        let marked = passed.marked in
+        let halves : levels.right_halves + (one_if (is_right_half role) + right_halves later) ≡ old.right_halves + right_halves (rows_met (image_of tree) (chain_from tree first) ds false None) =
+        ap (λ (n : ℕ). levels.right_halves + n) (sym (halves_with_row b role g.walk.lower later))
+        ∙ (sym (ap (λ (c : List ℕ). levels.right_halves + right_halves (rows_met (image_of tree) c g.walk.ahead g.walk.split g.walk.lower)) chain) ∙ g.right_halves) in
+        let half_dead : levels.half_dead + (one_if ((image_of tree).page b).half_dead + half_dead_among (image_of tree) (rest (i + 1) next)) ≡ old.half_dead + half_dead_among (image_of tree) (chain_from tree first) =
+        ap (λ (n : ℕ). levels.half_dead + n) (sym (half_dead_with (image_of tree) b (rest (i + 1) next)))
+        ∙ (sym (ap (λ (c : List ℕ). levels.half_dead + half_dead_among (image_of tree) c) chain) ∙ g.half_dead) in
         let enough : suc (length (rest (i + 1) next)) + pages_below (image_of tree) level ≤ levels.walks_left = subst (λ (c : List ℕ). length c + pages_below (image_of tree) level ≤ levels.walks_left) chain g.enough in
         record {
           walk = w;
@@ -169,6 +222,8 @@ module _ (tree : Tree) (level : ℕ) where
               ap (λ (z : Bool). z || list_any (λ d. d == q) (rest (i + 1) next)) (passed.marked.pages q)
               ∙ (sym (with_blocks_step (is_in levels.stands) b (rest (i + 1) next) q)
               ∙ (sym (ap (λ (c : List ℕ). with_blocks (is_in levels.stands) c q) chain) ∙ g.pages q));
+          right_halves = moved new.right_halves levels.right_halves _ _ _ marked.right_halves halves;
+          half_dead = moved new.half_dead levels.half_dead _ _ _ marked.half_dead half_dead;
           enough = omega (arith, enough, taken);
         }
 
@@ -180,6 +235,10 @@ module _ (tree : Tree) (level : ℕ) where
       walking = g.walking;
       dead_pages = λ q. sym (or_false (is_in levels.dead q)) ∙ (sym (ap (λ (c : List ℕ). with_dead (is_in levels.dead) (rows_met (image_of tree) c g.walk.ahead g.walk.split g.walk.lower) q) none) ∙ g.dead_pages q);
       pages = λ q. sym (or_false (is_in levels.stands q)) ∙ (sym (ap (λ (c : List ℕ). with_blocks (is_in levels.stands) c q) none) ∙ g.pages q);
+      counted = record {
+        right_halves = ended levels.right_halves _ (sym (ap (λ (c : List ℕ). levels.right_halves + right_halves (rows_met (image_of tree) c g.walk.ahead g.walk.split g.walk.lower)) none) ∙ g.right_halves);
+        half_dead = ended levels.half_dead _ (sym (ap (λ (c : List ℕ). levels.half_dead + half_dead_among (image_of tree) c) none) ∙ g.half_dead);
+      };
       enough = let enough = g.enough in omega (arith, enough);
     }
 

@@ -5,5 +5,6 @@ pub mod Budget
 pub mod Bounds
 pub mod Downlinks
 pub mod Reading
+pub mod Counts
 pub mod Walked
 pub mod Shape

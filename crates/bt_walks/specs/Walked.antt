@@ -1,19 +1,20 @@
 -- A walk along one level in code, and the walk of tree_rules that it is.
-use Rattle.std.specs.Prelude.{◌≡◌, ◌==◌, ◌&&◌, ◌||◌, ◌+◌, ◌*◌, ◌<◌, ◌≤◌, ℕ, suc, Bool, true, false, List, Option, Some}
-use Rattle.std.specs.Prelude.{None, fold, length}
+use Rattle.std.specs.Prelude.{◌≡◌, ◌==◌, ◌&&◌, ◌||◌, ◌+◌, ◌*◌, ◌^◌, ◌<◌, ◌≤◌, ℕ, suc, Bool, true, false, List, Option}
+use Rattle.std.specs.Prelude.{Some, None, fold, length}
 use Rattle.std.specs.List.{AllByRecursion}
 use Rattle.rel_files.specs.Relation.{count_of}
 use Rattle.tree_search.specs.Keys.{Separator}
-use Rattle.tree_search.specs.Levels.{Role, entry_page, role_of}
+use Rattle.tree_search.specs.Levels.{Role, Row, entry_page, role_of}
+use Rattle.tree_search.specs.Probe.{right_halves}
 use Rattle.tree_search.specs.Tree.{Index, linked_from}
 use Rattle.tree_rules.specs.Descent.{HavePassed}
 use Rattle.tree_rules.specs.Cursor.{all_levels_finding, is_block_read, with_dead}
 use Rattle.tree_rules.specs.LevelWalk.{Walk, level_finding, walk_start, walk_step}
 use Rattle.tree_rules.specs.Links.{IsOpenChain, Leads, first_page, to_left, to_right, walked_chain, walks_to}
-use Rattle.tree_rules.specs.Meeting.{is_next, rows_met}
+use Rattle.tree_rules.specs.Meeting.{is_next, rows_met, walked_rows}
 use Rattle.tree_rules.specs.Questions.{Finding}
 use Rattle.tree_rules.specs.Walk.{unreached_finding, with_blocks}
-use Rattle.tree_rules.specs.Tests.{is_dead}
+use Rattle.tree_rules.specs.Tests.{is_dead, is_right_half}
 use Rattle.level_walk.specs.declared.level.LevelWalk.{LevelWalk}
 use Rattle.level_walk.specs.Shows.{Carries}
 use Rattle.key_orders.specs.declared.columns.Value.{Value}
@@ -25,6 +26,7 @@ use Rattle.bt_walks.specs.declared.judge.Judged.{Judged}
 use Rattle.bt_walks.specs.declared.levels.Levels.{Levels}
 use Rattle.bt_walks.specs.Bounds.{Bound, IsBound}
 use Rattle.bt_walks.specs.Budget.{pages_below}
+use Rattle.bt_walks.specs.Counts.{half_dead_among, half_dead_in, one_if, right_halves_in}
 use Rattle.bt_walks.specs.Downlinks.{IsReadable, IsSettled, Reads, TreeDownlink}
 use Rattle.bt_walks.specs.Reading.{IsOfLevel}
 use Rattle.bt_walks.specs.Sets.{is_in}
@@ -89,6 +91,14 @@ pub record IsReady (levels : Levels) : Type 0 where
   pub dead : length levels.dead ≡ count_of levels.tree.relation.now
   pub stands : length levels.stands ≡ count_of levels.tree.relation.now
   pub steps : levels.steps_left ≤ count_of levels.tree.relation.now
+  -- each page that may still be walked over can be counted
+  pub right_halves : levels.right_halves + levels.walks_left < 2 ^ 32
+  pub half_dead : levels.half_dead + levels.walks_left < 2 ^ 32
+
+-- so can one that was read and isn't counted yet
+pub record HasRoom (levels : Levels) : Type 0 where
+  pub right_halves : levels.right_halves + levels.walks_left + 1 < 2 ^ 32
+  pub half_dead : levels.half_dead + levels.walks_left + 1 < 2 ^ 32
 
 -- the index and its fast root stay
 pub record IsSameIndex (old new : Levels) : Type 0 where
@@ -140,16 +150,19 @@ pub record IsWalking (tree : Tree) (level : ℕ) (levels : Levels) (carried : Le
 abbrev pub role_at : Tree → TreeWalk → ℕ → Role
 role_at tree walk b = role_of ((image_of tree).page b) (is_next walk.ahead b) walk.split
 
--- a block was added to those that stand in a chain, and to the dead pages if it is one
-pub record HasMarked (old new : Levels) (b : ℕ) (dead : Bool) : Type 0 where
-  pub dead_pages : (q : ℕ) → is_in new.dead q ≡ (is_in old.dead q || ((b == q) && dead))
+-- a block in this role was added to those that stand in a chain, and to the dead pages if it is one; and it was
+-- counted, if it is a right half or half-dead
+pub record HasMarked (old new : Levels) (b : ℕ) (role : Role) (is_half_dead : Bool) : Type 0 where
+  pub dead_pages : (q : ℕ) → is_in new.dead q ≡ (is_in old.dead q || ((b == q) && is_dead role))
   pub pages : (q : ℕ) → is_in new.stands q ≡ (is_in old.stands q || (b == q))
+  pub right_halves : new.right_halves ≡ old.right_halves + one_if (is_right_half role)
+  pub half_dead : new.half_dead ≡ old.half_dead + one_if is_half_dead
 
 -- past one page
 pub record HasPassed (tree : Tree) (level : ℕ) (walk : TreeWalk) (b : ℕ) (old new : Levels) (carried : LevelWalk)
     : Type 0 where
   pub walking : IsWalking tree level new carried (walk_step (same_in tree) (order_in tree) (image_of tree) walk b)
-  pub marked : HasMarked old new b (is_dead (role_at tree walk b))
+  pub marked : HasMarked old new b (role_at tree walk b) ((image_of tree).page b).half_dead
 
 -- the pages from this one on
 abbrev pub chain_from : Tree → ℕ → List ℕ
@@ -160,8 +173,14 @@ pub record BeginsChain (tree : Tree) (level first : ℕ) : Type 0 where
   pub leads : Leads (to_right (image_of tree)) first (chain_from tree first)
   pub of_level : AllByRecursion (IsOfLevel (image_of tree) level) (chain_from tree first)
 
--- past all pages of a level, whose downlinks these are: the walk of tree_rules, what the two sets have gained, and
--- enough for the walks below
+-- the pages of a level were counted, whose rows and chain these are
+pub record HasCounted (tree : Tree) (old new : Levels) (rows : List (Row (Separator Value Tid))) (chain : List ℕ)
+    : Type 0 where
+  pub right_halves : new.right_halves ≡ old.right_halves + right_halves rows
+  pub half_dead : new.half_dead ≡ old.half_dead + half_dead_among (image_of tree) chain
+
+-- past all pages of a level, whose downlinks these are: the walk of tree_rules, what the two sets and the counts have
+-- gained, and enough for the walks below
 pub record HasWalked (tree : Tree) (level : ℕ) (ds : List TreeDownlink) (first : ℕ) (old new : Levels)
     (carried : LevelWalk) : Type 0 where
   pub walk : TreeWalk
@@ -171,6 +190,8 @@ pub record HasWalked (tree : Tree) (level : ℕ) (ds : List TreeDownlink) (first
   pub dead_pages : (q : ℕ)
       → is_in new.dead q ≡ with_dead (is_in old.dead) (rows_met (image_of tree) (chain_from tree first) ds false None) q
   pub pages : (q : ℕ) → is_in new.stands q ≡ with_blocks (is_in old.stands) (chain_from tree first) q
+  pub counted :
+      HasCounted tree old new (rows_met (image_of tree) (chain_from tree first) ds false None) (chain_from tree first)
   pub enough : pages_below (image_of tree) level ≤ new.walks_left
 
 -- what is found on a level, and if that is nothing, what is known then
@@ -181,6 +202,7 @@ pub record IsLevelPassed (tree : Tree) (level : ℕ) (ds : List TreeDownlink) (o
   pub begins : first ≡ first_page (image_of tree) (entry_page ds)
   pub chain : IsOpenChain (image_of tree) (entry_page ds) (walked_chain (image_of tree) ds)
   pub sets : HavePassed (image_of tree) ds (is_in old.dead) (is_in old.stands) (is_in new.dead) (is_in new.stands)
+  pub counted : HasCounted tree old new (walked_rows (image_of tree) ds) (walked_chain (image_of tree) ds)
   pub enough : HasEnough tree level new
   pub turns : pages_below (image_of tree) (suc level) ≤ new.upper.turns_left
 
@@ -189,13 +211,25 @@ pub record IsLevelJudged (tree : Tree) (level : ℕ) (ds : List TreeDownlink) (o
   pub found : judged.finding ≡ level_finding (same_in tree) (order_in tree) (image_of tree) level ds
   pub passed : judged.finding ≡ None → IsLevelPassed tree level ds old new judged.first
 
--- what is found on all levels, and if that is nothing, which blocks stand in their chains
+-- no page was counted yet
+pub record HasCountedNone (levels : Levels) : Type 0 where
+  pub right_halves : levels.right_halves ≡ 0
+  pub half_dead : levels.half_dead ≡ 0
+
+-- the pages of all levels were counted
+pub record HasCountedAll (tree : Tree) (levels : Levels) : Type 0 where
+  pub right_halves : levels.right_halves ≡ right_halves_in (image_of tree)
+  pub half_dead : levels.half_dead ≡ half_dead_in (image_of tree)
+
+-- what is found on all levels, and if that is nothing, which blocks stand in their chains, and how many were counted
 pub record AreLevelsJudged (tree : Tree) (new : Levels) (finding : Option Finding) : Type 0 where
   pub found : finding ≡ all_levels_finding (same_in tree) (order_in tree) (image_of tree)
   pub pages : finding ≡ None → (b : ℕ) → is_in new.stands b ≡ is_block_read (image_of tree) b
+  pub counted : finding ≡ None → HasCountedAll tree new
 
 -- what is found of the roots and on all levels is the first broken rule; where it is nothing, the first block that
--- stands in no chain is
+-- stands in no chain is, and the pages of all levels were counted
 pub record IsTreeJudged (tree : Tree) (new : Levels) (finding : Option Finding) : Type 0 where
   pub found : (f : Finding) → finding ≡ Some f → first_broken_in tree ≡ Some f
   pub nothing : finding ≡ None → first_broken_in tree ≡ unreached_finding (image_of tree) (is_in new.stands)
+  pub counted : finding ≡ None → HasCountedAll tree new

@@ -14,7 +14,7 @@ ghost use Rattle.bt_walks.specs.Shape.{IsShapeOf};
 ghost use Rattle.bt_walks.specs.Trees.{HasColumns, HoldsPages, first_broken_in, image_of};
 ghost use Rattle.bt_walks.specs.Downlinks.{TreeDownlink, turns_of};
 ghost use Rattle.bt_walks.specs.Reading.{IsReading};
-ghost use Rattle.bt_walks.specs.Walked.{AreLevelsJudged, ChangesDownlinks, HasEnough};
+ghost use Rattle.bt_walks.specs.Walked.{AreLevelsJudged, ChangesDownlinks, HasCountedNone, HasEnough};
 ghost use Rattle.bt_walks.specs.Walked.{IsReady, IsSameIndex, IsTreeJudged};
 ghost use Rattle.bt_walks.specs.Walked.{StandsBefore, budget_of, dead_of, fastroot_of, standing_of, tree_of, upper_of};
 
@@ -139,6 +139,7 @@ impl<'t> Levels<'t> {
         ensures budget { IfOk result (λ levels. budget_of levels ≡ 4 * count_of tree.entry.relation.now) }
         ensures dead { IfOk result (λ levels. (b : ℕ) → dead_of levels b ≡ false) }
         ensures standing { IfOk result (λ levels. (b : ℕ) → standing_of levels b ≡ false) }
+        ensures counts { IfOk result HasCountedNone }
     {
         let blocks = tree.relation.blocks();
         let dead = BlockSet::new(alloc, blocks)?;
@@ -190,6 +191,7 @@ impl<'t> Levels<'t> {
             meta.now ≡ meta_of ((tree_seen names (tree_of self.old)).block 0)) }
         requires dead { (b : ℕ) → dead_of self.old b ≡ false }
         requires standing { (b : ℕ) → standing_of self.old b ≡ false }
+        requires counts { HasCountedNone self.old }
         ensures ready { IsReady self.new }
         ensures same { IsSameIndex self.old self.new }
         ensures told { Tells F.seen files.old result (λ found names. let tree = tree_seen names (tree_of self.old) in
@@ -226,6 +228,7 @@ impl<'t> Levels<'t> {
             meta.now ≡ meta_of ((tree_seen names (tree_of self.old)).block 0)) }
         requires dead { (b : ℕ) → dead_of self.old b ≡ false }
         requires standing { (b : ℕ) → standing_of self.old b ≡ false }
+        requires counts { HasCountedNone self.old }
         requires top { IfTold F.seen files.old (λ names. let tree = tree_seen names (tree_of self.old) in
             StandsBefore tree (image_of tree).level self.old (downlinks (image_of tree) 0)) }
         requires enough { IfTold F.seen files.old (λ names. let tree = tree_seen names (tree_of self.old) in
@@ -271,6 +274,9 @@ fn first_unreached<F: Files>(
 
 /// Judges the levels of an index: the first of L1 to L9 that it breaks, and the block that is named for it,
 /// or None where it breaks none of them. Its single pages break no rule, where the files tell what they hold.
+///
+/// The shape has the fast root of the metapage; and where no rule is broken, how many pages of all levels are
+/// right halves, and how many leaves of the lowest level's chain are half-dead.
 ///
 /// Each page of a level is read once, and once more while the level below it is walked; of others a few
 /// bytes are read. Whatever the files hold, there are at most 15 reads for each block. `ReadFault` comes only

@@ -23,8 +23,8 @@ ghost use Rattle.bt_walks.specs.Pages.{HasPlainItems, is_low_page};
 ghost use Rattle.bt_walks.specs.Reading.{IsOfLevel};
 ghost use Rattle.bt_walks.specs.Trees.{HoldsPages, image_of, order_in, same_in};
 ghost use Rattle.bt_walks.specs.Walked.{BeginsChain, ChangesBound, ChangesDownlinks, ChangesPage, ChangesSets};
-ghost use Rattle.bt_walks.specs.Walked.{HasMarked, HasPassed, HasWalked, IsReady, IsSameIndex, IsWalking, KeepsBudget};
-ghost use Rattle.bt_walks.specs.Walked.{StandsBefore, TreeWalk, budget_of, chain_from};
+ghost use Rattle.bt_walks.specs.Walked.{HasMarked, HasPassed, HasRoom, HasWalked, IsReady, IsSameIndex, IsWalking};
+ghost use Rattle.bt_walks.specs.Walked.{KeepsBudget, StandsBefore, TreeWalk, budget_of, chain_from};
 ghost use Rattle.bt_walks.specs.Walked.{lower_of, page_in, steps_of, tree_of};
 ghost use Rattle.bt_walks.specs.Walked.{upper_of, walks_of};
 
@@ -62,7 +62,7 @@ pub struct Levels<'t> {
     // How many pages may still be walked over, on all levels, and how many steps to the left may be made.
     pub(crate) walks_left: u32,
     pub(crate) steps_left: u32,
-    // How many right halves and how many half-dead leaves there are so far.
+    // How many pages so far are right halves, and how many leaves are half-dead: no more than pages were walked over.
     pub(crate) right_halves: u32,
     pub(crate) half_dead: u32,
 }
@@ -194,22 +194,25 @@ impl<'t> Levels<'t> {
         Ok(())
     }
 
-    // Puts a page in this role into the sets, and counts it.
-    fn mark(&mut self, b: u32, role: PageRole, is_leaf: bool)
+    // Puts a page in this role into the sets, and counts it if it is a right half or half-dead.
+    fn mark(&mut self, b: u32, role: PageRole, is_half_dead: bool)
         requires ready { IsReady self.old }
         requires inside { b < count_of (tree_of self.old).relation.now }
+        requires room { HasRoom self.old }
         ensures ready { IsReady self.new }
         ensures sets { ChangesSets self.old self.new }
-        ensures marked { HasMarked self.old self.new b (is_dead (role_named role)) }
+        ensures marked { HasMarked self.old self.new b (role_named role) is_half_dead }
     {
         if is_dead(role) {
             self.dead.add(b);
         }
         self.stands.add(b);
-        let is_right_half = role == PageRole::RightHalf;
-        self.right_halves = self.right_halves.saturating_add(u32::from(is_right_half));
-        let is_half_dead = is_dead(role) && is_leaf;
-        self.half_dead = self.half_dead.saturating_add(u32::from(is_half_dead));
+        if role == PageRole::RightHalf {
+            self.right_halves += 1;
+        }
+        if is_half_dead {
+            self.half_dead += 1;
+        }
     }
 
     // Goes past the page in hand, block b of the level.
@@ -223,6 +226,7 @@ impl<'t> Levels<'t> {
         requires ready { IsReady self.old }
         requires page { page_rule_of PageKind.Tree (page_in self.old) ≡ None }
         requires inside { b < count_of (tree_of self.old).relation.now }
+        requires room { HasRoom self.old }
         requires pages { IfTold F.seen files.old (λ names. HoldsPages names (tree_of self.old)) }
         ensures ready { IsReady self.new }
         ensures same { IsSameIndex self.old self.new }
@@ -240,7 +244,7 @@ impl<'t> Levels<'t> {
         let role = walk.role(&seen.marks, seen.linked);
         self.keep_bound(alloc, role)?;
         self.follow(alloc, files, &seen)?;
-        self.mark(b, role, seen.marks.leaf);
+        self.mark(b, role, seen.marks.half_dead);
         Ok(walk.pass(&seen, self.fastroot))
     }
 

@@ -13,8 +13,6 @@ mod judge;
 mod levels;
 mod marks;
 mod shape;
-#[cfg(test)]
-mod tests;
 
 pub use block_set::BlockSet;
 pub use check::first_broken_rule;

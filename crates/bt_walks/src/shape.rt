@@ -8,9 +8,11 @@ pub struct TreeShape {
     pub fastroot: u32,
     /// The level of the fast root, 0 for a leaf.
     pub fastlevel: u32,
-    /// How many pages are right halves, to which no downlink leads yet. It is no more than `u32` holds.
+    /// How many pages are right halves, to which no downlink leads yet, on all levels: pages that a split
+    /// made and that the level above doesn't name so far. 0 in an empty tree.
     pub right_halves: u32,
-    /// How many leaves are half-dead, likewise.
+    /// How many leaves are half-dead: a deletion took their downlinks, and they still stand in the chain of
+    /// the lowest level. 0 in an empty tree.
     pub half_dead: u32,
 }
 
@@ -19,6 +21,6 @@ pub struct TreeShape {
 pub struct LevelsFound {
     /// The first of L1 to L9 that the index breaks, and the block that is named for it.
     pub finding: Option<(Rule, u32)>,
-    /// What its levels have, if it breaks none of them.
+    /// What its levels have. Where it breaks a rule, only the fast root and its level say something.
     pub shape: TreeShape,
 }

@@ -21,6 +21,3 @@ mod texts;
 pub use case::{Case, Column};
 pub use fault::{CaseFault, CaseRule};
 pub use read::read_case;
-
-#[cfg(test)]
-mod tests;

@@ -10,8 +10,6 @@ mod row_roots;
 mod row_states;
 mod row_values;
 mod rows;
-#[cfg(test)]
-mod tests;
 
 pub use heap_files::{HeapFiles, SoundHeap, check_heap};
 pub use heap_pages::{judge_page, lone_pages_are_judged};

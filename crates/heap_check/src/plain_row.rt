@@ -13,11 +13,12 @@ ghost use Rattle.heap_check.specs.RowFits.{FitsColumn};
 ghost use Rattle.heap_check.specs.RowValues.{column_asked};
 
 use crate::row_cursor::{RowCursor, RowPlace};
-use crate::row_page::{MAX_ITEMS, tuple_attributes};
-use crate::row_states::{line_pointer, tuple_in};
+use crate::row_page::tuple_attributes;
+use crate::row_states::line_pointer;
 use crate::row_values::start_at;
+use heap_tuples::tuple_in;
 use key_orders::{ColType, Tid, ValueRef, value_of};
-use page_layout::PageView;
+use page_layout::{MAX_ITEMS, PageView};
 use tuple_head::heap_head;
 
 // How many bytes a page has.

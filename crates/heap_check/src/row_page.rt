@@ -17,21 +17,18 @@ ghost use Rattle.heap_check.specs.RowValues.{AreValuesOf, IsReadable};
 ghost use Rattle.heap_check.specs.Rows.{item_rows};
 
 use crate::row_roots::Roots;
-use crate::row_states::{are_plain, find_states, line_pointer, tuple_in};
+use crate::row_states::{are_plain, find_states, line_pointer};
 use crate::row_values::{RowTuple, RowValues, ValueSources};
 use heap_pages::TableRules;
-use heap_tuples::tuple_columns;
+use heap_tuples::{tuple_columns, tuple_in};
 use key_orders::ColType;
 use liveness::{ItemState, Life};
 use outside::Files;
-use page_layout::{LinePtr, PageKind, PageView};
+use page_layout::{LinePtr, MAX_ITEMS, PageKind, PageView};
 use rel_files::Relation;
 use reports::PageFault;
 use std::alloc::Global;
 use varlena_attrs::TupleColumns;
-
-/// How many items a page may have.
-pub(crate) const MAX_ITEMS: u16 = 2042;
 
 /// The attributes of the tuple that a line pointer of a page points to, to be read one after the other; none
 /// where they can't be read, which can't be of a live tuple of a sound heap.

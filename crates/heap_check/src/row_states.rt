@@ -13,6 +13,7 @@ ghost use Rattle.heap_pages.specs.States.{AreStatesOf, IsStateOf};
 ghost use Rattle.heap_pages.specs.Table.{Table, logs_in};
 ghost use Rattle.heap_check.specs.RowStates.{AreInPlace, ArePlain, is_plain, is_plain_head};
 
+use heap_tuples::tuple_in;
 use liveness::{ItemState, Memory, Remembering, Status3, Transactions, life_in};
 use outside::{Files, NoMemory};
 use page_layout::{LineFlag, LinePtr, PageView};
@@ -20,44 +21,13 @@ use reports::PageFault;
 use std::alloc::Global;
 use tuple_head::{HeapHead, heap_head};
 
-// Where the upper place of a page stands in its header, in bytes from the page's start.
-const UPPER: usize = 14;
-
 /// The line pointer of an item, counted from 1, of whatever page: it asks nothing of the page's header.
-#[tactic(auto, unfolding(page_layout::specs::Page::item_of))]
 pub(crate) fn line_pointer(page: &[u8; 8192], item: u16) -> LinePtr
     requires first { 1 ≤ item }
     requires last { item ≤ 2042 }
     ensures { result ≡ item_of page.now item }
 {
-    let number = PageView::new(page).u32_at(24 + 4 * (item as usize - 1));
-    let flag = match number / 32768 % 4 {
-        0 => LineFlag::Unused,
-        1 => LineFlag::Normal,
-        2 => LineFlag::Redirect,
-        _ => LineFlag::Dead,
-    };
-    LinePtr {
-        flag,
-        off: (number % 32768) as u16,
-        len: (number / 131072) as u16,
-    }
-}
-
-/// The bytes that a line pointer of a page points to, where they can be those of a tuple: it is normal, and
-/// points to where items may lie. They are 24 bytes or more.
-pub(crate) fn tuple_in<'p>(page: PageView<'p>, pointer: LinePtr) -> Option<&'p [u8]>
-    ensures tuple { is_normal pointer.flag ≡ true
-        → is_misplaced_heap_item (upper_of (page_bytes page.entry)) pointer ≡ false
-        → option_copied result ≡ Some (piece_of (page_bytes page.entry) pointer.off pointer.len) }
-    ensures bytes { IfSome result (λ tuple. tuple.now ≡ piece_of (page_bytes page.entry) pointer.off pointer.len) }
-    ensures long { IfSome result (λ tuple. 24 ≤ length tuple.now) }
-    ensures len { IfSome result (λ tuple. length tuple.now ≡ pointer.len) }
-{
-    if !pointer.flag.is_normal() || pointer.is_misplaced_heap_item(page.u16_at(UPPER)) {
-        return None;
-    }
-    Some(page.piece(pointer.off, pointer.len))
+    PageView::new(page).line_pointer(item)
 }
 
 // Whether hint bits alone say that a tuple is live, and it is its own root: its inserter committed, what stands

@@ -6,6 +6,7 @@ ghost use Rattle.reports.specs.Added.{report_lists};
 ghost use Rattle.bt_levels.specs.Files.{number_of};
 ghost use Rattle.bt_levels.specs.declared.sound.SoundTree.{SoundTree as Sound};
 ghost use Rattle.bt_levels.specs.Sound.{file_of};
+ghost use Rattle.bt_search.specs.Lookups.{most_visits};
 ghost use Rattle.heap_check.specs.Rows.{rows_of};
 ghost use Rattle.indexed_rules.specs.Lists.{entries_lists, indexed_lists, rows_lists};
 ghost use Rattle.heap_indexed.specs.Joined.{BelongTogether, HoldTogether};
@@ -15,6 +16,7 @@ use crate::joined::{IndexedHeap, LookUps, RUN_BLOCKS, RUN_BYTES, new_look_ups};
 use crate::nearness::Nearness;
 use crate::rows::{Walk, columns_of};
 use crate::waiting::Waiting;
+use bt_search::ways_are_short;
 use heap_check::RowCursor;
 use index_targets::check_targets;
 use key_runs::KeyRun;
@@ -81,7 +83,9 @@ fn probe_in_turn<F: Files>(
 /// rising TID.
 ///
 /// Rows of a heap of 64 blocks or more are looked up in runs, in the order of their keys; those of a smaller one, each
-/// as it comes. Pages of the index are looked at through the cache or in hand, and each look is a visit.
+/// as it comes. Pages of the index are looked at through the cache or in hand, and each look is a visit. For each row
+/// there are at most as many as its way from the fast root has pages, and one more: no more than `fastlevel` + 1 +
+/// `right_halves` + `half_dead` + 1 of the index. Beside these there are at most as many as were saved before.
 ///
 /// `ReadFault` comes only where the count of the files' faults rose, and `NoFile` and `TooLarge` never. After an error
 /// the report has a first part of what it would have got.
@@ -101,10 +105,17 @@ pub fn probe_rows<F: Files>(
     ensures visits { IfTold F.seen files.old (λ names. OnOk result (visits_spent look_ups.new ≤
         visits_spent look_ups.old
         + length (rows_of at.entry.case.now names) * look_up_visits names at.entry.tree.now)) }
+    ensures count { IfTold F.seen files.old (λ names. OnOk result (look_ups.new.visits.count ≤
+        look_ups.old.visits.count + look_ups.old.saved
+        + length (rows_of at.entry.case.now names) * look_up_visits names at.entry.tree.now)) }
+    ensures most { IfTold F.seen files.old (λ names. OnOk result (look_ups.new.visits.count ≤
+        look_ups.old.visits.count + look_ups.old.saved
+        + length (rows_of at.entry.case.now names) * most_visits at.entry.tree.now)) }
     ensures of { IfTold F.seen files.old (λ names. AreOf names at.entry.tree.now look_ups.new) }
     ensures only { IfErr result (λ e. e ≡ CheckFault.ReadFault ⊎ e ≡ CheckFault.NoMemory) }
     ensures asked { Asked F.seen files.old files.new result CheckFault.ReadFault }
 {
+    ways_are_short();
     probe_in_turn(alloc, files, at, look_ups, report)?;
     Ok(())
 }

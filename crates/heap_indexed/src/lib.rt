@@ -10,10 +10,6 @@ mod joins;
 mod nearness;
 mod prober;
 mod rows;
-#[cfg(test)]
-mod tables;
-#[cfg(test)]
-mod tests;
 mod waiting;
 
 pub use check::{check_indexed, probe_rows};

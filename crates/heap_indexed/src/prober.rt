@@ -11,7 +11,7 @@ ghost use Rattle.heap_indexed.specs.ProbingLaws.{goes_on, keeps, more, since, st
 
 use crate::joined::LookUps;
 use bt_levels::SoundTree;
-use bt_search::{Visits, find, spots_are_of_entries};
+use bt_search::{Visits, entries_have_a_leaf, find, spots_are_of_entries};
 use bt_steps::Sought;
 use key_orders::{KeyRefs, Tid, key_orders_are_total};
 use key_runs::LookUp;
@@ -212,6 +212,8 @@ pub fn look_up<F: Files>(
     ensures of { IfTold F.seen files.old (λ names. AreOf names tree.now look_ups.new) }
     ensures asked { Asked F.seen files.old files.new result read_fault }
 {
+    entries_have_a_leaf();
+    key_orders_are_total();
     if look_in_hand(tree, sought, look_ups) {
         return Ok(true);
     }

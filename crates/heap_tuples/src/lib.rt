@@ -7,8 +7,6 @@
 
 mod attributes;
 mod places;
-#[cfg(test)]
-mod tests;
 
 pub use attributes::{are_inline, read_tuple, try_read_tuple, tuple_columns};
-pub use places::tuple_at;
+pub use places::{tuple_at, tuple_in};

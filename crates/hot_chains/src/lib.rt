@@ -17,8 +17,6 @@ mod judge;
 mod laws;
 mod place;
 mod table;
-#[cfg(test)]
-mod tests;
 mod walk;
 
 pub use laws::{

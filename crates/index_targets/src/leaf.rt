@@ -23,9 +23,6 @@ use reports::{Place, Report};
 use root_set::RootSet;
 use tree_image::first_data;
 
-// Where a page says at which byte its items begin (storage/bufpage.h).
-const PD_UPPER: usize = 14;
-
 /// An index, by its number in the case, from 1, and the columns of its key; and the set of what its entries
 /// may name.
 #[derive(Clone, Copy)]
@@ -52,7 +49,7 @@ fn only_tid(page: PageView<'_>, i: u16) -> Option<Tid>
         → tids_at specs (page_bytes page.entry) i ≡ tid ∷ []) }
 {
     let item = page.item(i);
-    if item.is_misplaced_tree_item(page.u16_at(PD_UPPER)) {
+    if item.is_misplaced_tree_item(page.upper()) {
         return None;
     }
     let head = tree_head(page.piece(item.off, item.len));

@@ -6,7 +6,5 @@
 
 mod check;
 mod leaf;
-#[cfg(test)]
-mod tests;
 
 pub use check::check_targets;

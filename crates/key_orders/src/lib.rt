@@ -35,6 +35,3 @@ pub struct Tid {
     pub block: u32,
     pub item: u16,
 }
-
-#[cfg(test)]
-mod tests;

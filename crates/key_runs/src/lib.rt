@@ -8,8 +8,6 @@ mod order;
 mod places;
 mod run;
 mod stored;
-#[cfg(test)]
-mod tests;
 
 pub use laws::marked_rows_are_the_missing;
 pub use look_up::LookUp;

@@ -10,8 +10,6 @@
 
 mod level;
 mod roles;
-#[cfg(test)]
-mod tests;
 
 ghost use Rattle.std.specs.Prelude.{◌≡◌, ℕ, Bool, List};
 ghost use Rattle.tree_search.specs.Order.{Order};

@@ -20,8 +20,6 @@ mod judge;
 mod memory;
 mod remembering;
 mod states;
-#[cfg(test)]
-mod tests;
 mod transactions;
 
 pub use judge::{life, life_in};

@@ -17,8 +17,6 @@ mod edges;
 mod groups;
 mod members;
 mod state;
-#[cfg(test)]
-mod tests;
 
 pub use answers::Answers;
 use edges::{Edge, begin_of, end_of};

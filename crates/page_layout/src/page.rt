@@ -3,7 +3,7 @@ ghost use Rattle.std.specs.Prelude.{◌≡◌, ◌+◌, ◌-◌, ◌*◌, ◌≤
 ghost use Rattle.page_layout.specs.Page.{HasItems, IsItem, IsPtr, KeepsPageRules, breaks_page_rule, count_of};
 ghost use Rattle.page_layout.specs.Page.{has_bad_places, has_good_places, has_items, has_other_version, header_of};
 ghost use Rattle.page_layout.specs.Page.{is_new, is_new_but_written, is_written, item_of, page_rule_of, piece_of};
-ghost use Rattle.page_layout.specs.Page.{ptr_of, special_for, u16_at, u32_at};
+ghost use Rattle.page_layout.specs.Page.{ptr_of, special_for, u16_at, u32_at, upper_of};
 ghost use Rattle.page_layout.specs.View.{page_bytes};
 
 use crate::numbers::{u16_at, u32_at};
@@ -74,6 +74,9 @@ pub struct LinePtr {
     pub len: u16,
 }
 
+/// The most line pointers that a page can have: 8168 bytes behind its header, four for each.
+pub const MAX_ITEMS: u16 = 2042;
+
 /// A page that is looked at. Contracts name its 8192 bytes by `page_bytes`.
 #[derive(Clone, Copy)]
 pub struct PageView<'p> {
@@ -126,6 +129,14 @@ impl<'p> PageView<'p> {
             version: self.u16_at(18),
             prune_xid: self.u32_at(20),
         }
+    }
+
+    /// The start of the items' storage, in bytes from the page's start; 0 on a page that was never laid out.
+    #[inline]
+    pub fn upper(self) -> u16
+        ensures { result ≡ upper_of (page_bytes self.entry) }
+    {
+        self.u16_at(14)
     }
 
     /// Whether the page was added to its file and never laid out: its upper place is 0.
@@ -206,22 +217,22 @@ impl<'p> PageView<'p> {
         (self.u16_at(12) - 24) / 4
     }
 
-    // Where line pointer i stands.
-    #[inline]
-    #[tactic(auto, unfolding(crate::specs::Page::count_of, crate::specs::Page::page_rule_of))]
-    fn item_place(self, i: u16) -> u16
-        requires page { HasItems (page_bytes self) }
-        requires first { 1 ≤ i }
-        requires last { i ≤ count_of (page_bytes self) }
-        ensures place { result ≡ 24 + 4 * (i - 1) }
-        ensures within { result + 4 ≤ 8192 }
-    {
-        24 + (i - 1) * 4
-    }
-
-    /// Line pointer i, counted from 1.
+    /// Line pointer i, counted from 1, of whatever page: nothing is asked of the page's header.
     #[inline]
     #[tactic(auto, unfolding(crate::specs::Page::item_of))]
+    pub fn line_pointer(self, i: u16) -> LinePtr
+        requires first { 1 ≤ i }
+        requires last { i ≤ 2042 }
+        ensures equation { IsItem (page_bytes self.entry) i result }
+        ensures value { result ≡ item_of (page_bytes self.entry) i }
+    {
+        let number = self.u32_at(24 + 4 * (i as usize - 1));
+        line_ptr(number)
+    }
+
+    /// Line pointer i of a page that has so many, counted from 1.
+    #[inline]
+    #[tactic(auto, unfolding(crate::specs::Page::count_of, crate::specs::Page::page_rule_of))]
     pub fn item(self, i: u16) -> LinePtr
         requires page { HasItems (page_bytes self) }
         requires first { 1 ≤ i }
@@ -229,8 +240,7 @@ impl<'p> PageView<'p> {
         ensures equation { IsItem (page_bytes self.entry) i result }
         ensures value { result ≡ item_of (page_bytes self.entry) i }
     {
-        let number = self.u32_at(self.item_place(i) as usize);
-        line_ptr(number)
+        self.line_pointer(i)
     }
 
     /// So many bytes of the page from a place on.

@@ -7,8 +7,6 @@ mod index_tuples;
 mod laws;
 mod meta;
 mod page;
-#[cfg(test)]
-mod tests;
 mod words;
 
 pub use bodies::{body_flags, put_index_body};

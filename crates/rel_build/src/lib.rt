@@ -6,8 +6,6 @@ mod fault;
 mod laws;
 mod rows;
 mod table;
-#[cfg(test)]
-mod tests;
 mod trees;
 
 pub use build::{BuiltCase, MAX_ROWS, build_case};

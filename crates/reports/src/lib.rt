@@ -10,10 +10,6 @@ mod long_list;
 mod page_parts;
 mod places;
 mod report;
-#[cfg(test)]
-mod show_tests;
-#[cfg(test)]
-mod tests;
 mod texts;
 mod tree_page;
 

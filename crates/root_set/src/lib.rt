@@ -10,8 +10,6 @@ mod bits;
 mod items;
 mod laws;
 mod set;
-#[cfg(test)]
-mod tests;
 
 pub use laws::set_tells_of_pages;
 pub use set::RootSet;

@@ -13,8 +13,6 @@ mod pointer;
 mod reader;
 mod rows;
 mod stored;
-#[cfg(test)]
-mod tests;
 mod value_chunks;
 
 pub use detoast::{ChunkReader, ToastState, push_value, value};

@@ -7,8 +7,6 @@
 mod laws;
 mod order;
 mod places;
-#[cfg(test)]
-mod tests;
 
 pub use laws::{entries_are_gathered, kept_rules_make_a_sound_image};
 pub use order::{breaks_high_key, breaks_order};

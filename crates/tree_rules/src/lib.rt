@@ -212,21 +212,3 @@ pub fn keys_fit<V, T>()
 {
     keys_have_the_laws::<V, T>();
 }
-
-#[cfg(test)]
-mod tests {
-    use super::*;
-
-    #[test]
-    fn theorems_can_be_called() {
-        rules_are_exact::<u64, u64>();
-        walks_find_the_first::<u64, u64>();
-        chains_are_walked::<u64, u64>();
-        downlinks_are_met::<u64, u64>();
-        downlinks_are_read::<u64, u64>();
-        levels_are_judged::<u64, u64>();
-        parts_make_the_first::<u64, u64>();
-        blocks_are_asked::<u64, u64>();
-        keys_fit::<i64, u32>();
-    }
-}

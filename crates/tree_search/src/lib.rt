@@ -65,14 +65,3 @@ pub fn keys_have_the_laws<V, T>()
         IsSeparatorOf n s → IsSeparatorOf n t → (key_order cs ts).under s t ≡ true →
         goes_right cs low t ≡ true → goes_right cs low s ≡ true }
 {}
-
-#[cfg(test)]
-mod tests {
-    use super::*;
-
-    #[test]
-    fn theorems_can_be_called() {
-        search_finds::<u64, u64>();
-        keys_have_the_laws::<i64, u32>();
-    }
-}

@@ -12,8 +12,6 @@ ghost use Rattle.tuple_head.specs.Head.{natts_of, needs_freezing, seen_xmin, tup
 
 mod masks;
 mod rules;
-#[cfg(test)]
-mod tests;
 
 use key_orders::Tid;
 use page_layout::{block_at, has_bit, u16_at, u32_at};

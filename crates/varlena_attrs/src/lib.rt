@@ -16,8 +16,6 @@ mod places;
 mod plain;
 mod reading;
 mod same;
-#[cfg(test)]
-mod tests;
 
 pub use buffer::AttrBuffer;
 pub use fault::AttrFault;

@@ -6,8 +6,6 @@
 
 mod bits;
 mod rules;
-#[cfg(test)]
-mod tests;
 
 pub use bits::{BLOCKS_PER_MAP_PAGE, MapBits, bits_in, map_page_of, map_pages_for};
 pub use rules::map_rule;

@@ -12,8 +12,6 @@ ghost use Rattle.xact_status.specs.Status.{SaysTrue, state_by_byte, status_of, t
 
 mod piece;
 mod read;
-#[cfg(test)]
-mod tests;
 
 use outside::Files;
 pub use read::StatesRead;

@@ -7,7 +7,7 @@ use Rattle.bt_walks.specs.Shape.{IsShapeOf}
 use Rattle.bt_levels.specs.Files.{number_of}
 use Rattle.bt_levels.specs.Index.{index_of, tree_of}
 use Rattle.bt_levels.proofs.Keys.{aligned-keys, few-keys, index-has}
-use Rattle.bt_levels.proofs.Sounds.{holds-from}
+use Rattle.bt_levels.proofs.Sounds.{holds-from, none-found, same_law}
 use Rattle.bt_levels.proofs.check.check_tree.Goals as goal
 
 pub returns-clause-holds : goal.returns-clause-holds
@@ -18,8 +18,11 @@ returns-clause-holds g c names told =
     let judged = c.indexes_are_judged.ensures case names n in
     let shape = subst (λ o. IfSome o (IsShapeOf (tree_of case names n))) c.in-Some.is (c.in_ok-shape.ensures.shape names told) in
     let keys = c.in_ok-specs.ensures ∙ index-has (λ i. i.keys) case n _ c.index_keys.ensures in
-    holds-from case names _ keys (c.requires.told names told) c.requires.belong
-    (judged.kept ((c.in_ok-shape.ensures.quiet names told).0 some)) shape
+    let kept = judged.kept ((c.in_ok-shape.ensures.quiet names told).0 some) in
+    let tree = tree_of case names n in
+    let same = same_law tree.specs (c.key_orders_are_total.ensures.same_key tree.specs) in
+    let local = c.kept_rules_make_a_sound_image.ensures tree.specs tree.more tree.blocks tree.block kept.pages in
+    holds-from case names _ keys (c.requires.told names told) c.requires.belong kept (none-found tree same local kept) shape
 
 pub invariant_of-result : goal.invariant_of-result
 invariant_of-result g c =

@@ -1,15 +1,16 @@
-use Rattle.std.proofs.Common.{◌≡◌, ◌∙◌, ℕ, List, false, subst, sym}
-use Rattle.std.specs.Prelude.{Some}
+use Rattle.std.proofs.Common.{◌≡◌, ◌∙◌, ℕ, ◌+◌, ◌-◌, List, false, subst, sym}
+use Rattle.std.specs.Prelude.{Some, ◌==◌}
+use Rattle.std.proofs.lemmas.Bool.{cond-false, ne_eqb}
 use Rattle.std.specs.Ordering.{is_lt}
 use Rattle.tree_search.specs.Keys.{Entry, as_separator, compare_keys}
 use Rattle.tree_search.specs.Order.{IsOrder}
-use Rattle.tree_search.specs.Probe.{leaf_after}
+use Rattle.tree_search.specs.Probe.{halves_down, leaf_after}
 use Rattle.key_orders.specs.declared.columns.KeySpec.{KeySpec}
 use Rattle.key_orders.specs.declared.columns.Value.{Value}
 use Rattle.key_orders.specs.declared.Tid.{Tid}
 use Rattle.key_orders.specs.Keys.{columns_of, entry_of, tid_order}
 use Rattle.key_orders.specs.Scans.{order_of}
-use Rattle.bt_levels.specs.Sound.{block_count, image_of, specs_of}
+use Rattle.bt_levels.specs.Sound.{block_count, fastroot_of, image_of, specs_of}
 use Rattle.bt_steps.specs.Pages.{is_killed}
 use Rattle.bt_steps.specs.Sought.{IsSought, is_below}
 use Rattle.bt_search.specs.Lookups.{way_length}
@@ -33,7 +34,8 @@ returns-clause-leaf c names sound key tid holds some =
     let l = has-leaf (order_of specs) x laws (c.sound_trees_are_searchable.ensures names sound holds) (entry_of key tid) is_killed (λ none. some (holds.fastroot ∙ none)) in
     record {
       leaf = l.leaf;
-      soon = subst (λ (b : ℕ). leaf_after x (is_below specs key tid) (way_length names sound) b ≡ Some l.leaf) (sym holds.fastroot) l.soon;
+      soon = subst (λ (b : ℕ). leaf_after x (is_below specs key tid) (way_length names sound) b ≡ Some l.leaf) (sym holds.fastroot)
+          (subst (λ (n : ℕ). leaf_after x (is_below specs key tid) n x.fastroot ≡ Some l.leaf) (sym (cond-false (fastroot_of sound == 0) 0 (x.fastlevel + 1 + halves_down x x.fastlevel (x.level - x.fastlevel)) (ne_eqb (fastroot_of sound) 0 some))) l.soon);
       inside = subst (λ (b : ℕ). leaf_after x (is_below specs key tid) (block_count sound) b ≡ Some l.leaf) (sym holds.fastroot) l.inside;
       only = λ d there s. l.only d there (level specs laws key tid d s);
     }

@@ -1,4 +1,4 @@
-use Rattle.std.proofs.Common.{rules, ◌≡◌, ◌+◌, ◌-◌, ◌∙◌, ℕ, List, inl, inr, refl, sym, subst, arith}
+use Rattle.std.proofs.Common.{rules, ◌≡◌, ◌+◌, ◌-◌, ◌<◌, ◌≤◌, ◌∙◌, ℕ, List, inl, inr, refl, sym, subst, arith}
 use Rattle.std.specs.Prelude.{IsSome, Result}
 use Rattle.std.specs.Borrow.{Bor}
 use Rattle.std.proofs.lemmas.Bool.{cases_eq}
@@ -17,6 +17,10 @@ keeps-on : {E : Type 0} (blocks block : ℕ) (result : Result (Bor (List ℕ)) E
     → Keeps block old → Looked block result old new → KeepsAll blocks old → KeepsAll blocks new
 keeps-on blocks block result old new here looked all = λ b from below.
     subst IsSome (sym (looked.pages here b)) (all b from below)
+
+-- visits along the way are within what the numbers of the index say
+within-most : (old new way most : ℕ) → new ≤ old + way → way < most → new ≤ old + most
+within-most old new way most made short = omega (arith, made, short)
 
 pub loop-visits-init : goal.loop-visits-init
 loop-visits-init g c =
@@ -170,3 +174,18 @@ returns-in-Read-clause-found g c = λ names told. elim (cases_eq (fastroot_of c.
       (there-on c.specs-in-Read.result.now (specs_of tree) (page_bytes c.new-page.result) _ key tid c.find_on.result c.specs-in-Read.ensures page-is c.find_on.ensures.some)
       (none-on c.specs-in-Read.result.now (specs_of tree) (page_bytes c.new-page.result) _ key tid c.find_on.result c.specs-in-Read.ensures page-is c.find_on.ensures.none))
 ]
+
+pub returns-clause-most : goal.returns-clause-most
+returns-clause-most g c = λ names told. within-most c.args.visits.now.count _ _ _ (returns-clause-visits g c names told) (c.ways_are_short.ensures names c.args.tree.now (c.requires.holds names told))
+
+pub returns-then-block-eq0-clause-most : goal.returns-then-block-eq0-clause-most
+returns-then-block-eq0-clause-most g c = λ names told. within-most c.args.visits.now.count _ _ _ (returns-then-block-eq0-clause-visits g c names told) (c.ways_are_short.ensures names c.args.tree.now (c.requires.holds names told))
+
+pub returns-in_err-page-clause-most : goal.returns-in_err-page-clause-most
+returns-in_err-page-clause-most g c = λ names told. within-most c.args.visits.now.count _ _ _ (returns-in_err-page-clause-visits g c names told) (c.ways_are_short.ensures names c.args.tree.now (c.requires.holds names told))
+
+pub returns-in-Read-clause-most : goal.returns-in-Read-clause-most
+returns-in-Read-clause-most g c = λ names told. within-most c.args.visits.now.count _ _ _ (returns-in-Read-clause-visits g c names told) (c.ways_are_short.ensures names c.args.tree.now (c.requires.holds names told))
+
+pub returns-in-Lost-clause-most : goal.returns-in-Lost-clause-most
+returns-in-Lost-clause-most g c = λ names told. within-most c.args.visits.now.count _ _ _ (returns-in-Lost-clause-visits g c names told) (c.ways_are_short.ensures names c.args.tree.now (c.requires.holds names told))

@@ -48,5 +48,5 @@ returns-clause-told g c names told level ds before here enough fast =
       found = judged.found;
       passed = λ none.
           let p = judged.passed none in
-          record { ends = p.ends; begins = p.begins; chain = p.chain; sets = record { dead_pages = p.sets.dead_pages; pages = p.sets.pages }; enough = p.enough; turns = p.turns };
+          record { ends = p.ends; begins = p.begins; chain = p.chain; sets = record { dead_pages = p.sets.dead_pages; pages = p.sets.pages }; counted = record { right_halves = p.counted.right_halves; half_dead = p.counted.half_dead }; enough = p.enough; turns = p.turns };
     }

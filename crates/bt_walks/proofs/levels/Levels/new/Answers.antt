@@ -13,6 +13,8 @@ returns-clause-ready c = record {
   dead = c.in_ok-dead.ensures.sized ∙ c.blocks-blocks.ensures;
   stands = c.in_ok-stands.ensures.sized ∙ c.blocks-blocks.ensures;
   steps = let e = c.blocks-blocks.ensures in omega (arith, e);
+  right_halves = omega arith;
+  half_dead = omega arith;
 }
 
 pub returns-clause-top : goal.returns-clause-top

@@ -1,7 +1,6 @@
 use Rattle.std.proofs.Common.{◌≡◌, false, ap, sym, subst, ◌∙◌}
 use Rattle.tree_search.specs.Levels.{is_live, lower_after}
 use Rattle.tree_rules.specs.Meeting.{is_next, unmet_after}
-use Rattle.tree_rules.specs.Tests.{is_dead}
 use Rattle.level_walk.specs.Roles.{role_named}
 use Rattle.level_walk.proofs.Carried.{role_is}
 use Rattle.bt_meta.specs.Flags.{is_half_dead}
@@ -10,7 +9,7 @@ use Rattle.tree_image.specs.Image.{page_image}
 use Rattle.bt_pages.specs.Trees.{tree_seen}
 use Rattle.bt_walks.specs.Pages.{HasPlainItems}
 use Rattle.bt_walks.specs.Trees.{HoldsPages, image_of}
-use Rattle.bt_walks.specs.Walked.{HasMarked, StandsBefore, role_at, tree_of}
+use Rattle.bt_walks.specs.Walked.{HasMarked, HasRoom, StandsBefore, role_at, tree_of}
 use Rattle.bt_walks.proofs.Seeing.{seen_plain, seen_whole}
 use Rattle.bt_walks.proofs.Walking.{page_passed}
 use Rattle.bt_walks.proofs.levels.Levels.pass.Goals as goal
@@ -18,6 +17,11 @@ use Rattle.bt_walks.proofs.levels.Levels.pass.Goals as goal
 pub follow-requires-clause-pages : goal.follow-requires-clause-pages
 follow-requires-clause-pages g c names told =
     subst (λ t. HoldsPages names t) (sym (ap tree_of c.in_ok-keep_bound.ensures.bound)) (c.requires.pages names told)
+
+pub mark-requires-clause-room : goal.mark-requires-clause-room
+mark-requires-clause-room g c =
+    subst HasRoom (sym c.in_ok-follow.ensures.downlinks)
+    (let bound = subst HasRoom (sym c.in_ok-keep_bound.ensures.bound) (record { right_halves = c.requires.room.right_halves; half_dead = c.requires.room.half_dead }) in record { right_halves = bound.right_halves; half_dead = bound.half_dead })
 
 pub returns-clause-told : goal.returns-clause-told
 returns-clause-told g c names told level w of_level at k =
@@ -44,6 +48,7 @@ returns-clause-told g c names told level w of_level at k =
     subst (λ q. StandsBefore tree level s2 (unmet_after w.ahead q)) c.see-seen.ensures.block
     (subst (λ t. StandsBefore (tree_seen names t) level s2 (unmet_after w.ahead seen.block)) same
     (c.in_ok-follow.ensures.told names told level w.ahead sees.linked (subst (λ t. StandsBefore (tree_seen names t) level s1 w.ahead) (sym same) before))) in
-    let dead = ap is_dead (sym named) in
+    let shown = sees.marks.half_dead in
+    let half_dead : seen.marks.half_dead ≡ ((image_of tree).page b).half_dead = sym shown ∙ ap (λ q. ((image_of tree).page q).half_dead) c.see-seen.ensures.block in
     page_passed tree level s0 s1 s2 s3 c.args.walk.now c.pass.result w b seen of_level k c.see-seen.ensures.block sees c.in_ok-keep_bound.ensures.bound bound
-    c.in_ok-follow.ensures.downlinks follows c.mark.ensures.sets (subst (HasMarked s2 s3 b) dead c.mark.ensures.marked) c.pass.ensures
+    c.in_ok-follow.ensures.downlinks follows c.mark.ensures.sets (subst (HasMarked s2 s3 b (role_at tree w b)) half_dead (subst (λ r. HasMarked s2 s3 b r seen.marks.half_dead) (sym named) c.mark.ensures.marked)) c.pass.ensures

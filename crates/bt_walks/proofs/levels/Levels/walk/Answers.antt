@@ -8,14 +8,14 @@ use Rattle.bt_walks.specs.Trees.{HoldsPages, image_of}
 use Rattle.bt_walks.specs.Downlinks.{turns_of}
 use Rattle.bt_walks.specs.Reading.{IsOfLevel}
 use Rattle.bt_walks.specs.Walked.{HasPassed, IsWalking, fastroot_of, steps_of, tree_of, upper_of, walks_of}
-use Rattle.bt_walks.proofs.Walking.{Going, going_end, going_here, going_over, going_start, going_step, passed_page, walking_page}
+use Rattle.bt_walks.proofs.Walking.{Going, going_end, going_here, going_over, going_start, going_step, passed_page, ready_read, room_read, walking_page}
 use Rattle.bt_walks.proofs.levels.Levels.walk.Goals as goal
 
 pub loop-self-init : goal.loop-self-init
 loop-self-init g c =
     let none : 0 ≡ walks_of c.args.self.now - walks_of c.args.self.now = omega arith in
     record {
-      ready = record { columns = c.requires.ready.columns; upper = c.requires.ready.upper; lower = tt; dead = c.requires.ready.dead; stands = c.requires.ready.stands; steps = c.requires.ready.steps };
+      ready = record { columns = c.requires.ready.columns; upper = c.requires.ready.upper; lower = tt; dead = c.requires.ready.dead; stands = c.requires.ready.stands; steps = c.requires.ready.steps; right_halves = c.requires.ready.right_halves; half_dead = c.requires.ready.half_dead };
       same = record { tree = refl; fastroot = refl };
       fewer = omega arith;
       steps = refl;
@@ -33,6 +33,12 @@ read-requires g c = record {
       let i = c.loop-self.invariant in
       subst (λ t. HoldsPages names t) (sym i.same.tree) (c.requires.pages names (sym i.asked.same ∙ told));
 }
+
+pub pass-requires-clause-ready : goal.pass-requires-clause-ready
+pass-requires-clause-ready g c = ready_read c.loop-self.self c.read.new.self c.in_ok-read.ensures.page c.in_ok-read.ensures.walks c.loop-self.invariant.ready
+
+pub pass-requires-clause-room : goal.pass-requires-clause-room
+pass-requires-clause-room g c = room_read c.loop-self.self c.read.new.self c.in_ok-read.ensures.page c.in_ok-read.ensures.walks c.loop-self.invariant.ready
 
 pub pass-requires-clause-pages : goal.pass-requires-clause-pages
 pass-requires-clause-pages g c names told =

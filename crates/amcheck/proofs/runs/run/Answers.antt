@@ -1,0 +1,40 @@
+use Rattle.std.proofs.Common.{◌≡◌, ◌≢◌, ◌⊎◌, ℕ, inl, inr, ◌∙◌, sym, ap, arith}
+use Rattle.amcheck.specs.Seen.{form_asked, form_seen, outcome_seen}
+use Rattle.amcheck.proofs.Worth.{gave_up_generated, given_up_worth, worth_by, worth_generated}
+use Rattle.amcheck.specs.Answers.{IsOutcomeCode}
+use Rattle.amcheck.proofs.runs.run.Goals as goal
+
+pub returns-in-Ok-clause-report : goal.returns-in-Ok-clause-report
+returns-in-Ok-clause-report g c names told check lists asked e =
+    let form = ap form_asked (sym c.in-Some.is) ∙ c.command_of.ensures ∙ asked in
+    worth_by c.reports_have_worth.ensures (form_seen c.in-Some.command) check names lists (outcome_seen c.in-Ok.output) form e (c.in-Ok.ensures.output names told) _ _ _
+    (rw c.as_slice.ensures at c.write_text-in-Ok.ensures.meets) c.write_text-in-Ok.ensures.codes
+
+pub returns-in-Err-NoMemory-clause-report : goal.returns-in-Err-NoMemory-clause-report
+returns-in-Err-NoMemory-clause-report g c names told check lists asked e = given_up_worth c.reports_have_worth.ensures check names lists e _ _ _ (inr c.status.ensures)
+
+pub returns-then-refused_memory-clause-report : goal.returns-then-refused_memory-clause-report
+returns-then-refused_memory-clause-report g c names told check lists asked e =
+    given_up_worth c.reports_have_worth.ensures check names lists e _ _ _ (inr c.status-then-refused_memory.ensures)
+
+pub returns-else-refused_memory-clause-report : goal.returns-else-refused_memory-clause-report
+returns-else-refused_memory-clause-report g c names told check lists asked e =
+    given_up_worth c.reports_have_worth.ensures check names lists e _ _ _ (inl c.status-else-refused_memory.ensures)
+
+not_seven : (code : ℕ) → IsOutcomeCode code ⊎ (code ≡ 8) → code ≢ 7
+not_seven code (inl (inl small)) seven = absurd (omega (arith, small, seven))
+not_seven code (inl (inr ten)) seven = absurd (omega (arith, ten, seven))
+not_seven code (inr eight) seven = absurd (omega (arith, eight, seven))
+
+pub returns-in-Ok-clause-generated : goal.returns-in-Ok-clause-generated
+returns-in-Ok-clause-generated g c seed rows asked names =
+    let form = ap form_asked (sym c.in-Some.is) ∙ c.command_of.ensures ∙ asked in
+    worth_generated c.reports_have_worth.ensures seed rows names (outcome_seen c.in-Ok.output) (c.in-Ok.ensures.generated seed rows form) _ _ _
+    (rw c.as_slice.ensures at c.write_text-in-Ok.ensures.meets) c.write_text-in-Ok.ensures.codes (not_seven _ c.write_text-in-Ok.ensures.known)
+
+pub returns-in-Err-NoMemory-clause-generated : goal.returns-in-Err-NoMemory-clause-generated
+returns-in-Err-NoMemory-clause-generated g c seed rows asked names = gave_up_generated c.reports_have_worth.ensures seed rows names _ _ _ c.status.ensures
+
+pub returns-then-refused_memory-clause-generated : goal.returns-then-refused_memory-clause-generated
+returns-then-refused_memory-clause-generated g c seed rows asked names =
+    gave_up_generated c.reports_have_worth.ensures seed rows names _ _ _ c.status-then-refused_memory.ensures

@@ -1,0 +1,149 @@
+//! Pages as a server writes them, and pages that break one rule each.
+use crate::checks::{holds, same};
+use crate::pages::{Piece, page_of, put};
+use page_layout::{
+    LineFlag, LinePtr, PageKind, PageView, Rule, block_at, max_align, put_block, put_header,
+    put_u16, put_u32, u32_at,
+};
+use std::process::Abort;
+
+// A heap page of three tuples of 28 bytes.
+const THREE_TUPLES: Piece<'static> = (
+    12,
+    b"\x24\0\xa0\x1f\0\x20\x04\x20\0\0\0\0\xe0\x9f\x38\0\xc0\x9f\x38\0\xa0\x9f\x38\0",
+);
+
+// How many items a heap page has, and the second.
+fn items_of(rt: &impl Abort, page: PageView<'_>) -> (u16, LinePtr) {
+    assert!(rt; page.page_rule(PageKind::Heap).is_none());
+    let count = page.item_count();
+    assert!(rt; 2 <= count);
+    (count, page.item(2))
+}
+
+const SECOND: LinePtr = LinePtr {
+    flag: LineFlag::Normal,
+    off: 8128,
+    len: 28,
+};
+
+#[test]
+fn a_page_of_three_tuples(rt: HostRuntime) {
+    let bytes = page_of(&[THREE_TUPLES]);
+    let page = PageView::new(&bytes);
+    let header = page.header();
+    let places = (header.lower, header.upper, header.special);
+    same(&rt, &places, &(36, 8096, 8192), 0);
+    let rest = (header.version, header.flags, header.prune_xid);
+    same(&rt, &rest, &(0x2004, 0, 0), 1);
+    same(&rt, &u32_at(&bytes, 24), &0x0038_9fe0, 2);
+    same(&rt, &items_of(&rt, page), &(3, SECOND), 3);
+    let is_end = page.piece(8190, 2) == [0u8, 0].as_slice();
+    holds(&rt, is_end && !page.is_new(), 4);
+}
+
+// Pages with one byte that is another: an older layout, an unknown flag, an upper place past the special space, a line
+// pointer of three bytes, a new page with a byte and one with an unknown flag.
+const RULES: [(&[Piece<'static>], Piece<'static>, PageKind, Option<Rule>); 10] = [
+    (&[THREE_TUPLES], (18, &[3]), PageKind::Heap, Some(Rule::P1)),
+    (&[THREE_TUPLES], (10, &[8]), PageKind::Heap, Some(Rule::P2)),
+    (&[THREE_TUPLES], (10, &[7]), PageKind::Heap, None),
+    (
+        &[THREE_TUPLES],
+        (15, &[0x21]),
+        PageKind::Heap,
+        Some(Rule::P3),
+    ),
+    (&[THREE_TUPLES], (12, &[39]), PageKind::Heap, Some(Rule::P3)),
+    (&[THREE_TUPLES], (12, &[39]), PageKind::Map, None),
+    (&[THREE_TUPLES], (0, &[]), PageKind::Tree, Some(Rule::P3)),
+    (&[], (8000, &[1]), PageKind::Heap, Some(Rule::P4)),
+    (&[], (10, &[8]), PageKind::Map, Some(Rule::P2)),
+    (&[], (10, &[0]), PageKind::Meta, None),
+];
+
+#[test]
+fn page_rules(rt: HostRuntime) {
+    let mut row = 0u32;
+    for (pieces, other, kind, want) in &RULES {
+        row = row.wrapping_add(1);
+        let mut bytes = page_of(pieces);
+        put(&mut bytes, &[*other]);
+        same(&rt, &PageView::new(&bytes).page_rule(*kind), want, row);
+    }
+}
+
+// Line pointers, and whether they are misplaced on a heap page and on a tree page.
+const POINTERS: [(LineFlag, u16, u16, bool, bool); 9] = [
+    (LineFlag::Normal, 8160, 28, false, true),
+    (LineFlag::Normal, 8160, 16, true, false),
+    (LineFlag::Normal, 8164, 24, true, true),
+    (LineFlag::Normal, 8088, 28, true, true),
+    (LineFlag::Normal, 8160, 40, true, true),
+    (LineFlag::Dead, 8160, 16, false, false),
+    (LineFlag::Dead, 0, 0, false, true),
+    (LineFlag::Redirect, 2, 0, false, true),
+    (LineFlag::Unused, 0, 0, false, true),
+];
+
+#[test]
+fn misplaced_items(rt: HostRuntime) {
+    let mut row = 0u32;
+    for (flag, off, len, heap, tree) in POINTERS {
+        row = row.wrapping_add(1);
+        let pointer = LinePtr { flag, off, len };
+        let found = (
+            pointer.is_misplaced_heap_item(8096),
+            pointer.is_misplaced_tree_item(8096),
+        );
+        same(&rt, &found, &(heap, tree), row);
+    }
+}
+
+// Writes the line pointers of the three tuples.
+fn put_pointers(page: &mut [u8; 8192]) {
+    put_u32(page, 24, 0x0038_9fe0);
+    put_u32(page, 28, 0x0038_9fc0);
+    put_u16(page, 32, 0x9fa0);
+    put_u16(page, 34, 0x0038);
+}
+
+// What is written is what a server writes: a header, line pointers, a block number.
+#[test]
+fn written_bytes(rt: HostRuntime) {
+    let want = page_of(&[THREE_TUPLES]);
+    let mut page = [0u8; 8192];
+    put_header(&mut page, PageView::new(&want).header());
+    put_pointers(&mut page);
+    holds(&rt, page == want, 0);
+    let mut block = [0xffu8; 6];
+    put_block(&mut block, 1, 65538);
+    holds(&rt, block == *b"\xff\x01\0\x02\0\xff", 1);
+    same(&rt, &block_at(&block, 1), &65538, 2);
+}
+
+const LENGTHS: [(u16, u16); 5] = [(0, 0), (1, 8), (8, 8), (23, 24), (25, 32)];
+
+#[test]
+fn lengths_rounded_up(rt: HostRuntime) {
+    for (len, want) in LENGTHS {
+        assert!(rt; len < 1000);
+        same(&rt, &max_align(len), &want, len.into());
+    }
+}
+
+const CODES: [(Rule, &str); 4] = [
+    (Rule::S1, "S1"),
+    (Rule::H21, "H21"),
+    (Rule::B10, "B10"),
+    (Rule::X2, "X2"),
+];
+
+#[test]
+fn codes(rt: HostRuntime) {
+    let mut row = 0u32;
+    for (rule, code) in CODES {
+        row = row.wrapping_add(1);
+        holds(&rt, rule.code() == code, row);
+    }
+}
