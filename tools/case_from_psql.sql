@@ -19,7 +19,9 @@
 --
 -- It needs no extension and no special right, and it changes nothing. Where a
 -- case can't describe the table it prints nothing, gives the reason on standard
--- error, and ends with status 3. Only names, sizes and missing values are read,
+-- error, and ends with status 3. Tables and indexes that another session keeps
+-- for itself are waited for, 60 seconds or what `-v lock_timeout=` says, and left
+-- out then. Only names, sizes and missing values are read,
 -- and no rows, so any state of the table will do; but a command that rewrites
 -- the table or changes its columns or indexes (VACUUM FULL, CLUSTER, TRUNCATE,
 -- REINDEX, ALTER TABLE) makes the text out of date.
@@ -27,12 +29,13 @@
 -- tools/cases_from_server runs it with `every` in place of `tab`, for all tables
 -- of the database: with `-v every=tables` for those that users made and for
 -- large objects, with `-v every=catalogs` for the server's own too. It then
--- prints records of three fields, each field and each record ended as psql is
--- told to: what it is, a name, and a text.
+-- prints records of four fields, each field and each record ended as psql is
+-- told to: what it is, a name, a text, and the files, each with its blocks.
 --
 --     case             the name of a file, SCHEMA.TABLE.toml    the case text
---     table            a table that has no case                 the reason
---     index            an index that its case leaves out        the reason
+--     table            a table that has no case                 the reason, the files
+--     no file          a table that has no file                 the reason
+--     index            an index that no case lists              the reason, the file
 --     missing value    one that its case leaves out             the reason
 --     end              the database                             how many records came before this one
 --
@@ -78,16 +81,105 @@ select :'tab'::pg_catalog.regclass::pg_catalog.oid as table_oid
     \set table_oid 0
 \endif
 
--- From here on all names are those of the server itself. A table that another
--- session keeps for itself is waited for, but not for ever.
+-- From here on all names are those of the server itself.
 set search_path = '';
 set default_transaction_read_only = on;
-set lock_timeout = '60s';
 set statement_timeout = 0;
 set standard_conforming_strings = on;
 set jit = off;
 
+-- A table that another session keeps for itself is waited for, but not for ever:
+-- the size of its files can't be asked meanwhile.
+\if :{?lock_timeout}
+\else
+    \set lock_timeout '60s'
+\endif
+select set_config('kamzudrev.lock_timeout', :'lock_timeout', false) as waited,
+    set_config('kamzudrev.table_oid', :'table_oid', false) as for_table
+\gset
+do $$
+declare
+    until timestamptz := clock_timestamp() + current_setting('kamzudrev.lock_timeout')::interval;
+begin
+    while clock_timestamp() < until and exists (
+        select
+        from pg_locks
+        join pg_class as class
+            on class.oid = pg_locks.relation and class.relpersistence <> 't' and class.relkind in ('r', 'm', 't', 'i')
+        left join pg_index as index on index.indexrelid = class.oid
+        left join pg_class as owner on owner.reltoastrelid = class.oid
+        where pg_locks.locktype = 'relation'
+            and pg_locks.mode = 'AccessExclusiveLock'
+            and pg_locks.pid is distinct from pg_backend_pid()
+            and pg_locks.database in (0, (select oid from pg_database where datname = current_database()))
+            and current_setting('kamzudrev.table_oid')::oid in (0, class.oid, index.indrelid, owner.oid)
+    ) loop
+        perform pg_sleep(0.1);
+    end loop;
+end
+$$;
+-- For the moment between the two.
+set lock_timeout = '60s';
+
+-- The collations C.UTF-8 of the operating system are in the order of bytes in most systems, and weren't in some. Where an
+-- index has one, the server sorts 10,000 texts by it, and those whose order is that of bytes are kept.
+do $$
+declare
+    found_collation record;
+    is_ordered bool;
+    kept oid[] = '{}';
+begin
+    for found_collation in
+        select used.oid, format('%I.%I', namespace.nspname, used.collname) as name
+        from pg_collation as used
+        join pg_namespace as namespace on namespace.oid = used.collnamespace
+        join pg_database as database on database.datname = current_database()
+        where used.oid in (select unnest(indcollation::oid[]) from pg_index)
+            and getdatabaseencoding() = 'UTF8'
+            and case
+                when used.collprovider = 'd'
+                then coalesce(to_jsonb(database) ->> 'datlocprovider', 'c') = 'c' and database.datcollate ~* '^c\.utf-?8$'
+                else used.collprovider = 'c' and used.collcollate ~* '^c\.utf-?8$'
+            end
+    loop
+        execute format($query$
+            select bool_and(bytes >= before)
+            from (
+                select bytes, lag(bytes) over (order by word collate %s) as before
+                from (
+                    select word, convert_to(word, 'UTF8') as bytes
+                    from generate_series(1, 10000) as i
+                    cross join lateral (
+                        select string_agg(chr((case
+                            when i %% 3 = 0 then 32 + number %% 95
+                            when i %% 3 = 1 then 32 + number %% 50000
+                            when number %% 1114080 between 55264 and 57311 then 65
+                            else 32 + number %% 1114080
+                        end)::int4), '' order by j) as word
+                        from generate_series(1, 1 + i %% 6) as j
+                        cross join lateral (select hashint4(i * 10 + j)::int8 + 2147483648 as number) as hashed
+                    ) as words
+                ) as texts
+            ) as sorted$query$, found_collation.name) into is_ordered;
+        if is_ordered then
+            kept := kept || found_collation.oid;
+        end if;
+    end loop;
+    perform set_config('kamzudrev.byte_order', kept::text, false);
+end
+$$;
+
 with recursive
+
+-- What another session keeps for itself, or waits for.
+locked (relation) as materialized (
+    select distinct relation
+    from pg_locks
+    where locktype = 'relation'
+        and mode = 'AccessExclusiveLock'
+        and pid is distinct from pg_backend_pid()
+        and database in (0, (select oid from pg_database where datname = current_database()))
+),
 
 -- The tables that are asked for. Of the server's own, large objects are always
 -- among them where there are any: their rows are what users stored.
@@ -96,13 +188,18 @@ asked as (
         class.*,
         namespace.nspname::text as schema_name,
         class.relname::text as table_name,
+        lock.is_locked,
         pg_relation_filepath(class.oid) as heap_path,
-        pg_relation_size(class.oid) / 8192 as heap_blocks,
+        case when not lock.is_locked then pg_relation_size(class.oid) / 8192 end as heap_blocks,
         nullif(class.reltoastrelid, 0) as toast_oid,
         pg_relation_filepath(nullif(class.reltoastrelid, 0)) as toast_path,
-        pg_relation_size(nullif(class.reltoastrelid, 0)) / 8192 as toast_blocks
+        case when not lock.is_locked then pg_relation_size(nullif(class.reltoastrelid, 0)) / 8192 end as toast_blocks
     from pg_class as class
     join pg_namespace as namespace on namespace.oid = class.relnamespace
+    cross join lateral (
+        select class.relpersistence = 't' or class.oid in (select relation from locked)
+            or class.reltoastrelid in (select relation from locked) as is_locked
+    ) as lock
     where case
         when :'is_one' then class.oid = :'table_oid'::oid
         when class.relkind not in ('r', 'm', 'p', 'f') then false
@@ -150,6 +247,8 @@ tables as (
             then 'it is a temporary table, which is gone once the server is stopped'
             when asked.heap_path is null
             then 'it has no file'
+            when asked.is_locked
+            then format('another session keeps it for itself, for longer than %s', :'lock_timeout')
             when column_counts.column_count is null
             then 'it has no column, and a case lists at least one'
             when column_counts.column_count > 64
@@ -177,6 +276,11 @@ tables as (
 
 described as (
     select * from tables where reason is null
+),
+
+-- Tables that have no case and have files all the same.
+left_tables as (
+    select * from tables where reason is not null and relkind in ('r', 'm') and relpersistence <> 't' and heap_path is not null
 ),
 
 -- A column of a domain is stored as the type below it, which can be a domain too.
@@ -224,6 +328,11 @@ columns as (
                 'uuid'::regtype, 'text'::regtype, 'bytea'::regtype
             ) then base_types.type_name
             when base_types.type_oid = 'varchar'::regtype then 'text'
+            -- These are stored and ordered as integers.
+            when base_types.type_oid = 'date'::regtype then 'int4'
+            when base_types.type_oid in (
+                'time'::regtype, 'timestamp'::regtype, 'timestamptz'::regtype, 'money'::regtype
+            ) then 'int8'
         end as key_type,
         attributes.atthasmissing and not attributes.attisdropped as has_missing,
         attributes.attmissingval as missing_array
@@ -400,13 +509,19 @@ missing_reasons as (
 indexes as (
     select
         index.*,
-        described.oid as table_oid,
+        owner.oid as table_oid,
+        owner.is_left,
         class.relname::text as index_name,
+        class.oid in (select relation from locked) as is_index_locked,
         pg_relation_filepath(class.oid) as index_path,
-        pg_relation_size(class.oid) / 8192 as index_blocks,
+        case when class.oid not in (select relation from locked) then pg_relation_size(class.oid) / 8192 end as index_blocks,
         access_method.amname
     from pg_index as index
-    join described on index.indrelid = described.oid
+    join (
+        select oid, false as is_left from described
+        union all
+        select oid, true from left_tables
+    ) as owner on index.indrelid = owner.oid
     join pg_class as class on class.oid = index.indexrelid
     join pg_am as access_method on access_method.oid = class.relam
 ),
@@ -422,6 +537,7 @@ index_columns as (
         columns.column_name,
         columns.key_type,
         missing_reasons.reason is not null as has_lost_value,
+        indexes.indcollation[place.position - 1] as key_collation,
         indexes.indoption[place.position - 1] & 1 = 1 as is_descending,
         indexes.indoption[place.position - 1] & 2 = 2 as has_nulls_first,
         operator_class.opcname::text as class_name,
@@ -458,11 +574,13 @@ key_columns as (
         *,
         coalesce(key_type is not null and is_class_of_server and class_name in (
             'bool_ops', 'int2_ops', 'int4_ops', 'int8_ops', 'uuid_ops', 'bytea_ops',
+            'date_ops', 'time_ops', 'timestamp_ops', 'timestamptz_ops', 'money_ops',
             'text_ops', 'varchar_ops', 'text_pattern_ops', 'varchar_pattern_ops'
         ), false) as has_known_order,
         key_type is distinct from 'text'
             or class_name in ('text_pattern_ops', 'varchar_pattern_ops')
-            or coalesce(collation_name in ('C', 'POSIX'), false) as is_ordered_by_bytes
+            or coalesce(collation_name in ('C', 'POSIX'), false)
+            or key_collation in (select unnest(current_setting('kamzudrev.byte_order')::oid[])) as is_ordered_by_bytes
     from index_columns
     where is_key
 ),
@@ -483,6 +601,7 @@ index_reasons as (
         indexes.*,
         case
             when amname <> 'btree' then 'it is no B-tree, but ' || amname
+            when is_left then 'its table is left out'
             when indpred is not null then 'it is partial'
             when indexprs is not null then 'it is on an expression'
             when not (indisvalid and indisready and indislive) then 'it is not valid'
@@ -492,6 +611,8 @@ index_reasons as (
             when has_other_collation then 'the collation of a key column is not C'
             when has_lost_value then 'the missing value of a key column is left out'
             when index_path is null then 'it has no file'
+            when is_index_locked
+            then format('another session keeps it for itself, for longer than %s', :'lock_timeout')
             when index_blocks > 16384
             then format('it has %s blocks, and the checker reads 16384 at most (128 MiB)', index_blocks)
         end as fault
@@ -505,6 +626,7 @@ numbered_indexes as (
         table_oid,
         index_name,
         index_path,
+        index_blocks,
         row_number() over (partition by table_oid order by index_name) as number,
         case
             when fault is not null then fault
@@ -583,6 +705,7 @@ lines (table_oid, part, number, place, line) as (
         '# Table: ' || named_tables.in_sql,
         '# Database: ' || (select in_sql from names where name = current_database()),
         '# Cluster: ' || (select system_identifier from pg_control_system()),
+        '# Catalog: ' || pg_relation_filepath('pg_class'),
         '# Printed: ' || now()::date,
         (
             select 'segment_blocks = ' || setting
@@ -675,41 +798,58 @@ lines (table_oid, part, number, place, line) as (
 texts as (
     select table_oid, string_agg(line, E'\n' order by part, number, place) as case_text
     from lines
+    where table_oid in (select oid from described)
     group by table_oid
 ),
 
-records (place, kind, name, text) as (
-    select 1, 'case', named_tables.in_files, texts.case_text
+-- The files of what is left out, each with its blocks.
+records (place, kind, name, text, files) as (
+    select 1, 'case', named_tables.in_files, texts.case_text, ''
     from texts
     join named_tables on named_tables.table_oid = texts.table_oid
 
     union all
-    select 2, 'table', in_sql, reason
+    select
+        2,
+        case when left_tables.oid is null then 'no file' else 'table' end,
+        named_tables.in_sql,
+        named_tables.reason,
+        concat_ws(
+            ' ',
+            left_tables.heap_path || ' ' || coalesce(left_tables.heap_blocks::text, '?'),
+            left_tables.toast_path || ' ' || coalesce(left_tables.toast_blocks::text, '?')
+        )
     from named_tables
-    where reason is not null
+    left join left_tables on left_tables.oid = named_tables.table_oid
+    where named_tables.reason is not null
 
     union all
-    select 3, 'index', format('%s of %s', names.in_sql, named_tables.in_sql), numbered_indexes.reason
+    select
+        3,
+        'index',
+        format('%s of %s', names.in_sql, named_tables.in_sql),
+        numbered_indexes.reason,
+        concat(index_path || ' ' || coalesce(index_blocks::text, '?'))
     from numbered_indexes
     join named_tables on named_tables.table_oid = numbered_indexes.table_oid
     join names on names.name = numbered_indexes.index_name
     where numbered_indexes.reason is not null
 
     union all
-    select 4, 'missing value', format('%s of %s', names.in_sql, named_tables.in_sql), missing_reasons.reason
+    select 4, 'missing value', format('%s of %s', names.in_sql, named_tables.in_sql), missing_reasons.reason, ''
     from missing_reasons
     join named_tables on named_tables.table_oid = missing_reasons.table_oid
     join names on names.name = missing_reasons.column_name
     where missing_reasons.reason is not null
 )
 
-select kind, name, text
+select kind, name, text, files
 from (
     select * from records
     where place <= 2 or not :'is_one'
 
     union all
-    select 5, 'end', (select in_sql from names where names.name = current_database()), count(*)::text
+    select 5, 'end', (select in_sql from names where names.name = current_database()), count(*)::text, ''
     from records
     where not :'is_one'
     having not :'is_one'
