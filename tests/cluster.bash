@@ -1,7 +1,7 @@
 # A small PostgreSQL cluster in a temporary folder, for the tests that source this file: `skip`, `die`, `pass`, `fail`,
-# the server's start and stop, and ways to damage files. They set `top` (the checkout) and `program` (the checker) first.
-# The server listens on a socket in that folder only. It is stopped and the folder is removed however the test ends. Run
-# as root, the server runs as the user postgres, or as nobody where there is no such user.
+# the server's start and stop, and ways to damage files. They set `top` (the checkout) and `program` (the checker)
+# first. The server listens on a socket in that folder only. It is stopped and the folder is removed however the test
+# ends. Run as root, the server runs as the user postgres, or as nobody where there is no such user.
 # shellcheck shell=bash disable=SC2154
 export LC_ALL=C
 unset PGHOST PGHOSTADDR PGPORT PGUSER PGDATABASE PGDATA PGOPTIONS PGSERVICE PGCLIENTENCODING PGSSLMODE AMCHECK_CMD
@@ -94,7 +94,8 @@ make_cluster() {
 
 start() {
     "${as_server[@]}" "$server/pg_ctl" -D "$data" -l "$folder/log" -w -o "-c listen_addresses='' \
--c unix_socket_directories='$folder' -c fsync=off -c autovacuum=off -c max_wal_size=256MB -c max_prepared_transactions=2" start >/dev/null \
+-c unix_socket_directories='$folder' -c fsync=off -c autovacuum=off -c max_wal_size=256MB \
+-c max_prepared_transactions=2" start >/dev/null \
         || die 'the server does not start'
 }
 

@@ -121,8 +121,8 @@ $$;
 -- For the moment between the two.
 set lock_timeout = '60s';
 
--- The collations C.UTF-8 of the operating system are in the order of bytes in most systems, and weren't in some. Where an
--- index has one, the server sorts 10,000 texts by it, and those whose order is that of bytes are kept.
+-- The collations C.UTF-8 of the operating system are in the order of bytes in most systems, and weren't in some. Where
+-- an index has one, the server sorts 10,000 texts by it, and those whose order is that of bytes are kept.
 do $$
 declare
     found_collation record;
@@ -138,7 +138,8 @@ begin
             and getdatabaseencoding() = 'UTF8'
             and case
                 when used.collprovider = 'd'
-                then coalesce(to_jsonb(database) ->> 'datlocprovider', 'c') = 'c' and database.datcollate ~* '^c\.utf-?8$'
+                then coalesce(to_jsonb(database) ->> 'datlocprovider', 'c') = 'c'
+                    and database.datcollate ~* '^c\.utf-?8$'
                 else used.collprovider = 'c' and used.collcollate ~* '^c\.utf-?8$'
             end
     loop
@@ -280,7 +281,8 @@ described as (
 
 -- Tables that have no case and have files all the same.
 left_tables as (
-    select * from tables where reason is not null and relkind in ('r', 'm') and relpersistence <> 't' and heap_path is not null
+    select * from tables
+    where reason is not null and relkind in ('r', 'm') and relpersistence <> 't' and heap_path is not null
 ),
 
 -- A column of a domain is stored as the type below it, which can be a domain too.
@@ -514,7 +516,8 @@ indexes as (
         class.relname::text as index_name,
         class.oid in (select relation from locked) as is_index_locked,
         pg_relation_filepath(class.oid) as index_path,
-        case when class.oid not in (select relation from locked) then pg_relation_size(class.oid) / 8192 end as index_blocks,
+        case when class.oid not in (select relation from locked) then pg_relation_size(class.oid) / 8192 end
+            as index_blocks,
         access_method.amname
     from pg_index as index
     join (
@@ -648,7 +651,8 @@ names (name, in_toml, in_sql, in_files) as (
                     case
                         when character = '\' then '\\'
                         when character = '"' then '""'
-                        when character ~ '[\u0001-\u001f\u007f-\u009f]' then '\' || lpad(to_hex(ascii(character)), 4, '0')
+                        when character ~ '[\u0001-\u001f\u007f-\u009f]'
+                            then '\' || lpad(to_hex(ascii(character)), 4, '0')
                         else character
                     end,
                     '' order by place

@@ -85,8 +85,8 @@ pub record IsSound (check : Check) (names : Names) (lists : Lists) : Type 0 wher
   pub unjudged : All (λ u. IsInDoubt check names u.reason u.place) lists.unjudged
 
 -- each place where a rule is broken, or of which something is in doubt, stands in the report; of the rules on levels of
--- an index, the first that is broken. A place has one finding at most, the first of its rules in the order of asking, so
--- where several are broken at one place the report names it, and one of them
+-- an index, the first that is broken. A place has one finding at most, the first of its rules in the order of asking,
+-- so where several are broken at one place the report names it, and one of them
 pub record IsComplete (check : Check) (names : Names) (lists : Lists) : Type 0 where
   pub broken : (rule : Rule) (place : Place) → IsBroken check names rule place
       → IsListed lists place ⊎ IsBehind lists rule place

@@ -16,7 +16,7 @@ use Rattle.tree_image.specs.Image.{spot_of}
 use Rattle.tree_image.specs.Pages.{breaks_high_key, breaks_order}
 use Rattle.bt_pages.specs.declared.pass.Pass.TheVariants.{HalfDead, NotPlain, Disordered, Ordered}
 use Rattle.bt_pages.specs.Passes.{are_disordered, is_disordered, pass_by, pass_of}
-use Rattle.bt_pages.specs.Questions.{are_plain, breaks_on_page, doubt_by, is_plain, own_doubt, own_rule, own_rules, rule_on_page, rules_by}
+use Rattle.bt_pages.specs.Questions.{are_plain, breaks_on_page, doubt_by, is_without_fault, own_doubt, own_rule, own_rules, rule_on_page, rules_by}
 use Rattle.bt_pages.proofs.Passing.{order-each, plain-each}
 
 -- what each answer of the pass says
@@ -102,19 +102,19 @@ module _ (specs : List KeySpec) (more : List MoreSpec) (page : List ℕ) where
     pub rule-not_plain : is_half_dead (opaque_of page) ≡ false → are_plain specs more page (count_of page) ≡ false → rule_on_page specs more page i ≡ own_rule specs more page i
     rule-not_plain live plain = rule_by false false live plain ∙ sym (own_by false live)
 
-    pub own_rule-plain : is_plain specs more page i ≡ true → own_rule specs more page i ≡ None
-    unfolding is_plain
+    pub own_rule-plain : is_without_fault specs more page i ≡ true → own_rule specs more page i ≡ None
+    unfolding is_without_fault
     own_rule-plain plain = none_is (own_rule specs more page i) (both_of _ _ plain).0
 
-    pub own_doubt-plain : is_plain specs more page i ≡ true → own_doubt specs more page i ≡ None
-    unfolding is_plain
+    pub own_doubt-plain : is_without_fault specs more page i ≡ true → own_doubt specs more page i ≡ None
+    unfolding is_without_fault
     own_doubt-plain plain = none_is (own_doubt specs more page i) (both_of _ _ plain).1
 
     pub own_doubt-dead : is_half_dead (opaque_of page) ≡ true → own_doubt specs more page i ≡ None
     unfolding own_doubt
     own_doubt-dead dead = ap (λ (h : Bool). doubt_by h (own_rule specs more page i) (has_packed specs more (tuple_of page i))) dead
 
-    pub rule-plain : is_half_dead (opaque_of page) ≡ false → are_plain specs more page (count_of page) ≡ true → is_plain specs more page i ≡ true
+    pub rule-plain : is_half_dead (opaque_of page) ≡ false → are_plain specs more page (count_of page) ≡ true → is_without_fault specs more page i ≡ true
         → rule_on_page specs more page i ≡ find (breaks_on_page specs more page i) (B10 ∷ B11 ∷ [])
     rule-plain live all plain =
         rule_by false true live all

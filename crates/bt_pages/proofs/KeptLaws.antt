@@ -17,7 +17,7 @@ use Rattle.tree_image.specs.Image.{downlink_in, first_data, item_at, spot_of}
 use Rattle.tree_image.specs.Pages.{IsDataItem, KeepsPage, breaks_downlink, breaks_high_key, breaks_order, breaks_siblings}
 use Rattle.tree_image.proofs.PageFields.{first_cases}
 use Rattle.bt_pages.specs.Trees.{Tree}
-use Rattle.bt_pages.specs.Questions.{are_plain, breaks_item, breaks_lone_rule, breaks_on_page, downlink_rules, has_downlink, is_plain, item_rule, lone_rule, lone_rules, order_rules, own_doubt, own_rule, own_rules, rule_on_page}
+use Rattle.bt_pages.specs.Questions.{are_plain, breaks_item, breaks_lone_rule, breaks_on_page, downlink_rules, has_downlink, is_without_fault, item_rule, lone_rule, lone_rules, order_rules, own_doubt, own_rule, own_rules, rule_on_page}
 use Rattle.bt_pages.specs.Found.{block_lists, block_place, item_place}
 use Rattle.bt_pages.specs.Broken.{AreEmpty, alone, siblings, item, IsJudged, IsJudgedItem}
 use Rattle.bt_pages.proofs.Among.{own_by, own_is, passed, rule-plain, rule_by}
@@ -93,8 +93,8 @@ module _ (tree : Tree) (b : ℕ) (empty : AreEmpty (block_lists tree b)) (used :
         sym (find-append test (own_rules h) (order_rules h p)) ∙ sym (rule_by tree.specs tree.more (tree.block b) i h p dead refl) ∙ on_page_none in
         own_by tree.specs tree.more (tree.block b) i h dead ∙ sym (own_is tree.specs tree.more (tree.block b) i h) ∙ (or_none (find test (own_rules h)) (find test (order_rules h p)) whole).0
 
-    plain : is_plain tree.specs tree.more (tree.block b) i ≡ true
-    unfolding is_plain
+    plain : is_without_fault tree.specs tree.more (tree.block b) i ≡ true
+    unfolding is_without_fault
     plain = both_none (own_rule tree.specs tree.more (tree.block b) i) (own_doubt tree.specs tree.more (tree.block b) i) (own_none (is_half_dead (opaque_of (tree.block b))) refl) doubt_none
 
     keeps_rules : is_half_dead (opaque_of (tree.block b)) ≡ false → KeepsItemRules tree.specs tree.more (spot_of (tree.block b) i) (tree.block b) i

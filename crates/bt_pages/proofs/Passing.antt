@@ -10,7 +10,7 @@ use Rattle.page_layout.specs.Page.{count_of}
 use Rattle.bt_pages.specs.declared.pass.Pass.TheVariants.{NotPlain, Ordered}
 use Rattle.bt_pages.specs.Passes.{are_disordered, is_disordered, pass_by}
 use Rattle.bt_pages.proofs.Orders.{high_key-few}
-use Rattle.bt_pages.specs.Questions.{are_plain, is_plain}
+use Rattle.bt_pages.specs.Questions.{are_plain, is_without_fault}
 
 both_true : (a b : Bool) → a ≡ true → b ≡ true → (a && b) ≡ true
 both_true true true p q = refl
@@ -30,17 +30,17 @@ module _ (specs : List KeySpec) (more : List MoreSpec) (page : List ℕ) where
   unfolding are_plain
   plain-none = refl
 
-  pub plain-next : (k : ℕ) → are_plain specs more page k ≡ true → is_plain specs more page (k + 1) ≡ true → are_plain specs more page (k + 1) ≡ true
+  pub plain-next : (k : ℕ) → are_plain specs more page k ≡ true → is_without_fault specs more page (k + 1) ≡ true → are_plain specs more page (k + 1) ≡ true
   unfolding are_plain
   plain-next k so here = rw add-one (both_true _ _ so (rw add-one at here))
 
   -- one item that isn't plain is enough
-  plain-not_from : (k d : ℕ) → is_plain specs more page (k + 1) ≡ false → are_plain specs more page (suc k + d) ≡ false
+  plain-not_from : (k d : ℕ) → is_without_fault specs more page (k + 1) ≡ false → are_plain specs more page (suc k + d) ≡ false
   unfolding are_plain
   plain-not_from k zero here = rw add-zero (second_false (are_plain specs more page k) _ (rw add-one at here))
-  plain-not_from k (suc d) here = rw add-suc (first_false (are_plain specs more page (suc k + d)) (is_plain specs more page (suc (suc k + d))) (plain-not_from k d here))
+  plain-not_from k (suc d) here = rw add-suc (first_false (are_plain specs more page (suc k + d)) (is_without_fault specs more page (suc (suc k + d))) (plain-not_from k d here))
 
-  pub plain-not : (k n : ℕ) → k < n → is_plain specs more page (k + 1) ≡ false → are_plain specs more page n ≡ false
+  pub plain-not : (k n : ℕ) → k < n → is_without_fault specs more page (k + 1) ≡ false → are_plain specs more page n ≡ false
   plain-not k n lt here =
       ap (λ (m : ℕ). are_plain specs more page m) whole ∙ plain-not_from k (n - suc k) here
     where
@@ -58,15 +58,15 @@ module _ (specs : List KeySpec) (more : List MoreSpec) (page : List ℕ) where
   disordered-next k was low is here = rw add-one ((λ i. is i || low) ∙ ap (λ (b : Bool). are_disordered specs more page k || b) (rw add-one at here))
 
   -- where all are plain, each is
-  pub plain-at : (k n : ℕ) → k < n → are_plain specs more page n ≡ true → is_plain specs more page (k + 1) ≡ true
-  plain-at k n lt all = elim (cases_Bool (is_plain specs more page (k + 1))) [
+  pub plain-at : (k n : ℕ) → k < n → are_plain specs more page n ≡ true → is_without_fault specs more page (k + 1) ≡ true
+  plain-at k n lt all = elim (cases_Bool (is_without_fault specs more page (k + 1))) [
     | inl e ↦ e
     | inr e ↦ absurd (let not_all : are_plain specs more page n ≡ false = plain-not k n lt e in let both : true ≡ false = sym all ∙ not_all in cc)
   ]
 
-  pub plain-each : (i n : ℕ) → 1 ≤ i → i ≤ n → are_plain specs more page n ≡ true → is_plain specs more page i ≡ true
+  pub plain-each : (i n : ℕ) → 1 ≤ i → i ≤ n → are_plain specs more page n ≡ true → is_without_fault specs more page i ≡ true
   plain-each i n first last all =
-      ap (λ (m : ℕ). is_plain specs more page m) whole ∙ plain-at (i - 1) n (omega arith) all
+      ap (λ (m : ℕ). is_without_fault specs more page m) whole ∙ plain-at (i - 1) n (omega arith) all
     where
       whole : i ≡ i - 1 + 1
       whole = omega arith
@@ -87,7 +87,7 @@ module _ (specs : List KeySpec) (more : List MoreSpec) (page : List ℕ) where
       whole : n ≡ suc (i - 1) + (n - i)
       whole = omega arith
 
-  pub pass-not_plain : (k n : ℕ) (disordered : Bool) → k < n → is_plain specs more page (k + 1) ≡ false → NotPlain ≡ pass_by false (are_plain specs more page n) disordered
+  pub pass-not_plain : (k n : ℕ) (disordered : Bool) → k < n → is_without_fault specs more page (k + 1) ≡ false → NotPlain ≡ pass_by false (are_plain specs more page n) disordered
   pass-not_plain k n disordered lt here = sym (ap (λ (plain : Bool). pass_by false plain disordered) (plain-not k n lt here))
 
   -- a page without items

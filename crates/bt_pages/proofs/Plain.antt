@@ -16,7 +16,7 @@ use Rattle.bt_tuples.proofs.Outcomes.{packed_means, read_means, rule_is}
 use Rattle.tree_image.specs.Image.{item_at, separator_in, spot_of}
 use Rattle.reports.specs.declared.places.Reason.{Reason}
 use Rattle.reports.specs.declared.places.Reason.TheVariants.{U5}
-use Rattle.bt_pages.specs.Questions.{doubt_by, is_plain, own_doubt, own_rule, own_rules}
+use Rattle.bt_pages.specs.Questions.{doubt_by, is_without_fault, own_doubt, own_rule, own_rules}
 
 -- the doubt that an outcome names
 abbrev pub doubt_in : ItemOutcome → Option Reason
@@ -41,8 +41,8 @@ module _ (specs : List KeySpec) (more : List MoreSpec) (page : List ℕ) (i : �
   own_doubt-live o is =
       (λ k. doubt_by (live k) (own_rule-live o is k) (has_packed specs more (tuple_of page i))) ∙ doubt_is o is
 
-  pub is_plain-live : (o : ItemOutcome) → item_outcome specs more (spot_of page i) page i ≡ o → is_plain specs more page i ≡ (is_none (rule_in o) && is_none (doubt_in o))
-  unfolding is_plain
+  pub is_plain-live : (o : ItemOutcome) → item_outcome specs more (spot_of page i) page i ≡ o → is_without_fault specs more page i ≡ (is_none (rule_in o) && is_none (doubt_in o))
+  unfolding is_without_fault
   is_plain-live o is = λ k. is_none (own_rule-live o is k) && is_none (own_doubt-live o is k)
 
   pub item-means : (item : Item) → item_outcome specs more (spot_of page i) page i ≡ Ok item → item ≡ item_at specs more page i
@@ -79,9 +79,9 @@ fault_plain Packed = refl
 
 -- an item is plain exactly where it is read
 pub plain-read : (specs : List KeySpec) (more : List MoreSpec) (page : List ℕ) (i : ℕ) (item : Item) → is_half_dead (opaque_of page) ≡ false
-    → item_outcome specs more (spot_of page i) page i ≡ Ok item → is_plain specs more page i ≡ true
+    → item_outcome specs more (spot_of page i) page i ≡ Ok item → is_without_fault specs more page i ≡ true
 plain-read specs more page i item live e = is_plain-live specs more page i live (Ok item) e
 
 pub plain-unread : (specs : List KeySpec) (more : List MoreSpec) (page : List ℕ) (i : ℕ) (fault : ItemFault) → is_half_dead (opaque_of page) ≡ false
-    → item_outcome specs more (spot_of page i) page i ≡ Err fault → is_plain specs more page i ≡ false
+    → item_outcome specs more (spot_of page i) page i ≡ Err fault → is_without_fault specs more page i ≡ false
 plain-unread specs more page i fault live e = is_plain-live specs more page i live (Err fault) e ∙ fault_plain fault

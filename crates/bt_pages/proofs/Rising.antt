@@ -22,7 +22,7 @@ use Rattle.tree_image.specs.Pages.{breaks_high_key, breaks_order, first_compared
 use Rattle.tree_image.proofs.PageFields.{first_cases, leaf_spot}
 use Rattle.bt_pages.specs.declared.pass.Pass.TheVariants.{Ordered}
 use Rattle.bt_pages.specs.Passes.{RiseTo, pass_by, pass_of}
-use Rattle.bt_pages.specs.Questions.{is_plain}
+use Rattle.bt_pages.specs.Questions.{is_without_fault}
 use Rattle.bt_pages.proofs.Orders.{order-first}
 use Rattle.bt_pages.proofs.Passing.{disordered-next, disordered-none, plain-next, plain-none, second_false}
 use Rattle.bt_pages.proofs.Plain.{item-means, plain-read}
@@ -31,20 +31,20 @@ module _ (specs : List KeySpec) (more : List MoreSpec) (page : List ℕ) where
   pub rise-none : RiseTo specs more page 0
   rise-none = record { plain = plain-none specs more page; order = disordered-none specs more page }
 
-  pub rise-next : (k : ℕ) → RiseTo specs more page k → is_plain specs more page (k + 1) ≡ true → breaks_order specs more page (k + 1) ≡ false → RiseTo specs more page (k + 1)
+  pub rise-next : (k : ℕ) → RiseTo specs more page k → is_without_fault specs more page (k + 1) ≡ true → breaks_order specs more page (k + 1) ≡ false → RiseTo specs more page (k + 1)
   rise-next k so plain order = record {
     plain = plain-next specs more page k so.plain plain;
     order = sym (disordered-next specs more page k false false (sym so.order) (sym order));
   }
 
   -- an item that is compared with none before it
-  pub rise-first : (i : ℕ) → 1 ≤ i → i ≤ first_data page → RiseTo specs more page (i - 1) → is_plain specs more page i ≡ true → RiseTo specs more page i
+  pub rise-first : (i : ℕ) → 1 ≤ i → i ≤ first_data page → RiseTo specs more page (i - 1) → is_without_fault specs more page i ≡ true → RiseTo specs more page i
   rise-first i some first so plain =
       let here : i - 1 + 1 ≡ i = omega arith in
       subst (RiseTo specs more page) here
-      (rise-next (i - 1) so (ap (is_plain specs more page) here ∙ plain) (order-first specs more page (i - 1 + 1) (omega (arith, here, first))))
+      (rise-next (i - 1) so (ap (is_without_fault specs more page) here ∙ plain) (order-first specs more page (i - 1 + 1) (omega (arith, here, first))))
 
-  pub rise-high_key : is_plain specs more page 1 ≡ true → RiseTo specs more page 1
+  pub rise-high_key : is_without_fault specs more page 1 ≡ true → RiseTo specs more page 1
   rise-high_key plain = rise-first 1 (omega arith) (first_cases page) rise-none plain
 
   pub rise-pass : is_half_dead (opaque_of page) ≡ false → RiseTo specs more page (count_of page) → breaks_high_key specs more page ≡ false → pass_of specs more page ≡ Ordered
@@ -62,7 +62,7 @@ module _ (specs : List KeySpec) (page : List ℕ) (live : is_half_dead (opaque_o
     unfolding entry
     entry-read = ap (λ (s : Spot3). item_outcome specs [] s page i) (leaf_spot page i leaf from) ∙ e.is
 
-    pub entry-plain : is_plain specs [] page i ≡ true
+    pub entry-plain : is_without_fault specs [] page i ≡ true
     entry-plain = plain-read specs [] page i entry live entry-read
 
     entry-is : item_at specs [] page i ≡ entry

@@ -69,13 +69,13 @@ own_doubt specs more page i =
     doubt_by (is_half_dead (opaque_of page)) (own_rule specs more page i) (has_packed specs more (tuple_of page i))
 
 -- neither a rule nor that
-unfoldable pub is_plain : List KeySpec → List MoreSpec → List ℕ → ℕ → Bool
-is_plain specs more page i = is_none (own_rule specs more page i) && is_none (own_doubt specs more page i)
+unfoldable pub is_without_fault : List KeySpec → List MoreSpec → List ℕ → ℕ → Bool
+is_without_fault specs more page i = is_none (own_rule specs more page i) && is_none (own_doubt specs more page i)
 
 -- so it is of the items 1 to n
 unfoldable pub are_plain : List KeySpec → List MoreSpec → List ℕ → ℕ → Bool
 are_plain specs more page zero = true
-are_plain specs more page (suc n) = are_plain specs more page n && is_plain specs more page (suc n)
+are_plain specs more page (suc n) = are_plain specs more page n && is_without_fault specs more page (suc n)
 
 -- An item among the others
 

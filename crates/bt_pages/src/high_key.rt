@@ -11,7 +11,7 @@ ghost use Rattle.bt_tuples.specs.Shown.{item_shown};
 ghost use Rattle.tree_image.specs.Image.{separator_in};
 ghost use Rattle.tree_image.specs.Pages.{breaks_high_key};
 ghost use Rattle.bt_pages.specs.Passes.{IsCarried};
-ghost use Rattle.bt_pages.specs.Questions.{are_plain, is_plain};
+ghost use Rattle.bt_pages.specs.Questions.{are_plain, is_without_fault};
 
 use bt_tuples::{ItemKeys, TreeItem, tree_item};
 use key_orders::{KeySpec, MoreSpec, SepRef};
@@ -42,7 +42,7 @@ pub fn is_past_high_key(
     requires aligned { All HasAlignment (key_types specs.now) }
     requires aligned_more { All HasAlignment (more_types more.now) }
     requires live { is_half_dead (opaque_of (page_bytes page)) ≡ false }
-    requires plain { is_plain specs.now more.now (page_bytes page) 1 ≡ true }
+    requires plain { is_without_fault specs.now more.now (page_bytes page) 1 ≡ true }
     requires last { IsCarried specs.now more.now (page_bytes page) (count_of (page_bytes page)) last.now }
     ensures { result ≡ breaks_high_key specs.now more.now (page_bytes page.entry) }
 {

@@ -10,7 +10,7 @@ ghost use Rattle.bt_meta.specs.Flags.{is_half_dead};
 ghost use Rattle.bt_meta.specs.Pages.{opaque_of};
 ghost use Rattle.bt_tuples.specs.Rules.{breaks_place};
 ghost use Rattle.bt_pages.specs.Passes.{pass_of};
-ghost use Rattle.bt_pages.specs.Questions.{are_plain, is_plain, own_doubt, own_rule, rule_on_page};
+ghost use Rattle.bt_pages.specs.Questions.{are_plain, is_without_fault, own_doubt, own_rule, rule_on_page};
 
 use crate::disorder::order_rule;
 use crate::pass::Pass;

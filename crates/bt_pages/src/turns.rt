@@ -11,7 +11,7 @@ ghost use Rattle.bt_meta.specs.Pages.{opaque_of};
 ghost use Rattle.tree_image.specs.Pages.{breaks_order};
 ghost use Rattle.tree_image.specs.Places.{place_of, places_of};
 ghost use Rattle.bt_pages.specs.Passes.{IsCarried, held};
-ghost use Rattle.bt_pages.specs.Questions.{is_plain};
+ghost use Rattle.bt_pages.specs.Questions.{is_without_fault};
 
 use bt_tuples::ItemKeys;
 use key_orders::{KeySpec, MoreSpec, SepRef};
@@ -39,7 +39,7 @@ pub fn read_item<'p>(
     requires aligned_more { All HasAlignment (more_types more.now) }
     requires live { is_half_dead (opaque_of (page_bytes page)) ≡ false }
     requires before { IsCarried specs.now more.now (page_bytes page) (at.number - 1) before.now }
-    ensures plain { is_plain specs.now more.now (page_bytes page.entry) at.number ≡ is_some result }
+    ensures plain { is_without_fault specs.now more.now (page_bytes page.entry) at.number ≡ is_some result }
     ensures low { IfSome result (λ low. low ≡ breaks_order specs.now more.now (page_bytes page.entry) at.number) }
     ensures last { IfSome result (λ low.
         IsCarried specs.now more.now (page_bytes page.entry) at.number keys.new.first) }
@@ -110,7 +110,7 @@ impl<'p> Turns<'p> {
         requires live { is_half_dead (opaque_of (page_bytes page)) ≡ false }
         requires before { IsCarried specs.now more.now (page_bytes page) (i - 1) (held self.old) }
         ensures places { self.new.places ≡ self.old.places }
-        ensures plain { is_plain specs.now more.now (page_bytes page.entry) i ≡ is_some result }
+        ensures plain { is_without_fault specs.now more.now (page_bytes page.entry) i ≡ is_some result }
         ensures low { IfSome result (λ low. low ≡ breaks_order specs.now more.now (page_bytes page.entry) i) }
         ensures last { IfSome result (λ low. IsCarried specs.now more.now (page_bytes page.entry) i (held self.new)) }
     {

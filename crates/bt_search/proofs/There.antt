@@ -2,7 +2,7 @@
 use Rattle.std.proofs.Common.{◌≡◌, ℕ, List, subst}
 use Rattle.key_orders.specs.declared.columns.KeySpec.{KeySpec}
 use Rattle.bt_search.specs.declared.spot.Spot.{Spot}
-use Rattle.bt_search.specs.Entries.{HasEntry}
+use Rattle.bt_search.specs.Entries.{IsEntryAt}
 
-pub has-there : (s t : List KeySpec) (p q : List ℕ) (at : Spot) → s ≡ t → p ≡ q → HasEntry s p at → HasEntry t q at
-has-there s t p q at a b has = subst (λ (k : List KeySpec). HasEntry k q at) a (subst (λ (l : List ℕ). HasEntry s l at) b has)
+pub has-there : (s t : List KeySpec) (p q : List ℕ) (at : Spot) → s ≡ t → p ≡ q → IsEntryAt s p at → IsEntryAt t q at
+has-there s t p q at a b has = subst (λ (k : List KeySpec). IsEntryAt k q at) a (subst (λ (l : List ℕ). IsEntryAt s l at) b has)

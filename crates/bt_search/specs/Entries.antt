@@ -11,7 +11,7 @@ use Rattle.bt_search.specs.declared.spot.Spot.{Spot}
 use Rattle.bt_steps.specs.Entries.{IsRead, keys_at}
 
 -- there is an entry at this place of the page
-pub record HasEntry (specs : List KeySpec) (page : List ℕ) (at : Spot) : Type 0 where
+pub record IsEntryAt (specs : List KeySpec) (page : List ℕ) (at : Spot) : Type 0 where
   pub laid_out : page_rule_of Tree page ≡ None
   pub first : 1 ≤ at.item
   pub last : at.item ≤ count_of page

@@ -11,7 +11,7 @@ use Rattle.bt_levels.specs.declared.sound.SoundTree.{SoundTree}
 use Rattle.bt_levels.specs.Sound.{fastroot_of, held_block, image_of, specs_of}
 use Rattle.bt_search.specs.declared.spot.Spot.{Spot}
 use Rattle.bt_steps.specs.Entries.{IsPlaceOn, place_of}
-use Rattle.bt_search.specs.Entries.{HasEntry, entry_on}
+use Rattle.bt_search.specs.Entries.{IsEntryAt, entry_on}
 use Rattle.bt_steps.specs.Pages.{KeyScan, is_killed}
 
 -- a scan of an index
@@ -56,7 +56,7 @@ left_at names sound bounds spot = left_from names sound bounds (state_at names s
 pub record Takes (names : Names) (sound : SoundTree) (bounds : Bounds) (old new at : Spot) (page : List ℕ)
     : Type 0 where
   pub entry : Entry Value Tid
-  pub read : HasEntry (specs_of sound) page at
+  pub read : IsEntryAt (specs_of sound) page at
   pub is : entry_on (specs_of sound) page at ≡ Some entry
   pub in_hand : page ≡ held_block names sound at.block
   pub first : rest_at names sound bounds old ≡ entry ∷ rest_at names sound bounds new

@@ -3,7 +3,7 @@ ghost use Rattle.std.specs.Prelude.{◌<◌, ◌↔◌, IfSome, IsSome, IsSomeAn
 ghost use Rattle.bt_tuples.specs.Shown.{item_shown};
 ghost use Rattle.tree_image.specs.Image.{keys_in};
 ghost use Rattle.bt_levels.specs.Sound.{specs_of};
-ghost use Rattle.bt_search.specs.Entries.{HasEntry, Shows, entry_on};
+ghost use Rattle.bt_search.specs.Entries.{IsEntryAt, Shows, entry_on};
 
 use crate::spot::{EntryRef, Spot};
 use bt_levels::SoundTree;
@@ -39,7 +39,7 @@ fn entry_in<'p>(item: TreeItem<'p>, nth: u16) -> Option<EntryRef<'p>>
 /// or `at.item` isn't an item of it, or that item, as one of a leaf of the tree, breaks one of B5 to B9 or
 /// has a compressed value, or it has no more than `at.nth` TIDs, of which a plain item has one.
 pub fn entry_at<'p>(tree: &SoundTree, page: &'p [u8; 8192], at: Spot) -> Option<EntryRef<'p>>
-    ensures some { IsSome result ↔ HasEntry (specs_of tree.now) page.now at }
+    ensures some { IsSome result ↔ IsEntryAt (specs_of tree.now) page.now at }
     ensures entry { IfSome result (λ e. IsSomeAnd (entry_on (specs_of tree.now) page.now at) (Shows e)) }
 {
     tree.keyed();

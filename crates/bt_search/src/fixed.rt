@@ -1,5 +1,5 @@
-//! Entries of an index with one key column of a fixed length, told by their bytes as they lie: each has the bytes of its
-//! value right behind its head.
+//! Entries of an index with one key column of a fixed length, told by their bytes as they lie: each has the bytes of
+//! its value right behind its head.
 ghost use Rattle.std.specs.Prelude.{◌≡◌, ◌∷◌, ◌<◌, ◌≤◌, ◌+◌, [], Bool, List, Ok, None, IfSome, length, take};
 ghost use Rattle.std.specs.Bool.{OnTrue};
 ghost use Rattle.page_layout.specs.Page.{count_of, item_of, page_rule_of};
@@ -112,8 +112,8 @@ impl FixedSought<'_> {
         self.is_tuple(page.piece(at.off, at.len))
     }
 
-    /// Looks for the entry, which isn't killed, at the item behind a data item of a leaf, as far as its bytes tell it as
-    /// they lie.
+    /// Looks for the entry, which isn't killed, at the item behind a data item of a leaf, as far as its bytes tell it
+    /// as they lie.
     #[inline]
     pub fn find_next(self, page: PageView<'_>, from: u16) -> Option<u16>
         requires page { page_rule_of PageKind.Tree (page_bytes page) ≡ None }

@@ -13,7 +13,7 @@ ghost use Rattle.key_orders.specs.Types.{HasAlignment};
 ghost use Rattle.varlena_attrs.specs.Keyed.{key_types};
 ghost use Rattle.bt_levels.specs.Sound.{HoldsTree, specs_of};
 ghost use Rattle.bt_steps.specs.Entries.{IsRead, keys_at};
-ghost use Rattle.bt_search.specs.Entries.{HasEntry};
+ghost use Rattle.bt_search.specs.Entries.{IsEntryAt};
 ghost use Rattle.bt_search.specs.Leaves.{HasFate, TellsItem, TellsLeaf};
 ghost use Rattle.bt_search.specs.Spots.{StandsAt};
 ghost use Rattle.bt_search.specs.declared.spot.Spot.{Spot as Reached};
@@ -157,7 +157,7 @@ fn read_item(search: &Search<'_>, page: PageView<'_>, spot: &mut Spot) -> OnItem
         → TellsItem names search.now.tree.now search.now.scan.now spot.old spot.new (page_bytes page.entry) result }
     ensures block { spot.new.block ≡ spot.old.block }
     ensures entry { (at : Reached) → result ≡ OnItem.Entry at
-        → (at.block ≡ spot.old.block) × HasEntry (specs_of search.now.tree.now) (page_bytes page.entry) at }
+        → (at.block ≡ spot.old.block) × IsEntryAt (specs_of search.now.tree.now) (page_bytes page.entry) at }
     ensures passed { result ≡ OnItem.Passed → spot.new.item ≡ spot.old.item + 1 }
 {
     searches_go_in_steps();
@@ -190,7 +190,7 @@ pub fn read_leaf(search: &Search<'_>, page: PageView<'_>, spot: &mut Spot) -> On
         → TellsLeaf names search.now.tree.now search.now.scan.now spot.old spot.new (page_bytes page.entry) result }
     ensures block { spot.new.block ≡ spot.old.block }
     ensures entry { (at : Reached) → result ≡ OnLeaf.Entry at
-        → (at.block ≡ spot.old.block) × HasEntry (specs_of search.now.tree.now) (page_bytes page.entry) at }
+        → (at.block ≡ spot.old.block) × IsEntryAt (specs_of search.now.tree.now) (page_bytes page.entry) at }
 {
     searches_go_in_steps();
     if page.page_rule(PageKind::Tree).is_some() || spot.item == 0 {

@@ -78,7 +78,7 @@ IsSafeHand page (Root b) = Unit {0}
 IsSafeHand page (Item i) = (page_rule_of tree_page page ≡ None) × (1 ≤ i) × (i ≤ count_of page)
 
 -- so it is whatever the files hold
-pub record IsReadable (specs : List KeySpec) (downlinks : Downlinks) : Type 0 where
+pub record AreReadableDownlinks (specs : List KeySpec) (downlinks : Downlinks) : Type 0 where
   pub hand : IsSafeHand downlinks.page downlinks.hand
   pub lower : IsBound specs downlinks.lower
 

@@ -27,7 +27,7 @@ use Rattle.bt_walks.specs.declared.levels.Levels.{Levels}
 use Rattle.bt_walks.specs.Bounds.{Bound, IsBound}
 use Rattle.bt_walks.specs.Budget.{pages_below}
 use Rattle.bt_walks.specs.Counts.{half_dead_among, half_dead_in, one_if, right_halves_in}
-use Rattle.bt_walks.specs.Downlinks.{IsReadable, IsSettled, Reads, TreeDownlink}
+use Rattle.bt_walks.specs.Downlinks.{AreReadableDownlinks, IsSettled, Reads, TreeDownlink}
 use Rattle.bt_walks.specs.Reading.{IsOfLevel}
 use Rattle.bt_walks.specs.Sets.{is_in}
 use Rattle.bt_walks.specs.Trees.{HasColumns, first_broken_in, image_of, order_in, same_in}
@@ -86,7 +86,7 @@ budget_of levels = levels.walks_left + 2 * levels.steps_left + levels.upper.turn
 -- what holds of it whatever the files hold
 pub record IsReady (levels : Levels) : Type 0 where
   pub columns : HasColumns levels.tree
-  pub upper : IsReadable levels.tree.specs.now levels.upper
+  pub upper : AreReadableDownlinks levels.tree.specs.now levels.upper
   pub lower : IsBound levels.tree.specs.now levels.lower
   pub dead : length levels.dead ≡ count_of levels.tree.relation.now
   pub stands : length levels.stands ≡ count_of levels.tree.relation.now

@@ -20,7 +20,7 @@ ghost use Rattle.tree_image.specs.Pages.{IsPlainItem};
 ghost use Rattle.bt_pages.specs.Trees.{tree_seen};
 ghost use Rattle.bt_walks.specs.Bounds.{IsBound};
 ghost use Rattle.bt_walks.specs.Budget.{TakesReads};
-ghost use Rattle.bt_walks.specs.Downlinks.{HasAdvanced, IsReadable, IsSafeHand, IsSettled, IsSoundHand, Reads};
+ghost use Rattle.bt_walks.specs.Downlinks.{AreReadableDownlinks, HasAdvanced, IsSafeHand, IsSettled, IsSoundHand, Reads};
 ghost use Rattle.bt_walks.specs.Downlinks.{TreeDownlink, bound_of, cursor_of, hand_after, hand_of, in_hand, is_held};
 ghost use Rattle.bt_walks.specs.Downlinks.{is_settled, next_of, page_of, turns_of};
 ghost use Rattle.bt_walks.specs.Sets.{is_in};
@@ -85,7 +85,7 @@ fn downlink_at(page: PageView<'_>, i: u16) -> Option<u32>
 impl Downlinks {
     /// Before the one downlink to the top level. At most `turns` pages are read for the downlinks of all levels.
     pub fn to_root(root: u32, turns: u32) -> Downlinks
-        ensures readable { (specs : List Spec) → IsReadable specs result }
+        ensures readable { (specs : List Spec) → AreReadableDownlinks specs result }
         ensures settled { IsSettled result }
         ensures sound { (specs : List Spec) (more : List More)
             → IsSoundHand specs more (page_of result) (hand_of result) }
@@ -104,7 +104,7 @@ impl Downlinks {
 
     /// Before the first downlink of a level, which begins with this page.
     pub fn begin(&mut self, first: u32)
-        ensures readable { (specs : List Spec) → IsReadable specs self.new }
+        ensures readable { (specs : List Spec) → AreReadableDownlinks specs self.new }
         ensures sound { (specs : List Spec) (more : List More)
             → IsSoundHand specs more (page_of self.new) (hand_of self.new) }
         ensures cursor { (specs : List Spec) (more : List More) → cursor_of specs more self.new
@@ -170,10 +170,10 @@ impl Downlinks {
     ) -> Result<(), ReadFault>
         requires nothing { is_held (hand_of self.old) ≡ false }
         requires some { 0 < turns_of self.old }
-        requires readable { IsReadable tree.now.specs.now self.old }
+        requires readable { AreReadableDownlinks tree.now.specs.now self.old }
         requires blocks { length dead.now ≡ blocks_of tree.now.relation.now }
         requires pages { IfTold F.seen files.old (λ names. HoldsPages names tree.now) }
-        ensures readable { IsReadable tree.now.specs.now self.new }
+        ensures readable { AreReadableDownlinks tree.now.specs.now self.new }
         ensures turns { turns_of self.new + 1 ≡ turns_of self.old }
         ensures reads { OnOk result (IfTold F.seen files.old (λ names.
             (level m : ℕ) (left : List TreeDownlink) → next_of self.old ≢ 0
@@ -200,10 +200,10 @@ impl Downlinks {
         tree: &TreeRules<'_>,
         dead: &BlockSet,
     ) -> Result<(), ReadFault>
-        requires readable { IsReadable tree.now.specs.now self.old }
+        requires readable { AreReadableDownlinks tree.now.specs.now self.old }
         requires blocks { length dead.now ≡ blocks_of tree.now.relation.now }
         requires pages { IfTold F.seen files.old (λ names. HoldsPages names tree.now) }
-        ensures readable { IsReadable tree.now.specs.now self.new }
+        ensures readable { AreReadableDownlinks tree.now.specs.now self.new }
         ensures reads { OnOk result (IfTold F.seen files.old (λ names.
             (level : ℕ) (left : List TreeDownlink)
             → Reads (tree_seen names tree.now) (is_in dead.now) (suc level) (turns_of self.old) self.old left
@@ -253,7 +253,7 @@ impl Downlinks {
     /// is the page's own lower bound.
     pub fn is_bound(&self, tree: &TreeRules<'_>, lower: &Option<Separator>) -> bool
         requires columns { HasColumns tree.now }
-        requires readable { IsReadable tree.now.specs.now self.now }
+        requires readable { AreReadableDownlinks tree.now.specs.now self.now }
         requires lower { IsBound tree.now.specs.now lower.now }
         ensures { IsSoundHand tree.now.specs.now tree.now.more.now (page_of self.now) (hand_of self.now)
             → result ≡ same_bound (same_keys (columns_of tree.now.specs.now) tid_order)
@@ -275,8 +275,8 @@ impl Downlinks {
     // Past the next downlink, without a look at a further page.
     fn advance(&mut self, alloc: Global, tree: &TreeRules<'_>) -> Result<(), NoMemory>
         requires columns { HasColumns tree.now }
-        requires readable { IsReadable tree.now.specs.now self.old }
-        ensures readable { IsReadable tree.now.specs.now self.new }
+        requires readable { AreReadableDownlinks tree.now.specs.now self.old }
+        ensures readable { AreReadableDownlinks tree.now.specs.now self.new }
         ensures turns { turns_of self.new ≡ turns_of self.old }
         ensures advanced { OnOk result ((d : TreeDownlink) (ds : List TreeDownlink)
             → IsSoundHand tree.now.specs.now tree.now.more.now (page_of self.old) (hand_of self.old)
@@ -309,10 +309,10 @@ impl Downlinks {
         dead: &BlockSet,
     ) -> Result<(), PageFault>
         requires columns { HasColumns tree.now }
-        requires readable { IsReadable tree.now.specs.now self.old }
+        requires readable { AreReadableDownlinks tree.now.specs.now self.old }
         requires blocks { length dead.now ≡ blocks_of tree.now.relation.now }
         requires pages { IfTold F.seen files.old (λ names. HoldsPages names tree.now) }
-        ensures readable { IsReadable tree.now.specs.now self.new }
+        ensures readable { AreReadableDownlinks tree.now.specs.now self.new }
         ensures reads { OnOk result (IfTold F.seen files.old (λ names.
             (level : ℕ) (d : TreeDownlink) (left : List TreeDownlink) → IsSettled self.old
             → Reads (tree_seen names tree.now) (is_in dead.now) (suc level) (turns_of self.old) self.old (d ∷ left)

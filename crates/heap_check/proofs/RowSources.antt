@@ -25,7 +25,7 @@ use Rattle.heap_files.specs.Files.{IsToastIn, IsToastNamed, chunks_in, toast_in}
 use Rattle.heap_files.proofs.ColumnLaws.{columns_aligned}
 use Rattle.heap_check.specs.RowCursor.{IsAtRow, IsCursorOf, asked_at, case_at, heap_at, rows_ahead, rows_unread}
 use Rattle.heap_check.specs.RowPages.{HasPlaces, IsInHand, IsNext, rows_in_hand}
-use Rattle.heap_check.specs.RowValues.{AreStarts, AreValuesOf, AsksColumns, IsReadable, bytes_seen}
+use Rattle.heap_check.specs.RowValues.{AreStarts, AreValuesOf, AsksColumns, IsReadableValue, bytes_seen}
 use Rattle.heap_check.specs.RowFits.{HasMissing}
 use Rattle.heap_check.specs.Rows.{block_rows, bytes_in_toast, each_from, toast_bytes}
 use Rattle.heap_check.specs.declared.row_page.RowPage.{RowPage}
@@ -54,7 +54,7 @@ missing_fit case columns sound are =
 
 -- The TOAST table
 
-pub readable_by : (case : CaseRecord) (names : Names) (t : Option (List ℕ × ℕ)) (r : Option Relation) (chunks : List Chunk) → case.toast ≡ t → IsToastIn names case.segment_blocks t r → IsToastNamed case.segment_blocks t r → chunks ≡ chunks_of case names → IsReadable names r chunks
+pub readable_by : (case : CaseRecord) (names : Names) (t : Option (List ℕ × ℕ)) (r : Option Relation) (chunks : List Chunk) → case.toast ≡ t → IsToastIn names case.segment_blocks t r → IsToastNamed case.segment_blocks t r → chunks ≡ chunks_of case names → IsReadableValue names r chunks
 readable_by case names None None chunks is attached named are = tt
 readable_by case names (Some t) (Some r) chunks is attached named are =
     (attached.attached, subst (λ (cs : List Chunk). AllStand names r cs) (sym are) (all_stand case names t r is attached named))
@@ -73,10 +73,10 @@ bytes_by case names (Some t) (Some r) chunks p is named are =
 bytes_by case names None (Some r) chunks p is named are = absurd named
 bytes_by case names (Some t) None chunks p is named are = absurd named
 
-pub readable : (names : Names) (cursor : RowCursor) (toast : Option Relation) (chunks : List Chunk) → toast ≡ toast_in (heap_at cursor) → chunks ≡ chunks_in (heap_at cursor) → IsCursorOf names cursor → IsReadable names toast chunks
+pub readable : (names : Names) (cursor : RowCursor) (toast : Option Relation) (chunks : List Chunk) → toast ≡ toast_in (heap_at cursor) → chunks ≡ chunks_in (heap_at cursor) → IsCursorOf names cursor → IsReadableValue names toast chunks
 readable names cursor toast chunks is same are =
-    subst (λ (cs : List Chunk). IsReadable names toast cs) (sym same)
-    (subst (λ (t : Option Relation). IsReadable names t (chunks_in (heap_at cursor))) (sym is)
+    subst (λ (cs : List Chunk). IsReadableValue names toast cs) (sym same)
+    (subst (λ (t : Option Relation). IsReadableValue names t (chunks_in (heap_at cursor))) (sym is)
     (readable_by (case_at cursor) names _ (toast_in (heap_at cursor)) (chunks_in (heap_at cursor)) refl are.heap.files.toast are.belong.toast are.heap.chunks))
 
 pub values_are : (names : Names) (cursor : RowCursor) (from : ValueSources) → option_copied from.toast ≡ toast_in (heap_at cursor) → from.chunks.now ≡ chunks_in (heap_at cursor) → from.columns.now ≡ (case_at cursor).columns → from.asked.now ≡ asked_at cursor → from.starts.now ≡ cursor.starts.items → IsCursorOf names cursor → AreValuesOf (case_at cursor) names from

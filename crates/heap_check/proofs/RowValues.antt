@@ -26,14 +26,14 @@ use Rattle.heap_check.specs.declared.row_values.AskedColumns.{AskedColumns}
 use Rattle.heap_check.specs.declared.row_values.ValuePlace.{ValuePlace}
 use Rattle.heap_check.specs.declared.row_values.ValuePlace.TheVariants as place
 use Rattle.heap_check.specs.Rows.{cell_at, cell_by, cell_of}
-use Rattle.heap_check.specs.RowValues.{AreCellsAsked, FitAsked, FitsColumnAt, FitsPlace, FitsType, IsReadable, asked_cell, cell_shown, column_asked, shown_by}
+use Rattle.heap_check.specs.RowValues.{AreCellsAsked, FitAsked, FitsColumnAt, FitsPlace, FitsType, IsReadableValue, asked_cell, cell_shown, column_asked, shown_by}
 use Rattle.heap_check.proofs.RowBodies.{piece_grown, piece_in_piece}
 use Rattle.heap_check.proofs.RowFits.{fits_attribute}
 
 -- Values in the TOAST table
 
-pub readable_in : (names : Names) (toast : Option (Bor Relation)) (r : Bor Relation) (chunks : List Chunk) → toast ≡ Some r → IsReadable names (option_copied toast) chunks → IsAttached names r.now × AllStand names r.now chunks
-readable_in names toast r chunks e h = subst (λ (t : Option (Bor Relation)). IsReadable names (option_copied t) chunks) e h
+pub readable_in : (names : Names) (toast : Option (Bor Relation)) (r : Bor Relation) (chunks : List Chunk) → toast ≡ Some r → IsReadableValue names (option_copied toast) chunks → IsAttached names r.now × AllStand names r.now chunks
+readable_in names toast r chunks e h = subst (λ (t : Option (Bor Relation)). IsReadableValue names (option_copied t) chunks) e h
 
 -- Each column
 

@@ -1,5 +1,6 @@
 -- Rows that are told by their bytes as they lie, from an item of the page in hand on.
-use Rattle.std.specs.Prelude.{◌≡◌, ℕ, ◌+◌, ◌-◌, ◌<◌, ◌≤◌, true, List, ◌∷◌, ◌++◌, None, Some, drop, length, map, slice_get, take}
+use Rattle.std.specs.Prelude.{◌≡◌, ℕ, ◌+◌, ◌-◌, ◌<◌, ◌≤◌, true, List, ◌∷◌, ◌++◌, None, Some}
+use Rattle.std.specs.Prelude.{drop, length, map, slice_get, take}
 use Rattle.outside.specs.Outside.{Names}
 use Rattle.key_orders.specs.Types.{alignment_of, fixed_length}
 use Rattle.key_orders.specs.declared.columns.ColType.{ColType}

@@ -33,9 +33,9 @@ use Rattle.heap_check.specs.Rows.{toast_bytes}
 -- The TOAST table
 
 -- the chunks stand in the TOAST table, where there is one
-abbrev pub IsReadable : Names → Option Relation → List Chunk → Type 0
-IsReadable names None chunks = Unit {0}
-IsReadable names (Some r) chunks = IsAttached names r × AllStand names r chunks
+abbrev pub IsReadableValue : Names → Option Relation → List Chunk → Type 0
+IsReadableValue names None chunks = Unit {0}
+IsReadableValue names (Some r) chunks = IsAttached names r × AllStand names r chunks
 
 -- the bytes that a pointer stands for there
 abbrev pub bytes_seen : Names → Option Relation → List Chunk → ToastPointer → List ℕ

@@ -149,8 +149,8 @@ impl RowCursor<'_> {
         })
     }
 
-    /// The bytes of the value of such a column in the row at the item after so many of the page in hand, where its tuple
-    /// has no nulls and stores that column. `None` says nothing.
+    /// The bytes of the value of such a column in the row at the item after so many of the page in hand, where its
+    /// tuple has no nulls and stores that column. `None` says nothing.
     #[inline]
     pub fn fixed_value_after(&self, done: u16, column: FixedColumn) -> Option<&[u8]>
         requires live { HasLiveAfter self.now.page done }

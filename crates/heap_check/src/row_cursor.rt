@@ -6,9 +6,6 @@ ghost use Rattle.outside.specs.Outside.{Asked, IfTold, Names, Tells};
 ghost use Rattle.liveness.specs.LogFiles.{log_files_of};
 ghost use Rattle.rel_files.specs.Relation.{count_of};
 ghost use Rattle.case_file.specs.declared.case.Column.{Column as TableColumn};
-ghost use Rattle.heap_pages.specs.Table.{toast_oid_seen};
-ghost use Rattle.heap_pages.specs.declared.table.TableKind.TheVariants as kind;
-ghost use Rattle.heap_files.specs.Case.{oid_in};
 ghost use Rattle.heap_files.specs.Found.{IsQuiet};
 ghost use Rattle.heap_files.specs.CaseLogs.{log_files_kept};
 ghost use Rattle.heap_files.specs.Files.{BelongTo, IsSoundHeapOf, files_of, heap_in};
@@ -24,8 +21,7 @@ use crate::row_cells::CellRef;
 use crate::row_page::RowPage;
 use crate::row_values::{AskedColumns, ValuePlace, ValueSources, starts_of};
 use case_file::{Case, Column};
-use heap_files::{CaseLogs, SoundHeap};
-use heap_pages::{TableKind, TableRules, ToastTable};
+use heap_files::{CaseLogs, SoundHeap, heap_rules, toast_table};
 use key_orders::{Tid, ValueRef, value_of};
 use outside::{Files, NoMemory};
 use reports::PageFault;
@@ -57,39 +53,6 @@ pub struct RowCursor<'a> {
     pub(crate) page: RowPage,
     // How many blocks were read.
     pub(crate) next: u32,
-}
-
-// The TOAST table of a case's heap, if the case has one.
-fn toast_table<'p>(case: &Case, heap: &'p SoundHeap) -> Option<ToastTable<'p>>
-    ensures { toast_oid_seen result ≡ oid_in case.now.toast }
-{
-    match case.toast() {
-        None => None,
-        Some((_, oid)) => Some(ToastTable {
-            oid,
-            chunks: heap.chunks(),
-        }),
-    }
-}
-
-// The rules of a case's heap.
-fn heap_rules<'p>(
-    case: &Case,
-    heap: &'p SoundHeap,
-    columns: &'p ColumnLayout<'p>,
-    logs: &'p CaseLogs,
-) -> TableRules<'p>
-    ensures kind { result.kind ≡ kind.Heap }
-    ensures columns { result.columns.now ≡ columns.now }
-    ensures toast { toast_oid_seen result.toast ≡ oid_in case.now.toast }
-    ensures logs { log_files_of result.logs ≡ log_files_kept logs.now }
-{
-    TableRules {
-        kind: TableKind::Heap,
-        columns,
-        toast: toast_table(case, heap),
-        logs: logs.lent(),
-    }
 }
 
 // The value of a column that stands at a place: in a page, or among bytes that were joined.
@@ -214,7 +177,8 @@ impl<'a> RowCursor<'a> {
         let heap = self.heap;
         case.sound();
         let columns = ColumnLayout::new(case.column_types());
-        let table = heap_rules(case, heap, &columns, &self.logs);
+        let toast = toast_table(case, heap.chunks());
+        let table = heap_rules(&columns, toast, &self.logs);
         let blocks = heap.heap().blocks();
         let next = self.next;
         prove!(next < blocks);

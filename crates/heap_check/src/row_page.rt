@@ -13,7 +13,7 @@ ghost use Rattle.hot_chains.specs.Chains.{is_live_tuple, item_at};
 ghost use Rattle.case_file.specs.Record.{CaseRecord};
 ghost use Rattle.heap_pages.specs.Table.{table_seen};
 ghost use Rattle.heap_check.specs.RowPages.{HasAttributes, IsBodyOf};
-ghost use Rattle.heap_check.specs.RowValues.{AreValuesOf, IsReadable};
+ghost use Rattle.heap_check.specs.RowValues.{AreValuesOf, IsReadableValue};
 ghost use Rattle.heap_check.specs.Rows.{item_rows};
 
 use crate::row_roots::Roots;
@@ -199,7 +199,7 @@ impl RowPage {
         item: u16,
     ) -> Result<bool, PageFault>
         requires readable { IfTold F.seen files.old (λ names.
-            IsReadable names (option_copied from.now.toast) from.now.chunks.now) }
+            IsReadableValue names (option_copied from.now.toast) from.now.chunks.now) }
         requires columns { columns.now ≡ map (λ c. c.ctype) from.now.columns.now }
         requires aligned { All HasAlignment columns.now }
         requires first { 1 ≤ item }
@@ -247,7 +247,7 @@ impl RowPage {
         columns: &[ColType],
     ) -> Result<bool, PageFault>
         requires readable { IfTold F.seen files.old (λ names.
-            IsReadable names (option_copied from.now.toast) from.now.chunks.now) }
+            IsReadableValue names (option_copied from.now.toast) from.now.chunks.now) }
         requires columns { columns.now ≡ map (λ c. c.ctype) from.now.columns.now }
         requires aligned { All HasAlignment columns.now }
         ensures left { IfTold F.seen files.old (λ names. (case : CaseRecord)

@@ -1,5 +1,5 @@
 //! The items of a page of a heap in which nothing is found: where they lie, and their states.
-ghost use Rattle.std.specs.Prelude.{◌≡◌, ◌∷◌, ◌++◌, ◌≤◌, [], Some, false, true, length, IfSome, OnOk};
+ghost use Rattle.std.specs.Prelude.{◌≡◌, ◌≤◌, Some, false, true, length, IfSome, OnOk};
 ghost use Rattle.std.specs.Option.{option_copied};
 ghost use Rattle.outside.specs.Outside.{Asked, IfTold, Tells};
 ghost use Rattle.page_layout.specs.Items.{is_misplaced_heap_item, is_normal};
@@ -13,9 +13,10 @@ ghost use Rattle.heap_pages.specs.States.{AreStatesOf, IsStateOf};
 ghost use Rattle.heap_pages.specs.Table.{Table, logs_in};
 ghost use Rattle.heap_check.specs.RowStates.{AreInPlace, ArePlain, is_plain, is_plain_head};
 
+use heap_pages::push_state;
 use heap_tuples::tuple_in;
 use liveness::{ItemState, Memory, Remembering, Status3, Transactions, life_in};
-use outside::{Files, NoMemory};
+use outside::Files;
 use page_layout::{LineFlag, LinePtr, PageView};
 use reports::PageFault;
 use std::alloc::Global;
@@ -142,14 +143,6 @@ fn state_of<F: Transactions>(
         LineFlag::Redirect => Ok(ItemState::Redirect(pointer.off)),
         LineFlag::Dead => Ok(ItemState::Dead),
     }
-}
-
-// Adds a state.
-fn push_state(states: &mut Vec<ItemState>, state: ItemState) -> Result<(), NoMemory>
-    ensures { OnOk result (states.new.items ≡ states.old.items ++ state ∷ []) }
-{
-    states.push(state)?;
-    Ok(())
 }
 
 // Puts the states of the items of a page in place of others.

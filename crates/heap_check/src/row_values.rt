@@ -13,7 +13,7 @@ ghost use Rattle.varlena_attrs.specs.Shown.{IsWithin, shown_at};
 ghost use Rattle.toast_chunks.specs.InHand.{Grows};
 ghost use Rattle.heap_check.specs.declared.row_values.AskedColumns.TheVariants as asked;
 ghost use Rattle.heap_check.specs.Rows.{cell_at, cell_of, external_cell};
-ghost use Rattle.heap_check.specs.RowValues.{AreCellsAsked, FitAsked, FitsPlace, FitsType, IsReadable};
+ghost use Rattle.heap_check.specs.RowValues.{AreCellsAsked, FitAsked, FitsPlace, FitsType, IsReadableValue};
 ghost use Rattle.heap_check.specs.RowValues.{IsThere};
 ghost use Rattle.heap_check.specs.RowValues.{AsksColumns, IsWholeIn, body_in, bytes_seen};
 ghost use Rattle.heap_check.specs.RowValues.{AreStarts, FitsColumnAt, IsStart};
@@ -186,7 +186,7 @@ impl RowValues {
         p: ToastPointer,
     ) -> Result<Option<ValuePlace>, PageFault>
         requires readable { IfTold F.seen files.old (λ names.
-            IsReadable names (option_copied from.now.toast) from.now.chunks.now) }
+            IsReadableValue names (option_copied from.now.toast) from.now.chunks.now) }
         ensures told { Tells F.seen files.old result (λ found names. (page : List ℕ) (column : TableColumn)
             → IsWholeIn (option_copied from.now.toast) from.now.chunks.now p
             → IsSomeAnd found (λ at. cell_shown page self.new.joined.items column at
@@ -233,7 +233,7 @@ impl RowValues {
         at: TupleColumn<'_>,
     ) -> Result<Option<ValuePlace>, PageFault>
         requires readable { IfTold F.seen files.old (λ names.
-            IsReadable names (option_copied from.now.toast) from.now.chunks.now) }
+            IsReadableValue names (option_copied from.now.toast) from.now.chunks.now) }
         requires inside { tuple.now.start + tuple.now.len ≤ 8192 }
         requires within { IsWithin tuple.now.len at.attr }
         requires fits { FitsType at.column.now.ctype (shown_at (body_in tuple.now) at.attr) }
@@ -273,7 +273,7 @@ impl RowValues {
         k: usize,
     ) -> Result<Option<ValuePlace>, PageFault>
         requires readable { IfTold F.seen files.old (λ names.
-            IsReadable names (option_copied from.now.toast) from.now.chunks.now) }
+            IsReadableValue names (option_copied from.now.toast) from.now.chunks.now) }
         requires inside { tuple.now.start + tuple.now.len ≤ 8192 }
         requires body { attrs.old.body ≡ body_in tuple.now }
         requires long { length attrs.old.body ≡ tuple.now.len }
@@ -333,7 +333,7 @@ impl RowValues {
         attrs: &mut TupleColumns<'_>,
     ) -> Result<bool, PageFault>
         requires readable { IfTold F.seen files.old (λ names.
-            IsReadable names (option_copied from.now.toast) from.now.chunks.now) }
+            IsReadableValue names (option_copied from.now.toast) from.now.chunks.now) }
         requires inside { tuple.now.start + tuple.now.len ≤ 8192 }
         requires body { attrs.old.body ≡ body_in tuple.now }
         requires long { length attrs.old.body ≡ tuple.now.len }

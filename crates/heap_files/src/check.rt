@@ -80,8 +80,8 @@ fn toast_rules<'p>(columns: &'p ColumnLayout<'p>, logs: &'p CaseLogs) -> TableRu
     }
 }
 
-// The rules of a heap, which has these columns and this TOAST table.
-fn heap_rules<'p>(
+/// The rules of a heap, which has these columns and this TOAST table.
+pub fn heap_rules<'p>(
     columns: &'p ColumnLayout<'p>,
     toast: Option<ToastTable<'p>>,
     logs: &'p CaseLogs,
@@ -136,8 +136,8 @@ fn chunks_in(found: &Found) -> &ToastMap
     &found.chunks
 }
 
-// The TOAST table of a case's heap, if it has one, with these chunks.
-fn toast_table<'p>(case: &Case, chunks: &'p ToastMap) -> Option<ToastTable<'p>>
+/// The TOAST table of a case's heap, if it has one, with these chunks.
+pub fn toast_table<'p>(case: &Case, chunks: &'p ToastMap) -> Option<ToastTable<'p>>
     ensures oid { toast_oid_seen result ≡ oid_in case.now.toast }
     ensures chunks { chunks_seen result ≡ chunks_given case.now.toast chunks.now }
 {

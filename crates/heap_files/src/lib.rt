@@ -9,7 +9,7 @@ mod map;
 mod relations;
 mod targets;
 
-pub use check::check_heap;
+pub use check::{check_heap, heap_rules, toast_table};
 pub use files::{HeapFiles, SoundHeap};
 pub use laws::heaps_are_judged;
 pub use logs::CaseLogs;

@@ -166,9 +166,9 @@ impl<'c> RowsInHand<'c, '_> {
         0
     }
 
-    /// Of how many of the next rows, so many at least, the entries stand one right behind the other on the leaf in hand,
-    /// from the item on from which look-ups go on, as far as their bytes tell it as they lie. Look-ups go on from the
-    /// last of them then.
+    /// Of how many of the next rows, so many at least, the entries stand one right behind the other on the leaf in
+    /// hand, from the item on from which look-ups go on, as far as their bytes tell it as they lie. Look-ups go on
+    /// from the last of them then.
     pub fn count_found(self, look_ups: &mut LookUps) -> u16
         requires rows { IsOfHeap self }
         ensures found { (names : Names) → HoldsTree names self.entry.at.tree.now

@@ -35,7 +35,8 @@ use std::alloc::Global;
 // A page has at most 2042 items.
 const MAX_ITEMS: u64 = 2042;
 
-// After how many steps, each of a row or of some that are passed at once, memory is given to those indexes in whose order they don't come, and after how many more again.
+// After how many steps, each of a row or of some that are passed at once, memory is given to those indexes in whose
+// order they don't come, and after how many more again.
 const SHARE_ROWS: u64 = 1024;
 
 // The bytes that those share of which it shows later, all together: 4 MiB.
@@ -106,8 +107,8 @@ fn pass_rows(joins: &mut [Join], count: u16)
     }
 }
 
-// Goes past the next rows of which it is known for all indexes that they have their entries, as far as they stand at the
-// very next items of the page in hand; whether there is one.
+// Goes past the next rows of which it is known for all indexes that they have their entries, as far as they stand at
+// the very next items of the page in hand; whether there is one.
 fn pass_known(joins: &mut [Join], cursor: &mut RowCursor<'_>) -> bool
     ensures same { IsSameCursor cursor.old cursor.new }
     ensures ready { (asked : Columns) (trees : List Tree)
@@ -315,8 +316,8 @@ impl IndexedTable<'_> {
         Ok(())
     }
 
-    // Goes past the next rows, where they are known to have their entries, or else to the next row and judges it; whether
-    // there is one.
+    // Goes past the next rows, where they are known to have their entries, or else to the next row and judges it;
+    // whether there is one.
     fn judge_next<F: Files>(
         self,
         files: &mut F,

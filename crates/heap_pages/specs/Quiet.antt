@@ -14,8 +14,8 @@ use Rattle.heap_pages.specs.Table.{Table, logs_in}
 use Rattle.heap_pages.specs.Verdicts.{item_verdict}
 use Rattle.heap_pages.specs.declared.verdict.ItemVerdict.TheVariants.{Passes}
 
--- a seen inserter, which is in range, is hinted to have committed, and xmax not to count or to lock alone; index entries
--- name the tuple; and where its block is called all-frozen, no field of it would be frozen
+-- a seen inserter, which is in range, is hinted to have committed, and xmax not to count or to lock alone; index
+-- entries name the tuple; and where its block is called all-frozen, no field of it would be frozen
 abbrev pub is_quiet_head : (in_range : ℕ → Bool) → (all_frozen : Bool) → HeapHead → Bool
 is_quiet_head in_range all_frozen head =
     not (is_old_form head) && is_xmin_committed head && (is_xmax_invalid head || is_locked_only head)

@@ -67,8 +67,8 @@ fn judge_normal<F: Transactions>(
     judge_tuple(files, table, tuple, tid, work)
 }
 
-// Adds a state.
-fn push_state(states: &mut Vec<ItemState>, state: ItemState) -> Result<(), NoMemory>
+/// Adds the state of the next item. It fails where memory is refused.
+pub fn push_state(states: &mut Vec<ItemState>, state: ItemState) -> Result<(), NoMemory>
     ensures states { OnOk result (states.new.items ≡ states.old.items ++ state ∷ []) }
     ensures more { length states.new.items ≤ length states.old.items + 1 }
 {

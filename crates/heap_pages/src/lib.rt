@@ -18,7 +18,7 @@ mod work;
 
 pub use alone::{judge_page, lone_pages_are_judged};
 pub use found::Found;
-pub use items::judge_items;
+pub use items::{judge_items, push_state};
 pub use laws::pages_are_judged;
 pub use page::{PageInHand, judge_table_page};
 pub use table::{TableKind, TableRules, ToastTable};

@@ -1,6 +1,6 @@
-//! Quiet pages of a heap, as most are: each item is unused, or a live tuple of which hint bits and its header alone tell
-//! that it breaks no rule, neither by itself nor with the other items. A look at each item tells such a page, and no
-//! state of an item is kept.
+//! Quiet pages of a heap, as most are: each item is unused, or a live tuple of which hint bits and its header alone
+//! tell that it breaks no rule, neither by itself nor with the other items. A look at each item tells such a page,
+//! and no state of an item is kept.
 ghost use Rattle.std.specs.Prelude.{◌≡◌, ◌-◌, ◌≤◌, [], ℕ, None, false, length, true};
 ghost use Rattle.std.specs.Bool.{OnTrue};
 ghost use Rattle.outside.specs.Outside.{Names};
@@ -87,7 +87,8 @@ impl Glance<'_> {
         requires normal { is_normal item.flag ≡ true }
         requires above { AreAbove (page_bytes self.page) (i - 1) lowest.old }
         ensures quiet { OnTrue result ((names : Names)
-            → IsQuietItem (table_seen names self.entry.table.now) self.entry.all_frozen (page_bytes self.entry.page) i) }
+            → IsQuietItem (table_seen names self.entry.table.now) self.entry.all_frozen
+            (page_bytes self.entry.page) i) }
         ensures above { OnTrue result (AreAbove (page_bytes self.entry.page) i lowest.new) }
     {
         if item.is_misplaced_heap_item(self.upper) {
@@ -114,7 +115,8 @@ impl Glance<'_> {
         requires last { i ≤ count_of (page_bytes self.page) }
         requires above { AreAbove (page_bytes self.page) (i - 1) lowest.old }
         ensures quiet { OnTrue result ((names : Names)
-            → IsQuietItem (table_seen names self.entry.table.now) self.entry.all_frozen (page_bytes self.entry.page) i) }
+            → IsQuietItem (table_seen names self.entry.table.now) self.entry.all_frozen
+            (page_bytes self.entry.page) i) }
         ensures above { OnTrue result (AreAbove (page_bytes self.entry.page) i lowest.new) }
     {
         let item = self.page.item(i);
@@ -147,7 +149,8 @@ impl Glance<'_> {
         requires page { HasItems (page_bytes self.page) }
         requires upper { self.upper ≡ upper_of (page_bytes self.page) }
         ensures { OnTrue result ((names : Names) (i : ℕ) → 1 ≤ i → i ≤ count_of (page_bytes self.entry.page)
-            → IsQuietItem (table_seen names self.entry.table.now) self.entry.all_frozen (page_bytes self.entry.page) i) }
+            → IsQuietItem (table_seen names self.entry.table.now) self.entry.all_frozen
+            (page_bytes self.entry.page) i) }
     {
         let mut lowest = PAGE_BYTES;
         for k in 0..self.page.item_count() {

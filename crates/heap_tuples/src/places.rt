@@ -33,7 +33,8 @@ pub fn tuple_in<'p>(page: PageView<'p>, pointer: LinePtr) -> Option<&'p [u8]>
         → is_misplaced_heap_item (upper_of (page_bytes page.entry)) pointer ≡ false
         → option_copied result ≡ Some (piece_of (page_bytes page.entry) pointer.off pointer.len) }
     ensures normal { IfSome result (λ tuple. is_normal pointer.flag ≡ true) }
-    ensures placed { IfSome result (λ tuple. is_misplaced_heap_item (upper_of (page_bytes page.entry)) pointer ≡ false) }
+    ensures placed { IfSome result (λ tuple.
+        is_misplaced_heap_item (upper_of (page_bytes page.entry)) pointer ≡ false) }
     ensures bytes { IfSome result (λ tuple. tuple.now ≡ piece_of (page_bytes page.entry) pointer.off pointer.len) }
     ensures long { IfSome result (λ tuple. 24 ≤ length tuple.now) }
     ensures len { IfSome result (λ tuple. length tuple.now ≡ pointer.len) }

@@ -1,10 +1,10 @@
 //! Runs in which one call on the files or on the sink fails, each call in turn.
-use crate::fixtures::{
-    CLEAN, CLUSTER, EXTERNAL, INT_COLUMN, Item, SUCCESSOR, TEXT_IN_TOAST, THREE_ROWS, Tuple,
-    UPDATED, case_files, chunk_page, page_of, run_words,
-};
-use crate::trees::{INDEX, IndexTuple, NINE, THREE, TWO_LEVELS, index_file, leaf};
 use outside::{MemFiles, MemSink, Part};
+use run_files::{
+    CLEAN, CLUSTER, EXTERNAL, INDEX, INT_COLUMN, IndexTuple, Item, NINE, SUCCESSOR, TEXT_IN_TOAST,
+    THREE, THREE_ROWS, TWO_LEVELS, Tuple, UPDATED, case_files, chunk_page, index_file, leaf,
+    page_of, run_words,
+};
 use std::alloc::Global;
 use std::process::Abort;
 use std::test::Fail;

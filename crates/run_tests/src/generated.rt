@@ -2,7 +2,7 @@
 ghost use Rattle.std.specs.Prelude.{◌≤◌, [], IfOk, None, false, length};
 ghost use Rattle.heap_files.specs.Files.{BelongTo, files_of};
 
-use crate::fixtures::{CLEAN, expect};
+use crate::expected::expect;
 use bt_levels::{TreeFile, check_tree};
 use case_file::Case;
 use heap_files::{HeapFiles, SoundHeap, check_heap};
@@ -10,6 +10,7 @@ use heap_indexed::{IndexedHeap, check_indexed};
 use outside::{Failed, FileName, Files, MemFiles, SureFiles};
 use rel_build::build_case;
 use reports::Report;
+use run_files::CLEAN;
 use std::alloc::Global;
 use std::process::Abort;
 use std::test::Fail;

@@ -1,13 +1,15 @@
 //! Runs of `heap` on small cases: each rule of a heap broken and kept, and each reason why a tuple can't be judged.
-use crate::fixtures::{
-    BOOL_AND_TEXT, CLUSTER, DEAD, EXTERNAL, INT_COLUMN, Item, LIVE, NOTHING, POINTER, SUCCESSOR,
-    TEXT_IN_TOAST, THREE_ROWS, Tuple, UNUSED, UPDATED, Want, case_files, chunk_page, expect,
-    expect_heap, found, in_doubt, normal, page_of, put, redirect, run_words,
-};
+use crate::expected::{expect, expect_heap};
 use outside::{MemFiles, MemSink, Part};
+use run_files::{
+    BOOL_AND_TEXT, CLUSTER, DEAD, EXTERNAL, INT_COLUMN, Item, LIVE, NOTHING, POINTER, SUCCESSOR,
+    TEXT_IN_TOAST, THREE_ROWS, Tuple, UNUSED, UPDATED, Want, case_files, chunk_page, found,
+    in_doubt, normal, page_of, redirect, run_words,
+};
 use std::alloc::Global;
 use std::process::Abort;
 use std::test::Fail;
+use test_files::put;
 
 // A heap of one page: its flags, its items, and bytes that are put over it; byte 24 of its map, 0 where there is
 // none; and its report.

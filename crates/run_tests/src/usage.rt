@@ -1,10 +1,10 @@
 //! Words, files and cases that are refused; single pages; and calls that fail.
-use crate::fixtures::{
-    CLEAN, CLUSTER, INT_COLUMN, Item, LIVE, NOTHING, Tuple, case_files, expect, expect_heap,
-    page_of, run_words,
-};
-use crate::trees::{THREE, index_file};
+use crate::expected::{expect, expect_heap};
 use outside::{MemFiles, MemSink, Part};
+use run_files::{
+    CLEAN, CLUSTER, INT_COLUMN, Item, LIVE, NOTHING, THREE, Tuple, case_files, index_file, page_of,
+    run_words,
+};
 use std::alloc::Global;
 use std::test::Fail;
 

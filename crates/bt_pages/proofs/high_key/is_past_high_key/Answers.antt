@@ -2,7 +2,7 @@ use Rattle.std.proofs.Common.{◌≡◌, ◌∙◌, ap, sym, true, false}
 use Rattle.page_layout.specs.View.{page_bytes}
 use Rattle.bt_tuples.specs.Shown.{item_shown}
 use Rattle.tree_image.specs.Image.{item_at, separator_in}
-use Rattle.bt_pages.specs.Questions.{is_plain}
+use Rattle.bt_pages.specs.Questions.{is_without_fault}
 use Rattle.bt_pages.proofs.Orders.{high_key-none}
 use Rattle.bt_pages.proofs.Plain.{at_spot, fits-separator, item-means, plain-unread}
 use Rattle.bt_pages.proofs.high_key.is_past_high_key.Goals as goal
@@ -12,7 +12,7 @@ returns-then-not-has_high_key c = sym (high_key-none c.args.specs.now c.args.mor
 
 pub returns-in-Err : goal.returns-in-Err
 returns-in-Err c =
-    let unread : is_plain c.args.specs.now c.args.more.now (page_bytes c.args.page) 1 ≡ false =
+    let unread : is_without_fault c.args.specs.now c.args.more.now (page_bytes c.args.page) 1 ≡ false =
     plain-unread c.args.specs.now c.args.more.now (page_bytes c.args.page) 1 _ c.requires.live
     (at_spot c.args.specs.now c.args.more.now (page_bytes c.args.page) 1 _ _ c.spot_of.ensures c.in-Err.ensures.outcome) in
     absurd (let both : true ≡ false = sym c.requires.plain ∙ unread in cc)

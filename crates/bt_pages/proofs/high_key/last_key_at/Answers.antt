@@ -3,7 +3,7 @@ use Rattle.page_layout.specs.View.{page_bytes}
 use Rattle.key_orders.specs.Keys.{IsKeySeparator}
 use Rattle.bt_tuples.specs.Keys.{last_key}
 use Rattle.tree_image.specs.Image.{item_at}
-use Rattle.bt_pages.specs.Questions.{is_plain}
+use Rattle.bt_pages.specs.Questions.{is_without_fault}
 use Rattle.bt_pages.proofs.Passing.{plain-each}
 use Rattle.bt_pages.proofs.Plain.{at_spot, fits-last, item-means, nothing-fits, plain-unread}
 use Rattle.bt_pages.proofs.high_key.last_key_at.Goals as goal
@@ -16,7 +16,7 @@ returns-then-i-eq0 c = record {
 
 pub returns-in-Err : goal.returns-in-Err
 returns-in-Err c =
-    let unread : is_plain c.args.specs.now c.args.more.now (page_bytes c.args.page) c.args.i ≡ false =
+    let unread : is_without_fault c.args.specs.now c.args.more.now (page_bytes c.args.page) c.args.i ≡ false =
     plain-unread c.args.specs.now c.args.more.now (page_bytes c.args.page) c.args.i _ c.requires.live
     (at_spot c.args.specs.now c.args.more.now (page_bytes c.args.page) c.args.i _ _ c.spot_of.ensures (sym c.in-Err.ensures.fault)) in
     absurd (let both : true ≡ false = sym (plain-each c.args.specs.now c.args.more.now (page_bytes c.args.page) c.args.i _ (omega (arith, c.if-i-eq0.false)) c.requires.last c.requires.plain) ∙ unread in cc)

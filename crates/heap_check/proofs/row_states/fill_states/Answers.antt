@@ -16,7 +16,7 @@ loop-k-init g c = record {
 pub loop-k-preserved : goal.loop-k-preserved
 loop-k-preserved g c =
     let before = c.loop-k.invariant in
-    let pushed = c.in_ok-push_state.ensures in
+    let pushed = c.in_ok-push_state.ensures.states in
     record {
       told = λ names told table same placed.
           next_upto table (page_bytes c.args.page) c.loop-k.states.items c.push_state.new.states.items c.in_ok-state.state c.loop-k.k before.count pushed

@@ -2,14 +2,14 @@ use Rattle.std.proofs.Common.{◌≤◌, ℕ, List, suc}
 use Rattle.outside.specs.Outside.{IfTold, Passed}
 use Rattle.bt_pages.specs.Trees.{tree_seen}
 use Rattle.bt_walks.specs.Budget.{TakesReads}
-use Rattle.bt_walks.specs.Downlinks.{IsReadable, Reads, TreeDownlink, turns_of}
+use Rattle.bt_walks.specs.Downlinks.{AreReadableDownlinks, Reads, TreeDownlink, turns_of}
 use Rattle.bt_walks.specs.Sets.{is_in}
 use Rattle.bt_walks.proofs.downlinks.Downlinks.settle.Given as goal
 
 -- the same downlinks are left
 abbrev pub invariant-loop-self : goal.invariant-loop-self
 invariant-loop-self g l = record {
-  readable : IsReadable l.tree.specs.now l.self;
+  readable : AreReadableDownlinks l.tree.specs.now l.self;
   reads : IfTold g.F.Files.seen l.fn.files (λ names. (level : ℕ) (left : List TreeDownlink)
       → Reads (tree_seen names l.tree) (is_in l.dead) (suc level) (turns_of l.fn.self) l.fn.self left
       → Reads (tree_seen names l.tree) (is_in l.dead) (suc level) (turns_of l.self) l.self left);

@@ -3,7 +3,7 @@ use Rattle.std.proofs.lemmas.Bool.{false≢true}
 use Rattle.rel_files.specs.Blocks.{block_of}
 use Rattle.rel_files.specs.Relation.{base_of, size_of}
 use Rattle.rel_files.specs.declared.relation.Relation.{Relation}
-use Rattle.heap_pages.specs.Table.{Table}
+use Rattle.heap_pages.specs.Table.{Table, toast_oid_seen}
 use Rattle.heap_files.specs.Files.{chunks_in, heap_in, toast_in}
 use Rattle.heap_files.proofs.CaseRules.{heap_rules_are}
 use Rattle.heap_check.specs.RowPages.{AreKnown}
@@ -35,7 +35,7 @@ returns-clause-left g c = λ names told.
     let rules = c.heap_rules-table.ensures in
     let below = heap_count case names c.args.self.now.next (heap_in heap) here.heap.files.heap c.requires.inside in
     let bytes = c.in_ok-take.ensures.bytes names told ∙ ap (λ (r : Relation). block_of names (base_of r) (size_of r) c.args.self.now.next) c.heap-2.ensures ∙ ap (λ (f : List ℕ). block_of names f (size_of (heap_in heap)) c.args.self.now.next) here.belong.heap.named ∙ ap (λ (n : ℕ). block_of names case.heap_file n c.args.self.now.next) here.belong.heap.sized in
-    let known = subst (λ (t : Table). AreKnown t c.args.self.now.next c.take.new.self) (heap_rules_are case names c.heap_rules-table.result rules.kind (rules.columns ∙ c.new-columns.ensures ∙ c.column_types.ensures) rules.toast (rules.logs ∙ here.logs)) (c.in_ok-take.ensures.known names told) in
+    let known = subst (λ (t : Table). AreKnown t c.args.self.now.next c.take.new.self) (heap_rules_are case names c.heap_rules-table.result rules.kind (rules.columns ∙ c.new-columns.ensures ∙ c.column_types.ensures) (ap toast_oid_seen rules.toast ∙ c.toast_table-toast.ensures.oid) (rules.logs ∙ here.logs)) (c.in_ok-take.ensures.known names told) in
     let load = loaded case names (toast_in heap) (chunks_in heap) c.take.new.self c.args.self.now.next here.quiet below here.belong.toast here.heap.chunks c.in_ok-take.ensures.block c.in_ok-take.ensures.done bytes known in
     let new : RowCursor = record { case = c.args.self.now.case; heap = c.args.self.now.heap; asked = c.args.self.now.asked; starts = c.args.self.now.starts; logs = c.args.self.now.logs; page = c.take.new.self; next = c.args.self.now.next + 1 } in
     unread_next names c.args.self.now new (c.requires.done names told) refl refl below load.rows
@@ -48,6 +48,6 @@ returns-clause-told g c = λ names told.
     let rules = c.heap_rules-table.ensures in
     let below = heap_count case names c.args.self.now.next (heap_in heap) here.heap.files.heap c.requires.inside in
     let bytes = c.in_ok-take.ensures.bytes names told ∙ ap (λ (r : Relation). block_of names (base_of r) (size_of r) c.args.self.now.next) c.heap-2.ensures ∙ ap (λ (f : List ℕ). block_of names f (size_of (heap_in heap)) c.args.self.now.next) here.belong.heap.named ∙ ap (λ (n : ℕ). block_of names case.heap_file n c.args.self.now.next) here.belong.heap.sized in
-    let known = subst (λ (t : Table). AreKnown t c.args.self.now.next c.take.new.self) (heap_rules_are case names c.heap_rules-table.result rules.kind (rules.columns ∙ c.new-columns.ensures ∙ c.column_types.ensures) rules.toast (rules.logs ∙ here.logs)) (c.in_ok-take.ensures.known names told) in
+    let known = subst (λ (t : Table). AreKnown t c.args.self.now.next c.take.new.self) (heap_rules_are case names c.heap_rules-table.result rules.kind (rules.columns ∙ c.new-columns.ensures ∙ c.column_types.ensures) (ap toast_oid_seen rules.toast ∙ c.toast_table-toast.ensures.oid) (rules.logs ∙ here.logs)) (c.in_ok-take.ensures.known names told) in
     let load = loaded case names (toast_in heap) (chunks_in heap) c.take.new.self c.args.self.now.next here.quiet below here.belong.toast here.heap.chunks c.in_ok-take.ensures.block c.in_ok-take.ensures.done bytes known in
     moved names c.args.self.now c.take.new.self (c.args.self.now.next + 1) here c.take.ensures.few load.hand (λ yes. absurd (false≢true (sym c.take.ensures.found ∙ yes)))
