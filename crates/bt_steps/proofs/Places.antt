@@ -38,7 +38,7 @@ module _ {X : Type 0} (g : ℕ → List X) (f : ℕ) where
   abbrev upto : ℕ → List X
   upto n = flat_map g (numbers_from f n)
 
-  upto-two : (m n : ℕ) → upto (m + n) ≡ upto m ++ flat_map g (numbers_from (f + m) n)
+  pub upto-two : (m n : ℕ) → upto (m + n) ≡ upto m ++ flat_map g (numbers_from (f + m) n)
   upto-two m n = ap (flat_map g) (numbers-two f m n) ∙ flat_map-append g (numbers_from f m) (numbers_from (f + m) n)
 
   -- one item more

@@ -7,14 +7,55 @@ ghost use Rattle.page_layout.specs.View.{page_bytes};
 ghost use Rattle.key_orders.specs.Types.{HasAlignment};
 ghost use Rattle.varlena_attrs.specs.Keyed.{key_types};
 ghost use Rattle.bt_tuples.specs.Items.{Plain, is_dead, item_outcome, tuple_outcome};
-ghost use Rattle.bt_tuples.specs.Plain.{HasPrefix, IsPlainEntry};
+ghost use Rattle.bt_tuples.specs.Plain.{HasPrefix, IsPlainEntry, IsPlainTuple, LiesPlain};
 
 use crate::heads::body_of;
-use crate::items::Spot3;
+use crate::items::{Spot3, plain_tid};
 use crate::tuples::plain_head;
 use key_orders::{KeyRefs, KeySpec, Tid, key_prefix};
-use page_layout::{PageKind, PageView};
+use page_layout::{LineFlag, PageKind, PageView};
 use varlena_attrs::{has_plain_key, plain_first_value};
+
+/// One entry of a leaf, as its bytes lie: a plain tuple without null bits.
+#[derive(Clone, Copy)]
+pub struct PlainEntry<'p> {
+    pub tid: Tid,
+    /// What stands in the tuple behind its head: the values of the key, and included ones.
+    pub body: &'p [u8],
+    /// Whether its line pointer is dead.
+    pub killed: bool,
+}
+
+// The TID and the body of a plain tuple without null bits.
+#[inline(always)]
+fn plain_parts<'p>(tuple: &'p [u8], killed: bool) -> Option<PlainEntry<'p>>
+    requires long { 8 ≤ length tuple.now }
+    ensures { IfSome result (λ e. IsPlainTuple tuple.now e.tid e.body.now × (e.killed ≡ killed)) }
+{
+    let head = plain_head(tuple)?;
+    Some(PlainEntry {
+        tid: plain_tid(head),
+        body: body_of(tuple, head),
+        killed,
+    })
+}
+
+/// Item i of a leaf, counted from 1, where it is one entry without null bits; `None` says nothing.
+#[inline(always)]
+pub fn plain_entry<'p>(page: PageView<'p>, i: u16) -> Option<PlainEntry<'p>>
+    requires page { page_rule_of PageKind.Tree (page_bytes page) ≡ None }
+    requires first { 1 ≤ i }
+    requires last { i ≤ count_of (page_bytes page) }
+    ensures { IfSome result (λ e. LiesPlain (page_bytes page.entry) i e.tid e.body.now
+        × (e.killed ≡ is_dead (item_of (page_bytes page.entry) i).flag)) }
+{
+    let at = page.item(i);
+    if at.is_misplaced_tree_item(page.upper()) {
+        return None;
+    }
+    let killed = matches!(at.flag, LineFlag::Dead);
+    plain_parts(page.piece(at.off, at.len), killed)
+}
 
 // Whether a tuple of a leaf is a plain one without null bits, with the values of this key and with this TID.
 #[inline(always)]

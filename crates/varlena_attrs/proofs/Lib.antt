@@ -7,5 +7,6 @@ pub mod First
 pub mod Ends
 pub mod Keying
 pub mod PlainKeys
+pub mod StoredKeys
 pub mod KeyAttributes
 pub mod InTurn

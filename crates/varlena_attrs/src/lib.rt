@@ -29,4 +29,4 @@ pub use keyed::{
 pub use places::{Attr, AttrPlace, ToastPointer, pointer_at};
 pub use plain::PlainPiece;
 pub use reading::{Attrs, attributes, attributes_are_unique};
-pub use same::{has_plain_key, plain_first_value};
+pub use same::{has_plain_key, has_stored_key, plain_first_value};

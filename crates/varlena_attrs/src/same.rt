@@ -3,12 +3,14 @@ ghost use Rattle.std.specs.Prelude.{◌≡◌, ◌≤◌, Ok, None, IfSome, leng
 ghost use Rattle.std.specs.Bool.{OnTrue};
 ghost use Rattle.key_orders.specs.Types.{HasAlignment};
 ghost use Rattle.key_orders.specs.Values.{value_shown};
+ghost use Rattle.stored_keys.specs.Stored.{values_read};
 ghost use Rattle.varlena_attrs.specs.Keyed.{key_types, key_values};
 ghost use Rattle.varlena_attrs.specs.FirstValues.{BeginsPlainKey};
 
 use crate::keyed::value_at;
 use crate::plain::plain_piece;
 use key_orders::{KeyRefs, KeySpec, ValueRef};
+use stored_keys::after_value;
 
 // Whether two values are the same.
 #[inline(always)]
@@ -48,6 +50,33 @@ pub fn has_plain_key(specs: &[KeySpec], body: &[u8], key: &KeyRefs<'_>) -> bool
         if !is_same(value_at(ctype, body, found.place), values[k]) {
             return false;
         }
+        place = found.next;
+    }
+    true
+}
+
+/// Whether an index tuple without null bits, which has this body, has as its first values those that are stored at the
+/// beginning of these bytes, where each of them is found by the least that tells it: a value of a fixed length, or a
+/// varlena with a header of one byte. `false` says nothing.
+#[inline]
+pub fn has_stored_key(specs: &[KeySpec], body: &[u8], stored: &[u8]) -> bool
+    requires few { length specs.now ≤ 8 }
+    requires aligned { All HasAlignment (key_types specs.now) }
+    ensures { OnTrue result
+        (key_values (key_types specs.now) body.now None ≡ Ok (values_read (length specs.now) stored.now)) }
+{
+    let mut place = 0;
+    let mut left = stored;
+    for k in 0..specs.len() {
+        let ctype = specs[k].ctype;
+        let Some(piece) = plain_piece(ctype, body, place) else {
+            return false;
+        };
+        let found = piece.found();
+        let Some(rest) = after_value(left, value_at(ctype, body, found.place)) else {
+            return false;
+        };
+        left = rest;
         place = found.next;
     }
     true

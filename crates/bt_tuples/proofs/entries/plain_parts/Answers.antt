@@ -1,0 +1,23 @@
+use Rattle.std.proofs.Common.{◌≡◌, ◌∙◌, ap, refl, subst, sym, List, ℕ}
+use Rattle.std.specs.Prelude.{None, Ok}
+use Rattle.varlena_attrs.specs.Keyed.{key_types, key_values}
+use Rattle.bt_meta.specs.declared.records.TreeHead.{TreeHead}
+use Rattle.bt_tuples.specs.Tuples.{plain_tid}
+use Rattle.bt_tuples.proofs.Plain.{outcome}
+use Rattle.bt_tuples.proofs.entries.plain_parts.Goals as goal
+
+pub returns : goal.returns
+returns c =
+    let tuple = c.args.tuple.now in
+    let head : TreeHead = c.in_ok-head.head in
+    let h = c.in_ok-head.ensures in (
+      record {
+        kind = ap (λ (t : TreeHead). t.kind) (sym h.is) ∙ h.kind;
+        tid_is = c.plain_tid.ensures ∙ ap plain_tid h.is;
+        told = λ specs key killed told count.
+            outcome specs tuple head h c.requires.long key
+            (subst (λ (body : List ℕ). key_values (key_types specs) body None ≡ Ok key) c.body_of.ensures told) killed c.plain_tid.result count
+            (ap plain_tid (sym h.is) ∙ sym c.plain_tid.ensures);
+      },
+      refl,
+    )

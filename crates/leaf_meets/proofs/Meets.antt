@@ -1,0 +1,84 @@
+-- Entries after others, and none.
+use Rattle.std.proofs.Common.{◌≡◌, ◌∙◌, ℕ, zero, suc, ◌+◌, List, [], ◌∷◌, ◌++◌, Bool, true, false, refl, ap, arith, sym, take}
+use Rattle.std.specs.Prelude.{cond, filter, if◌then◌else◌, map, Option, Some, None, slice_get}
+use Rattle.tree_search.specs.Keys.{Entry}
+use Rattle.key_orders.specs.declared.columns.Value.{Value}
+use Rattle.key_orders.specs.declared.Tid.{Tid}
+use Rattle.bt_tuples.specs.Items.{Posting}
+use Rattle.tree_image.specs.Image.{keys_in as entries_in}
+use Rattle.key_orders.specs.declared.columns.KeySpec.{KeySpec}
+use Rattle.tree_image.specs.Image.{page_keys}
+use Rattle.bt_steps.specs.Pages.{is_live_leaf}
+use Rattle.bt_steps.proofs.Items.{entry_with}
+use Rattle.row_slots.specs.Met.{Keyed, Keys, Mets, keyed, met_after, met_by}
+use Rattle.row_slots.specs.Slots.{SameRange, Tables, keys_in, met_in}
+use Rattle.leaf_meets.specs.Meeting.{HaveMet, alive_in, is_alive, keyed_entry, leaf_keys}
+
+pub alive-append : (xs ys : List (Entry Value Tid)) → alive_in (xs ++ ys) ≡ alive_in xs ++ alive_in ys
+alive-append [] ys = refl
+alive-append (e ∷ xs) ys = by (is_alive e) (alive-append xs ys)
+  where
+    by : (alive : Bool) → alive_in (xs ++ ys) ≡ alive_in xs ++ alive_in ys → map keyed_entry (cond alive (e ∷ filter is_alive (xs ++ ys)) (filter is_alive (xs ++ ys))) ≡ map keyed_entry (cond alive (e ∷ filter is_alive xs) (filter is_alive xs)) ++ alive_in ys
+    by true rest = ap (λ (l : List Keyed). keyed_entry e ∷ l) rest
+    by false rest = rest
+
+pub met-append : (keys : Keys) (xs ys : List Keyed) (met : Mets) → met_after keys (xs ++ ys) met ≡ met_after keys ys (met_after keys xs met)
+met-append keys [] ys met = refl
+met-append keys (x ∷ xs) ys met = met-append keys xs ys (met_by keys met x)
+
+pub none : (t : Tables) → HaveMet [] t t
+none t = record { met = refl; keys = refl; range = record { first = refl; blocks = refl; has = refl } }
+
+pub met-then : (xs ys : List (Entry Value Tid)) (a b c : Tables) → HaveMet xs a b → HaveMet ys b c → HaveMet (xs ++ ys) a c
+met-then xs ys a b c h g = record {
+  met =
+      g.met
+      ∙ (λ i. met_after (h.keys i) (alive_in ys) (h.met i))
+      ∙ sym (met-append (keys_in a) (alive_in xs) (alive_in ys) (met_in a))
+      ∙ ap (λ (l : List Keyed). met_after (keys_in a) l (met_in a)) (sym (alive-append xs ys));
+  keys = g.keys ∙ h.keys;
+  range = record { first = g.range.first ∙ h.range.first; blocks = g.range.blocks ∙ h.range.blocks; has = g.range.has ∙ h.range.has };
+}
+
+-- the same entries by another list
+pub same : (xs ys : List (Entry Value Tid)) (a b : Tables) → xs ≡ ys → HaveMet xs a b → HaveMet ys a b
+same xs ys a b is h = record { met = h.met ∙ ap (λ (l : List (Entry Value Tid)). met_after (keys_in a) (alive_in l) (met_in a)) is; keys = h.keys; range = h.range }
+
+-- one entry that isn't killed, and one that is
+pub one : (key : List Value) (tid : Tid) (a b : Tables) → met_in b ≡ met_by (keys_in a) (met_in a) (keyed tid key) → keys_in b ≡ keys_in a → SameRange a b → HaveMet (entry_with key false tid ∷ []) a b
+one key tid a b met keys range = record { met = met; keys = keys; range = range }
+
+pub killed-one : (key : List Value) (tid : Tid) (a : Tables) → HaveMet (entry_with key true tid ∷ []) a a
+killed-one key tid a = record { met = refl; keys = refl; range = record { first = refl; blocks = refl; has = refl } }
+
+killed-none : (key : List Value) (tids : List Tid) → alive_in (entries_in (Posting key tids true)) ≡ []
+killed-none key [] = refl
+killed-none key (t ∷ ts) = killed-none key ts
+
+pub killed-list : (key : List Value) (tids : List Tid) (a : Tables) → HaveMet (entries_in (Posting key tids true)) a a
+killed-list key tids a = record {
+  met = ap (λ (l : List Keyed). met_after (keys_in a) l (met_in a)) (sym (killed-none key tids));
+  keys = refl;
+  range = record { first = refl; blocks = refl; has = refl };
+}
+
+-- a list with one more
+abbrev as_entry : Entry Value Tid → Option (Entry Value Tid) → Entry Value Tid
+as_entry d (Some e) = e
+as_entry d None = d
+
+pub taken : (es : List (Entry Value Tid)) (k : ℕ) (e : Entry Value Tid) → slice_get es k ≡ Some e → take (k + 1) es ≡ take k es ++ e ∷ []
+taken [] k e is = absurd cc
+taken (x ∷ xs) zero e is = ap (λ (o : Option (Entry Value Tid)). as_entry x o ∷ []) is
+taken (x ∷ xs) (suc k) e is =
+    let n : suc k + 1 ≡ suc (k + 1) = omega arith in
+    ap (λ (m : ℕ). take m (x ∷ xs)) n ∙ ap (λ (l : List (Entry Value Tid)). x ∷ l) (taken xs k e is)
+
+-- a page that is no leaf in use has none, and one that is those of its items
+pub no-leaf : (specs : List KeySpec) (page : List ℕ) → is_live_leaf page ≡ false → leaf_keys specs page ≡ []
+unfolding leaf_keys
+no-leaf specs page none = ap (λ (live : Bool). if live then page_keys specs [] page else []) none
+
+pub a-leaf : (specs : List KeySpec) (page : List ℕ) → is_live_leaf page ≡ true → leaf_keys specs page ≡ page_keys specs [] page
+unfolding leaf_keys
+a-leaf specs page live = ap (λ (l : Bool). if l then page_keys specs [] page else []) live

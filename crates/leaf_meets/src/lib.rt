@@ -1,0 +1,6 @@
+//! The entries of the leaves of an index, each of which meets the row that it names, if that has its key.
+#![tactic(auto)]
+
+mod meet;
+
+pub use meet::meet_page;

@@ -1,0 +1,160 @@
+-- A key that is put behind the others.
+use Rattle.std.proofs.Common.{◌≡◌, ◌∙◌, ℕ, ◌+◌, ◌-◌, ◌<◌, ◌≤◌, Bool, true, false, List, [], ◌++◌, length, get_or, drop, take, refl, ap, sym, subst, arith, inl, inr, append_assoc, append-nil}
+use Rattle.std.proofs.Common.{get_or-set_other, get_or-set_same}
+use Rattle.std.specs.Prelude.{All, cond, Some, None, slice_set}
+use Rattle.std.proofs.lemmas.Bool.{cases_eq, eq-eqb, ne_eqb}
+use Rattle.std.proofs.lemmas.List.{drop_all, length-set, take_all}
+use Rattle.std.proofs.Math.Seq.{drop-append_seam}
+use Rattle.key_orders.specs.declared.Tid.{Tid}
+use Rattle.key_orders.specs.declared.columns.Value.{Value}
+use Rattle.stored_keys.specs.Stored.{IsStorable, key_read, stored_key}
+use Rattle.stored_keys.proofs.StoredLaws.{key_back}
+use Rattle.row_slots.specs.Met.{same_tid}
+use Rattle.row_slots.specs.Slots.{AreBits, AreKept, AreStarts, LiesAt, found_slot, is_within, key_of, keys_of, keys_with, slot_of}
+use Rattle.row_slots.proofs.SlotLaws.{Within, found_below, found_some, is_within_tells, slot_test, tid_is}
+
+abbrev as_number : Bool → ℕ
+as_number true = 1
+as_number false = 0
+
+read_there : (arena : List ℕ) (at : ℕ) (lies : LiesAt arena at) → key_read (drop at arena) ≡ lies.key
+read_there arena at lies =
+    (λ i. key_read (drop (sym lies.at_is i) (lies.bytes i)))
+    ∙ (ap key_read (drop-append_seam lies.before (stored_key lies.key ++ lies.rest)) ∙ key_back lies.key lies.rest lies.few lies.storable)
+
+key_of_some : (arena : List ℕ) (r : ℕ) (lies : LiesAt arena r) → key_of arena (r + 1) ≡ Some lies.key
+unfolding key_of
+key_of_some arena r lies =
+    let back : r + 1 - 1 ≡ r = omega arith in
+    ap (λ b. cond b None (Some (key_read (drop (r + 1 - 1) arena)))) (ne_eqb (r + 1) 0 (λ e. omega arith))
+    ∙ (ap (λ k. Some (key_read (drop k arena))) back ∙ ap (λ k. Some k) (read_there arena r lies))
+
+abbrev lies_more : (arena more : List ℕ) (at : ℕ) → LiesAt arena at → LiesAt (arena ++ more) at
+lies_more arena more at lies = record {
+  before = lies.before;
+  key = lies.key;
+  rest = lies.rest ++ more;
+  few = lies.few;
+  storable = lies.storable;
+  at_is = lies.at_is;
+  bytes =
+      ap (λ w. w ++ more) lies.bytes
+      ∙ (append_assoc lies.before (stored_key lies.key ++ lies.rest) more
+      ∙ ap (λ w. lies.before ++ w) (append_assoc (stored_key lies.key) lies.rest more));
+}
+
+abbrev lies_last : (arena : List ℕ) (key : List Value) → length key ≤ 8 → All IsStorable key → LiesAt (arena ++ stored_key key) (length arena)
+lies_last arena key few storable = record {
+  before = arena;
+  key = key;
+  rest = [];
+  few = few;
+  storable = storable;
+  at_is = refl;
+  bytes = ap (λ w. arena ++ w) (sym (append-nil (stored_key key)));
+}
+
+none_more : (arena more : List ℕ) → key_of (arena ++ more) 0 ≡ key_of arena 0
+unfolding key_of
+none_more arena more = refl
+
+-- what was kept
+still : (records arena more : List ℕ) (k : ℕ) → AreKept records arena → key_of (arena ++ more) (get_or records k 0) ≡ key_of arena (get_or records k 0)
+unfolding AreKept
+still records arena more k kept = elim (cases_eq (get_or records k 0) 0) [
+  | inl none ↦ (λ i. key_of (arena ++ more) (none i)) ∙ (none_more arena more ∙ (λ i. key_of arena (sym none i)))
+  | inr some ↦
+      let r : ℕ = get_or records k 0 - 1 in
+      let e : get_or records k 0 ≡ r + 1 = omega arith in
+      let lies : LiesAt arena r = kept k r e in
+      (λ i. key_of (arena ++ more) (e i))
+      ∙ (key_of_some (arena ++ more) r (lies_more arena more r lies) ∙ (sym (key_of_some arena r lies) ∙ (λ i. key_of arena (sym e i))))
+]
+
+pub kept_more : (records arena : List ℕ) (key : List Value) (slot at : ℕ) → slot < length records → at ≡ length arena → length key ≤ 8 → All IsStorable key
+    → AreKept records arena → AreKept (slice_set records slot (at + 1)) (arena ++ stored_key key)
+unfolding AreKept
+kept_more records arena key slot at within at_is few storable kept = λ k r e. elim (cases_eq k slot) [
+  | inl same ↦
+      let here : get_or (slice_set records slot (at + 1)) k 0 ≡ at + 1 = ap (λ j. get_or (slice_set records slot (at + 1)) j 0) same ∙ get_or-set_same records slot (at + 1) 0 within in
+      let there : length arena ≡ r = omega arith in
+      subst (LiesAt (arena ++ stored_key key)) there (lies_last arena key few storable)
+  | inr other ↦ lies_more arena (stored_key key) r (kept k r (sym (get_or-set_other records slot k (at + 1) 0 other) ∙ e))
+]
+
+pub keys_more : (first : ℕ) (starts records arena : List ℕ) (tid : Tid) (key : List Value) (slot at : ℕ)
+    → AreStarts starts records → AreKept records arena → Some slot ≡ found_slot first starts tid → at ≡ length arena → length key ≤ 8 → All IsStorable key
+    → keys_of first starts (slice_set records slot (at + 1)) (arena ++ stored_key key) ≡ keys_with (keys_of first starts records arena) tid key
+unfolding keys_of
+keys_more first starts records arena tid key slot at are kept e at_is few storable = λ i t. by t (is_within first starts t) refl i
+  where
+    new : List ℕ
+    new = slice_set records slot (at + 1)
+
+    more : List ℕ
+    more = arena ++ stored_key key
+
+    fact : (is_within first starts tid ≡ true) × (slot ≡ slot_of first starts tid)
+    fact = found_some first starts tid slot e
+
+    here : Within first starts tid
+    here = is_within_tells first starts tid fact.0
+
+    misses : (t : Tid) → is_within first starts t ≡ false → same_tid t tid ≡ false
+    misses t out = at_test (same_tid t tid) refl
+      where
+        at_test : (b : Bool) → same_tid t tid ≡ b → same_tid t tid ≡ false
+        at_test false h = h
+        at_test true h = h ∙ (sym fact.0 ∙ (ap (is_within first starts) (sym (tid_is t tid h)) ∙ out))
+
+    value : key_of more (get_or new slot 0) ≡ Some key
+    value =
+        (λ i. key_of more ((get_or-set_same records slot (at + 1) 0 (found_below first starts records tid slot are e) ∙ ap (λ n. n + 1) at_is) i))
+        ∙ key_of_some more (length arena) (lies_last arena key few storable)
+
+    differs : (t : Tid) → Within first starts t → same_tid t tid ≡ false → slot_of first starts t ≡ slot → ⊥
+    differs t w h same =
+        let it = sym (eq-eqb (slot_of first starts t) (slot_of first starts tid) (same ∙ fact.1)) ∙ (slot_test first starts records t tid are w here ∙ h) in
+        absurd (omega (arith, ap as_number it))
+
+    inside : (t : Tid) → Within first starts t → (b : Bool) → same_tid t tid ≡ b
+        → key_of more (get_or new (slot_of first starts t) 0) ≡ cond (same_tid t tid) (Some key) (key_of arena (get_or records (slot_of first starts t) 0))
+    inside t w true h =
+        (λ i. key_of more (get_or new ((ap (slot_of first starts) (tid_is t tid h) ∙ sym fact.1) i) 0))
+        ∙ (value ∙ sym (λ i. cond (h i) (Some key) (key_of arena (get_or records (slot_of first starts t) 0))))
+    inside t w false h =
+        (λ i. key_of more (get_or-set_other records slot (slot_of first starts t) (at + 1) 0 (differs t w h) i))
+        ∙ (still records arena (stored_key key) (slot_of first starts t) kept
+        ∙ sym (λ i. cond (h i) (Some key) (key_of arena (get_or records (slot_of first starts t) 0))))
+
+    by : (t : Tid) (b : Bool) → is_within first starts t ≡ b
+        → cond (is_within first starts t) (key_of more (get_or new (slot_of first starts t) 0)) None
+        ≡ cond (same_tid t tid) (Some key) (cond (is_within first starts t) (key_of arena (get_or records (slot_of first starts t) 0)) None)
+    by t true w =
+        (λ i. cond (w i) (key_of more (get_or new (slot_of first starts t) 0)) None)
+        ∙ (inside t (is_within_tells first starts t w) (same_tid t tid) refl
+        ∙ sym (λ i. cond (same_tid t tid) (Some key) (cond (w i) (key_of arena (get_or records (slot_of first starts t) 0)) None)))
+    by t false w =
+        (λ i. cond (w i) (key_of more (get_or new (slot_of first starts t) 0)) None)
+        ∙ (sym (λ i. cond (misses t w i) (Some key) None)
+        ∙ sym (λ i. cond (same_tid t tid) (Some key) (cond (w i) (key_of arena (get_or records (slot_of first starts t) 0)) None)))
+
+-- A slot that is set
+
+-- what is written back in place is the whole
+pub as_whole : (new old : List ℕ) (n slot r : ℕ) → new ≡ slice_set old slot r → n ≡ length old → take n (new ++ drop (length new) old) ≡ slice_set old slot r
+as_whole new old n slot r is count =
+    let same : length new ≡ length old = ap length is ∙ length-set old slot r in
+    ap (λ (xs : List ℕ). take n (new ++ xs)) (drop_all (length new) old (omega (arith, same)))
+    ∙ ap (take n) (append-nil new)
+    ∙ take_all n new (omega (arith, same, count))
+    ∙ is
+
+pub starts_set : (starts records : List ℕ) (slot r : ℕ) → AreStarts starts records → AreStarts starts (slice_set records slot r)
+starts_set starts records slot r are = record { begun = are.begun; ordered = are.ordered; end = are.end ∙ sym (length-set records slot r) }
+
+pub bits_set : (records bits : List ℕ) (slot r : ℕ) → AreBits records bits → AreBits (slice_set records slot r) bits
+bits_set records bits slot r are = record {
+  room = omega (arith, are.room, length-set records slot r);
+  clear = λ p past. are.clear p (omega (arith, past, length-set records slot r));
+}

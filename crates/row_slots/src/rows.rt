@@ -1,0 +1,192 @@
+//! The slots of a range of heap blocks.
+ghost use Rattle.std.specs.Prelude.{◌≡◌, ◌≤◌, All, List, None, Ok, Some, false, length, true, IfOk, IfSome, OnErr, OnOk};
+ghost use Rattle.std.specs.Bool.{OnFalse, OnTrue};
+ghost use Rattle.key_orders.specs.Types.{HasAlignment};
+ghost use Rattle.key_orders.specs.declared.columns.Value.{Value as Shown};
+ghost use Rattle.varlena_attrs.specs.Keyed.{key_types};
+ghost use Rattle.row_slots.specs.Met.{keyed, met_by};
+ghost use Rattle.row_slots.specs.Slots.{AreAllMet, HasBlock, IsBegun, SameRange, keys_in, keys_with, met_in};
+ghost use Rattle.row_slots.specs.Told.{TellsKey};
+
+use crate::bits::are_all_set;
+use crate::blocks::add_block_in;
+use crate::slots::{Kept, find, is_kept_in, is_met_in, meet_in, meet_plain_in, put_at};
+use key_orders::{KeyRefs, KeySpec, Tid};
+use outside::NoMemory;
+use std::alloc::Global;
+use std::marker::Model;
+
+/// The rows of a range of heap blocks, each by the line pointer at which it is rooted, with its key and with whether an
+/// entry met it. Contracts see functions of a TID, and the blocks of the range.
+#[derive(Drop)]
+pub struct RowSlots {
+    first: u32,
+    // For each block its first slot, and last the end of the last block.
+    starts: Vec<u32>,
+    // For each slot 0, or one more than the place of the key of the row that is rooted there.
+    records: Vec<u32>,
+    // The keys.
+    arena: Vec<u8>,
+    // A bit for each slot, 1 where its row was met.
+    bits: Vec<u8>,
+    // What was read ahead, which means nothing.
+    touched: u8,
+}
+
+impl Model for RowSlots {
+    ghost use Rattle.row_slots.specs.Slots.{AreBits, AreKept, AreStarts, Tables};
+
+    ghost Value = { Tables };
+
+    ghost view = { λ r. record {
+      first = r.first;
+      starts = r.starts.items;
+      records = r.records.items;
+      arena = r.arena.items;
+      bits = r.bits.items;
+    } };
+
+    ghost invariant = { λ r. AreStarts r.starts.items r.records.items × AreBits r.records.items r.bits.items
+        × AreKept r.records.items r.arena.items };
+}
+
+impl RowSlots {
+    /// No blocks yet; the first that is added is this one. A further range takes new slots.
+    pub fn new(alloc: Global, first: u32) -> Result<RowSlots, NoMemory>
+        ensures { IfOk result (λ slots. IsBegun first slots) }
+    {
+        let mut starts = Vec::new(alloc);
+        starts.push(0)?;
+        Ok(RowSlots {
+            first,
+            starts,
+            records: Vec::new(alloc),
+            arena: Vec::new(alloc),
+            bits: Vec::new(alloc),
+            touched: 0,
+        })
+    }
+
+    /// Forgets the rows and blocks; the first block that is added then is this one.
+    pub fn begin(&mut self, first: u32)
+        ensures { IsBegun first self.new }
+    {
+        self.first = first;
+        self.starts.truncate(1);
+        self.records.clear();
+        self.arena.clear();
+        self.bits.clear();
+        self.starts[0] = 0;
+    }
+
+    /// How many bytes are in use.
+    pub fn bytes(&self) -> usize {
+        let slots = self.records.len().saturating_add(self.starts.len());
+        self.arena.len().saturating_add(slots.saturating_mul(4))
+    }
+
+    /// Adds the line pointers of the next block, from item 1 on. After `NoMemory` the slots are as they were.
+    pub fn add_block(&mut self, items: u16) -> Result<(), NoMemory>
+        ensures ok { OnOk result (HasBlock self.old items self.new) }
+        ensures range { OnErr result (SameRange self.old self.new) }
+        ensures keys { OnErr result (keys_in self.new ≡ keys_in self.old) }
+        ensures met { OnErr result (met_in self.new ≡ met_in self.old) }
+    {
+        add_block_in(&mut self.starts, &mut self.records, &mut self.bits, items)?;
+        Ok(())
+    }
+
+    /// Keeps the key of the row that is rooted at a line pointer; `false` where the range has no such line pointer, or
+    /// a row is kept there already, and then nothing changes. After `NoMemory` all is as it was.
+    pub fn put(&mut self, tid: Tid, key: &KeyRefs<'_>) -> Result<bool, NoMemory>
+        ensures kept { IfOk result (λ kept. kept ≡ true → keys_in self.new ≡ keys_with (keys_in self.old) tid key.now) }
+        ensures fresh { IfOk result (λ kept. kept ≡ true → keys_in self.old tid ≡ None) }
+        ensures full { IfOk result (λ kept. kept ≡ false → keys_in self.new ≡ keys_in self.old) }
+        ensures err { OnErr result (keys_in self.new ≡ keys_in self.old) }
+        ensures met { met_in self.new ≡ met_in self.old }
+        ensures range { SameRange self.old self.new }
+    {
+        let Some(slot) = find(self.first, &self.starts, tid) else {
+            return Ok(false);
+        };
+        if self.records[slot] != 0 {
+            return Ok(false);
+        }
+        put_at(slot, &mut self.records, &mut self.arena, key)?;
+        Ok(true)
+    }
+
+    /// Reads what a look for the row that is rooted at a line pointer will read, so that it is at hand then.
+    #[inline]
+    pub fn touch(&mut self, tid: Tid)
+        ensures { self.new ≡ self.old }
+    {
+        if let Some(slot) = find(self.first, &self.starts, tid) {
+            if let Some(place) = self.records.get(slot) {
+                if let Some(byte) = self.arena.get(*place as usize) {
+                    self.touched ^= *byte;
+                }
+            }
+        }
+    }
+
+    /// Meets the row that is rooted at a line pointer, if there is one and its values are these: numbers that are
+    /// equal, and bytes of the same length and content. All else stays.
+    pub fn meet(&mut self, tid: Tid, key: &KeyRefs<'_>)
+        ensures met { met_in self.new ≡ met_by (keys_in self.old) (met_in self.old) (keyed tid key.now) }
+        ensures keys { keys_in self.new ≡ keys_in self.old }
+        ensures range { SameRange self.old self.new }
+    {
+        let kept = Kept {
+            first: self.first,
+            starts: &self.starts,
+            records: &self.records,
+            arena: &self.arena,
+        };
+        meet_in(kept, &mut self.bits, tid, key);
+    }
+
+    /// Does the same for the key of an index tuple without null bits, which has this body, where its bytes tell as they
+    /// lie whether it is the row's. `false` says that they don't, and then nothing changes.
+    #[inline]
+    pub fn meet_plain(&mut self, tid: Tid, specs: &[KeySpec], body: &[u8]) -> bool
+        requires few { length specs.now ≤ 8 }
+        requires aligned { All HasAlignment (key_types specs.now) }
+        ensures met { OnTrue result ((key : List Shown) → TellsKey specs.now body.now key
+            → met_in self.new ≡ met_by (keys_in self.old) (met_in self.old) (keyed tid key)) }
+        ensures same { OnFalse result (met_in self.new ≡ met_in self.old) }
+        ensures keys { keys_in self.new ≡ keys_in self.old }
+        ensures range { SameRange self.old self.new }
+    {
+        let kept = Kept {
+            first: self.first,
+            starts: &self.starts,
+            records: &self.records,
+            arena: &self.arena,
+        };
+        meet_plain_in(kept, &mut self.bits, tid, specs, body)
+    }
+
+    /// Whether the row that is rooted at a line pointer and has this key was met; `None` where no such row is kept.
+    pub fn is_met(&self, tid: Tid, key: &KeyRefs<'_>) -> Option<bool>
+        ensures { IfSome result (λ met. (keys_in self.now tid ≡ Some key.now) × (met ≡ met_in self.now tid)) }
+    {
+        let kept = Kept {
+            first: self.first,
+            starts: &self.starts,
+            records: &self.records,
+            arena: &self.arena,
+        };
+        if !is_kept_in(kept, tid, key) {
+            return None;
+        }
+        Some(is_met_in(kept, &self.bits, tid))
+    }
+
+    /// Whether each row that is kept was met.
+    pub fn are_all_met(&self) -> bool
+        ensures { OnTrue result (AreAllMet self.now) }
+    {
+        are_all_set(&self.records, &self.bits)
+    }
+}

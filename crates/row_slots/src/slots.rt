@@ -1,0 +1,188 @@
+//! Steps over the tables.
+ghost use Rattle.std.specs.Prelude.{◌≡◌, ◌+◌, ◌++◌, ◌<◌, ◌≤◌, [], Ok, None, All, List, drop, length, slice_set, OnErr, OnOk, true};
+ghost use Rattle.std.specs.Bool.{OnFalse, OnTrue};
+ghost use Rattle.key_orders.specs.Types.{HasAlignment};
+ghost use Rattle.key_orders.specs.declared.columns.Value.{Value as Shown};
+ghost use Rattle.stored_keys.specs.Stored.{IsStorable, stored_key};
+ghost use Rattle.varlena_attrs.specs.Keyed.{key_types};
+ghost use Rattle.row_slots.specs.Met.{is_key, keyed, met_by};
+ghost use Rattle.row_slots.specs.Slots.{AreBits, AreStarts, found_slot, key_of, keys_of, mets_of};
+ghost use Rattle.row_slots.specs.Told.{TellsKey};
+
+use crate::bits::{is_set, set_bit};
+use key_orders::{KeyRefs, KeySpec, Tid};
+use outside::NoMemory;
+use stored_keys::{is_stored, write_key};
+use varlena_attrs::has_stored_key;
+
+/// Which rows are kept, and their keys.
+#[derive(Clone, Copy)]
+pub(crate) struct Kept<'a> {
+    pub(crate) first: u32,
+    pub(crate) starts: &'a [u32],
+    pub(crate) records: &'a [u32],
+    pub(crate) arena: &'a [u8],
+}
+
+/// The slot of a line pointer.
+#[inline]
+pub(crate) fn find(first: u32, starts: &[u32], tid: Tid) -> Option<usize>
+    ensures { result ≡ found_slot first starts.now tid }
+{
+    if tid.block < first {
+        return None;
+    }
+    if tid.item == 0 {
+        return None;
+    }
+    let block = (tid.block - first) as usize;
+    if starts.len() <= block + 1 {
+        return None;
+    }
+    let next = starts[block] as usize + tid.item as usize;
+    if (starts[block + 1] as usize) < next {
+        return None;
+    }
+    Some(next - 1)
+}
+
+// The bytes from a place on.
+#[inline]
+fn bytes_from(arena: &[u8], at: u32) -> &[u8]
+    ensures { result.now ≡ drop at arena.now }
+{
+    match arena.split_at_checked(at as usize) {
+        Some((_, bytes)) => bytes,
+        None => &[],
+    }
+}
+
+// Whether a slot says that this key lies in the arena.
+#[inline]
+#[tactic(auto, unfolding(crate::specs::Slots::key_of))]
+pub(crate) fn holds(arena: &[u8], place: u32, key: &KeyRefs<'_>) -> bool
+    ensures { result ≡ is_key key.now (key_of arena.now place) }
+{
+    if place == 0 {
+        return false;
+    }
+    is_stored(bytes_from(arena, place - 1), key)
+}
+
+// Whether a slot says that the key lies there that an index tuple without null bits has, whose body this is. `false`
+// says nothing.
+#[inline]
+fn holds_plain(arena: &[u8], place: u32, specs: &[KeySpec], body: &[u8]) -> bool
+    requires few { length specs.now ≤ 8 }
+    requires aligned { All HasAlignment (key_types specs.now) }
+    ensures { OnTrue result ((key : List Shown) → TellsKey specs.now body.now key
+        → is_key key (key_of arena.now place) ≡ true) }
+{
+    if place == 0 {
+        return false;
+    }
+    match bytes_from(arena, place - 1).split_first() {
+        Some((count, values)) => {
+            *count as usize == specs.len() && has_stored_key(specs, body, values)
+        }
+        None => false,
+    }
+}
+
+// Sets the bit of the row that is rooted there, if its key is this one.
+pub(crate) fn meet_in(kept: Kept<'_>, bits: &mut [u8], tid: Tid, key: &KeyRefs<'_>)
+    requires starts { AreStarts kept.starts.now kept.records.now }
+    requires bits { AreBits kept.records.now bits.old }
+    ensures met { mets_of kept.entry.first kept.entry.starts.now bits.new
+        ≡ met_by (keys_of kept.entry.first kept.entry.starts.now kept.entry.records.now kept.entry.arena.now)
+        (mets_of kept.entry.first kept.entry.starts.now bits.old) (keyed tid key.now) }
+    ensures bits { AreBits kept.entry.records.now bits.new }
+{
+    match find(kept.first, kept.starts, tid) {
+        Some(slot) => {
+            if holds(kept.arena, kept.records[slot], key) {
+                set_bit(bits, slot);
+            }
+        }
+        None => {}
+    }
+}
+
+// Does the same for the key of an index tuple without null bits, which has this body, where its bytes tell as they lie
+// whether it is the row's; whether they do.
+#[inline]
+pub(crate) fn meet_plain_in(
+    kept: Kept<'_>,
+    bits: &mut [u8],
+    tid: Tid,
+    specs: &[KeySpec],
+    body: &[u8],
+) -> bool
+    requires starts { AreStarts kept.starts.now kept.records.now }
+    requires bits { AreBits kept.records.now bits.old }
+    requires few { length specs.now ≤ 8 }
+    requires aligned { All HasAlignment (key_types specs.now) }
+    ensures met { OnTrue result ((key : List Shown) → TellsKey specs.now body.now key
+        → mets_of kept.entry.first kept.entry.starts.now bits.new
+        ≡ met_by (keys_of kept.entry.first kept.entry.starts.now kept.entry.records.now kept.entry.arena.now)
+        (mets_of kept.entry.first kept.entry.starts.now bits.old) (keyed tid key)) }
+    ensures same { OnFalse result (bits.new ≡ bits.old) }
+    ensures bits { AreBits kept.entry.records.now bits.new }
+{
+    let Some(slot) = find(kept.first, kept.starts, tid) else {
+        return true;
+    };
+    let place = kept.records[slot];
+    if place == 0 {
+        return true;
+    }
+    if !holds_plain(kept.arena, place, specs, body) {
+        return false;
+    }
+    set_bit(bits, slot);
+    true
+}
+
+/// Whether the row that is rooted there was met.
+pub(crate) fn is_met_in(kept: Kept<'_>, bits: &[u8], tid: Tid) -> bool
+    requires starts { AreStarts kept.starts.now kept.records.now }
+    requires bits { AreBits kept.records.now bits.now }
+    ensures { result ≡ mets_of kept.entry.first kept.entry.starts.now bits.now tid }
+{
+    match find(kept.first, kept.starts, tid) {
+        Some(slot) => is_set(bits, slot),
+        None => false,
+    }
+}
+
+/// Whether this key is kept for the row that is rooted there.
+pub(crate) fn is_kept_in(kept: Kept<'_>, tid: Tid, key: &KeyRefs<'_>) -> bool
+    requires starts { AreStarts kept.starts.now kept.records.now }
+    ensures { result ≡ is_key key.now (keys_of kept.entry.first kept.entry.starts.now kept.entry.records.now kept.entry.arena.now tid) }
+{
+    match find(kept.first, kept.starts, tid) {
+        Some(slot) => holds(kept.arena, kept.records[slot], key),
+        None => false,
+    }
+}
+
+/// Writes a key behind the others, and its place into a slot.
+pub(crate) fn put_at(
+    slot: usize,
+    records: &mut [u32],
+    arena: &mut Vec<u8>,
+    key: &KeyRefs<'_>,
+) -> Result<(), NoMemory>
+    requires { slot < length records.old }
+    ensures records { OnOk result (records.new ≡ slice_set records.old slot (length arena.old.items + 1)) }
+    ensures arena { OnOk result (arena.new.items ≡ arena.old.items ++ stored_key key.now) }
+    ensures storable { OnOk result (All IsStorable key.now) }
+    ensures few { OnOk result (length key.now ≤ 8) }
+    ensures none { OnErr result (records.new ≡ records.old) }
+    ensures same { OnErr result (arena.new.items ≡ arena.old.items) }
+{
+    let at = arena.len();
+    write_key(arena, key)?;
+    records[slot] = at as u32 + 1;
+    Ok(())
+}

@@ -1,0 +1,13 @@
+//! Keys of rows among bytes: written behind one another in a form of their own, read where they lie, and compared with a
+//! key at hand.
+#![tactic(auto)]
+
+mod laws;
+mod read;
+mod same;
+mod write;
+
+pub use laws::keys_are_read_back;
+pub use read::{read_key, read_value};
+pub use same::{after_value, is_stored};
+pub use write::write_key;

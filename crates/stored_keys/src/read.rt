@@ -1,0 +1,105 @@
+//! Values and keys, read where they lie.
+ghost use Rattle.std.specs.Prelude.{◌≡◌, ◌≤◌, []};
+ghost use Rattle.key_orders.specs.Values.{value_shown};
+ghost use Rattle.stored_keys.specs.Stored.{bytes_read, int_read, key_read, short_read, sized_read, tagged_read};
+ghost use Rattle.stored_keys.specs.Stored.{value_read, values_read};
+
+use key_orders::{KeyRefs, MAX_KEY_COLUMNS, ValueRef};
+
+fn read_int(bytes: &[u8]) -> (ValueRef<'_>, &[u8])
+    ensures value { value_shown result.0 ≡ (int_read bytes.now).0 }
+    ensures rest { result.1.now ≡ (int_read bytes.now).1 }
+{
+    match bytes.split_first_chunk::<8>() {
+        Some((number, rest)) => (
+            ValueRef::Int(u64::from_le_bytes(*number).cast_signed()),
+            rest,
+        ),
+        None => (ValueRef::Null, &[]),
+    }
+}
+
+fn read_sized(len: usize, bytes: &[u8]) -> (ValueRef<'_>, &[u8])
+    ensures value { value_shown result.0 ≡ (sized_read len bytes.now).0 }
+    ensures rest { result.1.now ≡ (sized_read len bytes.now).1 }
+{
+    match bytes.split_at_checked(len) {
+        Some((content, rest)) => (ValueRef::Bytes(content), rest),
+        None => (ValueRef::Null, &[]),
+    }
+}
+
+fn read_bytes(bytes: &[u8]) -> (ValueRef<'_>, &[u8])
+    ensures value { value_shown result.0 ≡ (bytes_read bytes.now).0 }
+    ensures rest { result.1.now ≡ (bytes_read bytes.now).1 }
+{
+    match bytes.split_first_chunk::<4>() {
+        Some((len, rest)) => read_sized(u32::from_le_bytes(*len) as usize, rest),
+        None => (ValueRef::Null, &[]),
+    }
+}
+
+fn read_short(bytes: &[u8]) -> (ValueRef<'_>, &[u8])
+    ensures value { value_shown result.0 ≡ (short_read bytes.now).0 }
+    ensures rest { result.1.now ≡ (short_read bytes.now).1 }
+{
+    match bytes.split_first() {
+        Some((len, rest)) => read_sized(*len as usize, rest),
+        None => (ValueRef::Null, bytes),
+    }
+}
+
+fn read_tagged(tag: u8, bytes: &[u8]) -> (ValueRef<'_>, &[u8])
+    ensures value { value_shown result.0 ≡ (tagged_read tag bytes.now).0 }
+    ensures rest { result.1.now ≡ (tagged_read tag bytes.now).1 }
+{
+    if tag == 1 {
+        (ValueRef::Bool(false), bytes)
+    } else if tag == 2 {
+        (ValueRef::Bool(true), bytes)
+    } else if tag == 3 {
+        read_int(bytes)
+    } else if tag == 4 {
+        read_bytes(bytes)
+    } else if tag == 5 {
+        read_short(bytes)
+    } else {
+        (ValueRef::Null, bytes)
+    }
+}
+
+/// The value at the beginning, and what is left.
+#[tactic(auto, unfolding(crate::specs::Stored::value_read))]
+pub fn read_value(bytes: &[u8]) -> (ValueRef<'_>, &[u8])
+    ensures value { value_shown result.0 ≡ (value_read bytes.now).0 }
+    ensures rest { result.1.now ≡ (value_read bytes.now).1 }
+{
+    match bytes.split_first() {
+        Some((tag, rest)) => read_tagged(*tag, rest),
+        None => (ValueRef::Null, bytes),
+    }
+}
+
+/// Reads the key at the beginning into a place that is at hand.
+#[tactic(auto, unfolding(crate::specs::Stored::key_read))]
+pub fn read_key<'p>(bytes: &'p [u8], key: &mut KeyRefs<'p>)
+    ensures { key.new ≡ key_read bytes.now }
+{
+    key.clear();
+    if let Some((count, rest)) = bytes.split_first() {
+        read_values((*count as usize).min(MAX_KEY_COLUMNS), rest, key);
+    }
+}
+
+fn read_values<'p>(count: usize, bytes: &'p [u8], key: &mut KeyRefs<'p>)
+    requires few { count ≤ MAX_KEY_COLUMNS }
+    requires none { key.old ≡ [] }
+    ensures { key.new ≡ values_read count bytes.now }
+{
+    let mut left = bytes;
+    for i in 0..count {
+        let (value, rest) = read_value(left);
+        key.push(value);
+        left = rest;
+    }
+}

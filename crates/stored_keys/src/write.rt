@@ -1,0 +1,132 @@
+//! Keys, written behind one another.
+ghost use Rattle.std.specs.Prelude.{◌≡◌, ◌+◌, ◌<◌, ◌≤◌, ◌^◌, ◌++◌, All, length, vec_capacity, vec_len};
+ghost use Rattle.std.specs.Prelude.{IfSome, OnErr, OnOk};
+ghost use Rattle.std.specs.List.{flat_map};
+ghost use Rattle.key_orders.specs.Values.{value_shown};
+ghost use Rattle.stored_keys.specs.Stored.{IsStorable, shown_bytes, stored_bytes, stored_key, stored_value};
+
+use key_orders::{KeyRefs, Value, ValueRef};
+use outside::NoMemory;
+
+// How many bytes there may be, so that each has a place in 32 bits.
+const MOST: usize = 0xffff_fff0;
+
+// Adds bytes where there is room, which takes no memory.
+fn push_bytes(arena: &mut Vec<u8>, bytes: &[u8])
+    requires { vec_len arena.old + length bytes.now ≤ vec_capacity arena.old }
+    ensures items { arena.new.items ≡ arena.old.items ++ bytes.now }
+    ensures capacity { vec_capacity arena.old ≤ vec_capacity arena.new }
+{
+    arena.extend_from_slice(bytes).unwrap();
+}
+
+fn write_value(arena: &mut Vec<u8>, v: ValueRef<'_>)
+    requires room { vec_len arena.old + length (shown_bytes v) ≤ vec_capacity arena.old }
+    requires short { length (shown_bytes v) < 2 ^ 32 }
+    ensures items { arena.new.items ≡ arena.old.items ++ shown_bytes v.entry }
+    ensures capacity { vec_capacity arena.old ≤ vec_capacity arena.new }
+    ensures storable { IsStorable (value_shown v.entry) }
+{
+    match v {
+        ValueRef::Null => push_bytes(arena, &[0]),
+        ValueRef::Bool(b) => push_bytes(arena, if b { &[2] } else { &[1] }),
+        ValueRef::Int(n) => write_int(arena, n),
+        ValueRef::Bytes(bytes) => write_bytes(arena, bytes),
+    }
+}
+
+fn write_int(arena: &mut Vec<u8>, n: i64)
+    requires { vec_len arena.old + 9 ≤ vec_capacity arena.old }
+    ensures items { arena.new.items ≡ arena.old.items ++ stored_value (Value.Int n) }
+    ensures capacity { vec_capacity arena.old ≤ vec_capacity arena.new }
+    ensures storable { IsStorable (Value.Int n) }
+{
+    let b = n.cast_unsigned().to_le_bytes();
+    push_bytes(arena, &[3, b[0], b[1], b[2], b[3], b[4], b[5], b[6], b[7]]);
+}
+
+fn write_bytes(arena: &mut Vec<u8>, bytes: &[u8])
+    requires room { vec_len arena.old + length (stored_bytes bytes.now) ≤ vec_capacity arena.old }
+    requires short { length bytes.now < 2 ^ 32 }
+    ensures items { arena.new.items ≡ arena.old.items ++ stored_bytes bytes.now }
+    ensures capacity { vec_capacity arena.old ≤ vec_capacity arena.new }
+{
+    if bytes.len() < 256 {
+        push_bytes(arena, &[5, bytes.len() as u8]);
+    } else {
+        let b = (bytes.len() as u32).to_le_bytes();
+        push_bytes(arena, &[4, b[0], b[1], b[2], b[3]]);
+    }
+    push_bytes(arena, bytes);
+}
+
+fn write_values(arena: &mut Vec<u8>, values: &[ValueRef<'_>])
+    requires room { vec_len arena.old + length (flat_map shown_bytes values.now) ≤ vec_capacity arena.old }
+    requires short { length (flat_map shown_bytes values.now) < 2 ^ 32 }
+    ensures items { arena.new.items ≡ arena.old.items ++ flat_map shown_bytes values.now }
+    ensures capacity { vec_capacity arena.old ≤ vec_capacity arena.new }
+    ensures storable { All (λ v. IsStorable (value_shown v)) values.now }
+{
+    for i in 0..values.len() {
+        write_value(arena, values[i]);
+    }
+}
+
+fn bytes_len(bytes: &[u8]) -> usize
+    ensures { result ≡ length (stored_bytes bytes.now) }
+{
+    if bytes.len() < 256 {
+        2 + bytes.len()
+    } else {
+        5 + bytes.len()
+    }
+}
+
+fn stored_len(v: ValueRef<'_>) -> usize
+    ensures { result ≡ length (shown_bytes v.entry) }
+{
+    match v {
+        ValueRef::Null | ValueRef::Bool(_) => 1,
+        ValueRef::Int(_) => 9,
+        ValueRef::Bytes(bytes) => bytes_len(bytes),
+    }
+}
+
+/// Of so much room what is left beside the values of a key, if they need no more.
+pub fn left_beside(values: &[ValueRef<'_>], room: usize) -> Option<usize>
+    ensures { IfSome result (λ left. left + length (flat_map shown_bytes values.now) ≡ room) }
+{
+    let mut left = room;
+    for i in 0..values.len() {
+        let len = stored_len(values[i]);
+        if left < len {
+            return None;
+        }
+        left -= len;
+    }
+    Some(left)
+}
+
+/// Adds a key behind the bytes, if memory is there and the place of each byte is below 4294967295.
+pub fn write_key(arena: &mut Vec<u8>, key: &KeyRefs<'_>) -> Result<(), NoMemory>
+    ensures ok { OnOk result (arena.new.items ≡ arena.old.items ++ stored_key key.now) }
+    ensures short { OnOk result (vec_len arena.old + 1 < 2 ^ 32) }
+    ensures storable { OnOk result (All IsStorable key.now) }
+    ensures few { OnOk result (length key.now ≤ 8) }
+    ensures err { OnErr result (arena.new.items ≡ arena.old.items) }
+{
+    let values = key.as_slice();
+    let used = arena.len();
+    if MOST < used {
+        return Err(NoMemory);
+    }
+    let room = MOST - used;
+    let Some(left) = left_beside(values, room) else {
+        return Err(NoMemory);
+    };
+    let len = room - left;
+    arena.reserve(len + 1)?;
+    push_bytes(arena, &[values.len() as u8]);
+    write_values(arena, values);
+    Ok(())
+}
