@@ -5,7 +5,6 @@ pub mod GeneratedLaws
 pub mod HeadlineLaws
 pub mod HeapLaws
 pub mod IndexLaws
-pub mod JoinLaws
 pub mod NumberLaws
 pub mod NumberedLaws
 pub mod PagesLaws

@@ -1,14 +1,13 @@
 -- Indexes that were judged by themselves, one after the other, and then beside the heap.
-use Rattle.std.proofs.Common.{◌≡◌, ◌∙◌, ◌↔◌, ℕ, Bool, true, false, List, [], ◌∷◌, ◌++◌, refl, ap, sym, subst, append-nil, append_assoc, arith, length}
+use Rattle.std.proofs.Common.{◌≡◌, ◌∙◌, ℕ, Bool, true, false, List, [], ◌∷◌, ◌++◌, refl, ap, sym, subst, append-nil, arith, length}
 use Rattle.std.specs.Prelude.{All, IfSome, IsSome, Option, Some, None, drop, is_some, map, slice_index_or, ◌&&◌}
 use Rattle.std.specs.Option.{option_to_list}
-use Rattle.std.proofs.lemmas.List.{map-append}
-use Rattle.std.proofs.lemmas.List.Elements.{All-append, All-nil, All-push}
+use Rattle.std.proofs.lemmas.List.Elements.{All-nil, All-push}
 use Rattle.outside.specs.Outside.{Names}
 use Rattle.case_file.specs.Record.{CaseRecord}
 use Rattle.reports.specs.Added.{joined, nothing, report_lists}
 use Rattle.reports.specs.Lists.{Lists}
-use Rattle.heap_files.specs.Found.{IsQuiet, case_found}
+use Rattle.heap_files.specs.Found.{case_found}
 use Rattle.heap_files.specs.declared.files.SoundHeap.{SoundHeap}
 use Rattle.bt_levels.specs.Files.{IsFileOf, number_of}
 use Rattle.bt_levels.specs.Index.{tree_lists}
@@ -19,10 +18,10 @@ use Rattle.bt_levels.specs.declared.sound.SoundTree.{SoundTree}
 use Rattle.bt_levels.proofs.LevelLaws.{empty_quiet, quiet_empty}
 use Rattle.indexed_rules.specs.Lists.{indexed_lists}
 use Rattle.heap_indexed.specs.declared.joined.IndexedTable.{IndexedTable}
-use Rattle.heap_indexed.specs.Joins.{HoldIt}
-use Rattle.amcheck.specs.Numbered.{join_found, numbered_found}
+use Rattle.heap_indexed.specs.Meetings.{HoldIt}
+use Rattle.amcheck.specs.Numbered.{join_found}
 use Rattle.amcheck.specs.Tables.{IsHeapOf, IsTreeOf, trees_found}
-use Rattle.amcheck.specs.Together.{AreAlone, WereJudged, WerePut, found_with, is_quiet_tree, joint_lists, own_of, own_report, quiet_numbers, tree_number, with_number}
+use Rattle.amcheck.specs.Together.{AreAlone, WereJudged, WerePut, found_with, is_quiet_tree, joint_lists, own_of, quiet_numbers, tree_number, with_number}
 use Rattle.amcheck.specs.declared.together.Alone.{Alone}
 use Rattle.amcheck.specs.declared.together.OwnReport.{OwnReport}
 use Rattle.amcheck.proofs.NumberedLaws.{quiet_from, quiet_is}

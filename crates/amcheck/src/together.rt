@@ -9,6 +9,7 @@ ghost use Rattle.bt_levels.specs.Files.{BelongsTo, IsFileOf, number_of};
 ghost use Rattle.bt_levels.specs.Index.{tree_lists};
 ghost use Rattle.bt_levels.specs.Sound.{HoldsTree, IsSoundIndexOf, file_of};
 ghost use Rattle.bt_levels.specs.declared.files.TreeFile.{TreeFile as File};
+ghost use Rattle.amcheck.specs.Numbered.{numbered_found};
 ghost use Rattle.amcheck.specs.Tables.{IsHeapIn, IsHeapOf, IsTreeOf, case_seen, heap_seen, trees_found};
 ghost use Rattle.amcheck.specs.Together.{AreAlone, BelongAlone, found_with, joint_lists, own_report, quiet_numbers};
 ghost use Rattle.amcheck.specs.Together.{tree_number};
@@ -211,4 +212,33 @@ pub fn judge_indexes<F: Files>(
     let joint = join_all(alloc, files, table, &alone.trees)?;
     alone.append_to(joint, has_heap(table), report)?;
     Ok(())
+}
+
+// The file of one index alone.
+fn one_tree(alloc: Global, at: TreeFile) -> Result<VecDeque<TreeFile>, NoMemory>
+    ensures { IfOk result (λ trees. trees.items ≡ at ∷ []) }
+{
+    let mut trees = VecDeque::new(alloc);
+    trees.push_back(at)?;
+    Ok(trees)
+}
+
+/// Judges the file of one index likewise.
+pub fn judge_index<F: Files>(
+    alloc: Global,
+    files: &mut F,
+    table: JudgedTable<'_>,
+    at: TreeFile,
+    report: &mut Report,
+) -> Result<(), RunFault>
+    requires told { IfTold F.seen files.old (λ names. IsFileOf (case_seen table) names at) }
+    requires belongs { BelongsTo (case_seen table) at }
+    requires heap { IfTold F.seen files.old (λ names. IsHeapOf (case_seen table) names (heap_seen table)) }
+    requires belong { IsHeapIn (case_seen table) (heap_seen table) }
+    ensures found { OnOk result (IfTold F.seen files.old (λ names.
+        report.new ≡ joined report.old (numbered_found (case_seen table.entry) names (number_of at)))) }
+    ensures asked { Asked F.seen files.old files.new result RunFault.ReadFault }
+{
+    let trees = one_tree(alloc, at)?;
+    judge_indexes(alloc, files, table, trees, report)
 }

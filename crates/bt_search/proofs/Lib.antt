@@ -4,7 +4,6 @@ pub mod Arriving
 mod Caching
 mod There
 mod Here
-mod FixedLaws
 mod Lookups
 mod Ways
 mod Onward

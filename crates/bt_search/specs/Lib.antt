@@ -6,5 +6,3 @@ pub mod Steps
 pub mod Cached
 pub mod Lending
 pub mod Lookups
-pub mod InHand
-pub mod Fixed

@@ -1,6 +1,5 @@
 //! Pages of an index that are kept in memory, of bounded number.
 ghost use Rattle.std.specs.Prelude.{◌≡◌, ◌-◌, ◌<◌, ◌≤◌, ◌==◌, [], IfNone, IfOk, IfSome, IsOk, None, Some, length};
-ghost use Rattle.std.specs.Prelude.{slice_get};
 ghost use Rattle.std.specs.Borrow.{sem};
 ghost use Rattle.outside.specs.Outside.{AskedAtMost, IfTold};
 ghost use Rattle.rel_files.specs.Faults.{read_fault};
@@ -81,18 +80,6 @@ impl PageCache {
         ensures { result ≡ self.now.capacity }
     {
         self.kept.cap().get()
-    }
-
-    /// The page that was used last, if any is kept, and its block. That is no look at it.
-    #[inline]
-    pub fn last(&self) -> Option<(u32, &[u8; 8192])>
-        ensures some { IfSome result (λ p. slice_get self.now.kept 0 ≡ Some (p.0, p.1.now)) }
-        ensures none { IfNone result (slice_get self.now.kept 0 ≡ None) }
-    {
-        match self.kept.peek_mru() {
-            Some((block, page)) => Some((*block, page.as_ref())),
-            None => None,
-        }
     }
 
     /// Looks at a block of the index whose pages it keeps, and lends the page. It counts as used last

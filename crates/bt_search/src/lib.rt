@@ -8,22 +8,16 @@
 mod cache;
 mod descent;
 mod entry;
-mod fixed;
-mod glimpse;
-mod hand;
 mod kept;
 mod laws;
 mod leaf;
 mod look_up;
-mod near;
 mod next;
 mod spot;
 
 pub use cache::PageCache;
 pub use descent::descend;
 pub use entry::entry_at;
-pub use fixed::FixedSought;
-pub use hand::LeafInHand;
 pub use laws::searches_go_in_steps;
 pub use look_up::{entries_have_a_leaf, find, probe, spots_are_of_entries, ways_are_short};
 pub use next::next_entry;

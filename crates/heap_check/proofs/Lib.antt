@@ -15,4 +15,3 @@ pub mod RowBodies
 pub mod RowFinds
 pub mod RowHeads
 pub mod RowCopies
-pub mod PlainRow

@@ -32,7 +32,7 @@ gone cursor = record { case = cursor.case; heap = cursor.heap; asked = cursor.as
 abbrev pub next_of : Names → RowCursor → LiveRow
 next_of names cursor = row_at (case_at cursor) names cursor.page.block cursor.page.bytes (cursor.page.done + 1)
 
-in_hand_first : (case : CaseRecord) (names : Names) (asked : AskedColumns) (page : RowPage) → IsNext case names asked page → rows_in_hand case names page ≡ row_at case names page.block page.bytes (page.done + 1) ∷ rows_in_hand case names (past page)
+pub in_hand_first : (case : CaseRecord) (names : Names) (asked : AskedColumns) (page : RowPage) → IsNext case names asked page → rows_in_hand case names page ≡ row_at case names page.block page.bytes (page.done + 1) ∷ rows_in_hand case names (past page)
 in_hand_first case names asked page next =
     in_hand_next case names page (past page) (row_at case names page.block page.bytes (page.done + 1) ∷ []) (record { block = refl; bytes = refl; count = refl; plain = refl; states = refl; roots = refl }) refl next.inside next.row.one
 

@@ -6,5 +6,4 @@ pub mod RowValues
 pub mod RowPages
 pub mod RowCursor
 pub mod LiveRows
-pub mod PlainRow
 pub mod RowLaws

@@ -53,6 +53,14 @@ rows_unread names cursor =
 unfoldable pub rows_ahead : Names → RowCursor → List LiveRow
 rows_ahead names cursor = rows_in_hand (case_at cursor) names cursor.page ++ rows_unread names cursor
 
+-- those of them that are on the page in hand
+abbrev pub rows_here : Names → RowCursor → List LiveRow
+rows_here names cursor = rows_in_hand (case_at cursor) names cursor.page
+
+-- the block that is read next
+abbrev pub next_in : RowCursor → ℕ
+next_in cursor = cursor.next
+
 -- none of the rows of the page in hand is ahead
 abbrev pub IsPageDone : Names → RowCursor → Type 0
 IsPageDone names cursor = rows_in_hand (case_at cursor) names cursor.page ≡ []

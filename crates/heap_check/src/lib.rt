@@ -1,7 +1,6 @@
 //! The rows of a sound heap: its live tuples, each with the root of its chain and the values of its columns.
 #![tactic(auto)]
 
-mod plain_row;
 mod row_cells;
 mod row_cursor;
 mod row_laws;
@@ -13,7 +12,6 @@ mod rows;
 
 pub use heap_files::{HeapFiles, SoundHeap, check_heap};
 pub use heap_pages::{judge_page, lone_pages_are_judged};
-pub use plain_row::FixedColumn;
 pub use reports::{CheckFault, PageFault, Which};
 pub use row_cells::{Cell, CellRef, Cells};
 pub use row_cursor::{RowCursor, RowPlace};

@@ -13,7 +13,7 @@ ghost use Rattle.heap_check.specs.RowFits.{FitsColumn, HasMissing};
 ghost use Rattle.heap_check.specs.RowCursor.{AreAsked};
 ghost use Rattle.heap_check.specs.RowValues.{AsksColumns, FitsPlace, cell_lent, cell_shown, column_asked, count_asked};
 ghost use Rattle.heap_check.specs.RowPages.{cell_found};
-ghost use Rattle.heap_check.specs.Rows.{rows_of};
+ghost use Rattle.heap_check.specs.Rows.{block_rows, rows_of};
 ghost use Rattle.heap_check.specs.declared.rows.LiveRow.{LiveRow as Row};
 ghost use Rattle.heap_check.specs.declared.row_values.AskedColumns.TheVariants as asked;
 
@@ -82,7 +82,7 @@ fn value_at<'p>(
 
 impl<'a> RowCursor<'a> {
     ghost use Rattle.heap_check.specs.RowCursor.{IsAtRow, IsCursorOf, IsPageDone, IsPlaceOfFirst, IsSameCursor};
-    ghost use Rattle.heap_check.specs.RowCursor.{asked_at, case_at, heap_at, rows_ahead};
+    ghost use Rattle.heap_check.specs.RowCursor.{asked_at, case_at, heap_at, next_in, rows_ahead, rows_here};
 
     // A cursor before the first row, which is asked for these columns. No block is read yet.
     pub(crate) fn asking(
@@ -96,6 +96,8 @@ impl<'a> RowCursor<'a> {
         ensures told { IfOk result (λ cursor. (names : Names) → IsSoundHeapOf case.now names heap.now
             → IsQuiet case.now names → IsCursorOf names cursor) }
         ensures all { IfOk result (λ cursor. (names : Names) → rows_ahead names cursor ≡ rows_of case.now names) }
+        ensures begun { IfOk result (λ cursor. next_in cursor ≡ 0) }
+        ensures none { IfOk result (λ cursor. (names : Names) → rows_here names cursor ≡ []) }
         ensures case { IfOk result (λ cursor. case_at cursor ≡ case.now) }
         ensures heap { IfOk result (λ cursor. heap_at cursor ≡ heap.now) }
         ensures asked { IfOk result (λ cursor. asked_at cursor ≡ asked) }
@@ -128,6 +130,8 @@ impl<'a> RowCursor<'a> {
         ensures told { IfOk result (λ cursor. (names : Names) → IsSoundHeapOf case.now names heap.now
             → IsQuiet case.now names → IsCursorOf names cursor) }
         ensures all { IfOk result (λ cursor. (names : Names) → rows_ahead names cursor ≡ rows_of case.now names) }
+        ensures begun { IfOk result (λ cursor. next_in cursor ≡ 0) }
+        ensures none { IfOk result (λ cursor. (names : Names) → rows_here names cursor ≡ []) }
         ensures case { IfOk result (λ cursor. case_at cursor ≡ case.now) }
         ensures heap { IfOk result (λ cursor. heap_at cursor ≡ heap.now) }
         ensures asked { IfOk result (λ cursor. AreAsked columns.now (asked_at cursor)) }
@@ -141,6 +145,7 @@ impl<'a> RowCursor<'a> {
     fn find_in_hand<F: Files>(&mut self, files: &mut F) -> Result<bool, PageFault>
         requires told { IfTold F.seen files.old (λ names. IsCursorOf names self.old) }
         ensures left { IfTold F.seen files.old (λ names. rows_ahead names self.new ≡ rows_ahead names self.old) }
+        ensures here { IfTold F.seen files.old (λ names. rows_here names self.new ≡ rows_here names self.old) }
         ensures done { Tells F.seen files.old result (λ found names. found ≡ false → IsPageDone names self.new) }
         ensures at { IfOk result (λ found. found ≡ true → IsAtRow self.new) }
         ensures told { IfTold F.seen files.old (λ names. IsCursorOf names self.new) }
@@ -168,6 +173,8 @@ impl<'a> RowCursor<'a> {
         requires done { IfTold F.seen files.old (λ names. IsPageDone names self.old) }
         requires inside { self.old.next < count_of (heap_in (heap_at self.old)) }
         ensures left { IfTold F.seen files.old (λ names. rows_ahead names self.new ≡ rows_ahead names self.old) }
+        ensures here { OnOk result (IfTold F.seen files.old (λ names. rows_here names self.new
+            ≡ block_rows (case_at self.old) names self.old.next)) }
         ensures told { IfTold F.seen files.old (λ names. IsCursorOf names self.new) }
         ensures same { IsSameCursor self.old self.new }
         ensures next { OnOk result (self.new.next ≡ self.old.next + 1) }
@@ -230,6 +237,8 @@ impl<'a> RowCursor<'a> {
         requires at { IsAtRow self.now }
         ensures first { (names : Names) → IsCursorOf names self.now
             → IsPlaceOfFirst (Some result) (rows_ahead names self.now) }
+        ensures here { (names : Names) → IsCursorOf names self.now
+            → IsPlaceOfFirst (Some result) (rows_here names self.now) }
         ensures some { (1 ≤ result.tid.item) × (1 ≤ result.root.item) }
     {
         let block = self.page.block;
@@ -264,6 +273,67 @@ impl<'a> RowCursor<'a> {
         Ok(None)
     }
 
+    /// The block that is taken in hand next.
+    pub fn next_block(&self) -> u32
+        ensures { result ≡ next_in self.now }
+    {
+        self.next
+    }
+
+    /// Goes to the beginning of a block, which is the next then. No page is in hand.
+    pub fn go_to(&mut self, block: u32)
+        ensures here { (names : Names) → rows_here names self.new ≡ [] }
+        ensures told { (names : Names) → IsCursorOf names self.old → IsCursorOf names self.new }
+        ensures next { next_in self.new ≡ block }
+        ensures same { IsSameCursor self.old self.new }
+    {
+        self.page.count = 0;
+        self.page.done = 0;
+        self.page.found = false;
+        self.next = block;
+    }
+
+    /// Takes the next block in hand, and gives the number of its page's line pointers. It is read once.
+    ///
+    /// `ReadFault` comes only where the count of the files' faults rose. After an error no page is in hand, and the
+    /// same block is next.
+    pub fn take_block<F: Files>(&mut self, files: &mut F) -> Result<u16, PageFault>
+        requires told { IfTold F.seen files.old (λ names. IsCursorOf names self.old) }
+        requires done { IfTold F.seen files.old (λ names. rows_here names self.old ≡ []) }
+        requires inside { next_in self.old < count_of (heap_in (heap_at self.old)) }
+        ensures here { OnOk result (IfTold F.seen files.old (λ names. rows_here names self.new
+            ≡ block_rows (case_at self.old) names (next_in self.old))) }
+        ensures told { IfTold F.seen files.old (λ names. IsCursorOf names self.new) }
+        ensures same { IsSameCursor self.old self.new }
+        ensures next { OnOk result (next_in self.new ≡ next_in self.old + 1) }
+        ensures asked { Asked F.seen files.old files.new result PageFault.ReadFault }
+    {
+        self.take_next(files)?;
+        Ok(self.page.count)
+    }
+
+    /// Goes to the next live row of the block in hand, by rising TID, and finds its values that are asked for; `None`
+    /// exactly where none is left. Until it is passed it stays the next.
+    ///
+    /// `ReadFault` comes only where the count of the files' faults rose. After an error the same row is next.
+    pub fn find_in_block<F: Files>(&mut self, files: &mut F) -> Result<Option<RowPlace>, PageFault>
+        requires told { IfTold F.seen files.old (λ names. IsCursorOf names self.old) }
+        ensures here { IfTold F.seen files.old (λ names. rows_here names self.new ≡ rows_here names self.old) }
+        ensures first { Tells F.seen files.old result (λ found names.
+            IsPlaceOfFirst found (rows_here names self.new)) }
+        ensures at { IfOk result (λ found. IfSome found (λ place. IsAtRow self.new)) }
+        ensures some { IfOk result (λ found. IfSome found (λ place. (1 ≤ place.tid.item) × (1 ≤ place.root.item))) }
+        ensures told { IfTold F.seen files.old (λ names. IsCursorOf names self.new) }
+        ensures next { next_in self.new ≡ next_in self.old }
+        ensures same { IsSameCursor self.old self.new }
+        ensures asked { Asked F.seen files.old files.new result PageFault.ReadFault }
+    {
+        if self.find_in_hand(files)? {
+            return Ok(Some(self.place()));
+        }
+        Ok(None)
+    }
+
     /// The value of the k-th column that is asked for, counted from 0, in the row that was found: as it lies on
     /// its page, as the case gives it where it is missing, as it was joined from the TOAST table, or that it is
     /// compressed.
@@ -289,7 +359,10 @@ impl<'a> RowCursor<'a> {
         requires at { IsAtRow self.old }
         ensures left { (names : Names) → IsCursorOf names self.old
             → rows_ahead names self.new ≡ drop 1 (rows_ahead names self.old) }
+        ensures here { (names : Names) → IsCursorOf names self.old
+            → rows_here names self.new ≡ drop 1 (rows_here names self.old) }
         ensures told { (names : Names) → IsCursorOf names self.old → IsCursorOf names self.new }
+        ensures next { next_in self.new ≡ next_in self.old }
         ensures same { IsSameCursor self.old self.new }
     {
         self.page.found = false;

@@ -15,9 +15,9 @@ use Rattle.bt_levels.specs.declared.sound.SoundTree.{SoundTree}
 use Rattle.bt_levels.specs.Files.{number_of}
 use Rattle.bt_levels.specs.Sound.{file_of, specs_of}
 use Rattle.heap_indexed.specs.Joined.{BelongTogether}
-use Rattle.heap_indexed.specs.Joins.{columns_of_all}
-use Rattle.heap_indexed.specs.Waiting.{AreAskedFrom, columns_in}
-use Rattle.heap_indexed.proofs.Keys.{columns-there, sound-keys}
+use Rattle.heap_indexed.specs.Meetings.{columns_of_all}
+use Rattle.heap_indexed.specs.Rows.{AreAskedFrom, columns_in}
+use Rattle.heap_indexed.proofs.KeyLaws.{columns-there, sound-keys}
 
 key : SoundTree → List ℕ
 key tree = columns_in (specs_of tree)

@@ -87,7 +87,7 @@ module _ (case : CaseRecord) (names : Names) where
       let rows = rows-upto (item_rows case names block page) (count_of page) (item-few block page) in
       omega arith
 
-  block-few : (block : ℕ) → length (block_rows case names block) ≤ 2042
+  pub block-few : (block : ℕ) → length (block_rows case names block) ≤ 2042
   unfolding block_rows page_rows
   block-few block = page-few block (heap_page case names block) (page_rule_of Heap (heap_page case names block)) refl
 

@@ -1,7 +1,5 @@
 pub mod Joined
 pub mod Looking
-pub mod Probing
-pub mod ProbingLaws
-pub mod Waiting
-pub mod InStep
-pub mod Joins
+pub mod Rows
+pub mod Judging
+pub mod Meetings

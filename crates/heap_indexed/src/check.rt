@@ -1,40 +1,31 @@
-//! The checks of a heap against an index of it.
-ghost use Rattle.std.specs.Prelude.{◌≡◌, ◌⊎◌, ◌≤◌, ◌+◌, ◌*◌, ◌^◌, [], IfErr, IfOk, IfSome, OnOk, length};
+//! The check of a heap against an index of it by look-ups.
+ghost use Rattle.std.specs.Prelude.{◌≡◌, ◌⊎◌, ◌≤◌, ◌+◌, ◌*◌, IfErr, OnOk, length};
 ghost use Rattle.outside.specs.Adds.{AddsIn};
-ghost use Rattle.outside.specs.Outside.{Asked, IfTold, Names as Held};
+ghost use Rattle.outside.specs.Outside.{Asked, IfTold};
 ghost use Rattle.reports.specs.Added.{report_lists};
 ghost use Rattle.bt_levels.specs.Files.{number_of};
-ghost use Rattle.bt_levels.specs.declared.sound.SoundTree.{SoundTree as Sound};
 ghost use Rattle.bt_levels.specs.Sound.{file_of};
-ghost use Rattle.bt_search.specs.Lookups.{most_visits};
+ghost use Rattle.bt_search.specs.Lookups.{most_visits, way_length};
 ghost use Rattle.heap_check.specs.Rows.{rows_of};
 ghost use Rattle.indexed_rules.specs.Lists.{entries_lists, indexed_lists, rows_lists};
 ghost use Rattle.heap_indexed.specs.Joined.{BelongTogether, HoldTogether};
-ghost use Rattle.heap_indexed.specs.Looking.{AreOf, look_up_visits, visits_spent};
+ghost use Rattle.heap_indexed.specs.Looking.{AreOf};
 
-use crate::joined::{IndexedHeap, LookUps, RUN_BLOCKS, RUN_BYTES, new_look_ups};
-use crate::nearness::Nearness;
-use crate::rows::{Walk, columns_of};
-use crate::waiting::Waiting;
+use crate::joined::{IndexedHeap, LookUps};
+use crate::keys::{KeyedHeap, columns_of};
+use crate::row_judge::RowJudge;
 use bt_search::ways_are_short;
 use heap_check::RowCursor;
-use index_targets::check_targets;
-use key_runs::KeyRun;
-use outside::{Files, NoMemory};
+use index_targets::check_entries;
+use outside::Files;
 use reports::{CheckFault, PageFault, Report};
 use root_set::set_tells_of_pages;
+use row_slots::RowSlots;
 use std::alloc::Global;
 
-// A run of the rows of a heap, which holds none where each is to be looked up as it comes.
-fn run_for(alloc: Global, blocks: u32) -> Result<KeyRun, NoMemory>
-    ensures { IfOk result (λ run. run.rows ≡ []) }
-{
-    let budget = if blocks < RUN_BLOCKS { 0 } else { RUN_BYTES };
-    KeyRun::new(alloc, budget)
-}
-
 // Adds each entry of an index that names what no entry may name.
-fn check_entries<F: Files>(
+fn check_strays<F: Files>(
+    alloc: Global,
     files: &mut F,
     at: IndexedHeap<'_>,
     report: &mut Report,
@@ -46,10 +37,11 @@ fn check_entries<F: Files>(
     ensures asked { Asked F.seen files.old files.new result PageFault.ReadFault }
 {
     set_tells_of_pages();
-    check_targets(files, at.tree, at.heap.targets(), report)
+    let mut slots = RowSlots::new(alloc, 0)?;
+    check_entries(files, at.tree, Some(at.heap.targets()), &mut slots, report)
 }
 
-// Judges the rows of a heap one after another.
+// Looks up the rows of a heap one after another.
 fn probe_in_turn<F: Files>(
     alloc: Global,
     files: &mut F,
@@ -62,30 +54,36 @@ fn probe_in_turn<F: Files>(
     requires of { IfTold F.seen files.old (λ names. AreOf names at.tree.now look_ups.old) }
     ensures lists { IfTold F.seen files.old (λ names. AddsIn report_lists result report.old report.new
         (rows_lists at.entry.case.now names (number_of (file_of at.entry.tree.now)))) }
-    ensures visits { IfTold F.seen files.old (λ names. OnOk result (visits_spent look_ups.new ≤
-        visits_spent look_ups.old
-        + length (rows_of at.entry.case.now names) * look_up_visits names at.entry.tree.now)) }
+    ensures visits { IfTold F.seen files.old (λ names. OnOk result (look_ups.new.visits.count
+        ≤ look_ups.old.visits.count
+        + length (rows_of at.entry.case.now names) * way_length names at.entry.tree.now)) }
     ensures of { IfTold F.seen files.old (λ names. AreOf names at.entry.tree.now look_ups.new) }
     ensures asked { Asked F.seen files.old files.new result PageFault.ReadFault }
 {
     at.case.sound();
     let columns = columns_of(alloc, at.tree.specs())?;
     let mut cursor = RowCursor::new(alloc, at.case, at.heap, &columns)?;
-    let run = run_for(alloc, at.heap.heap().blocks())?;
-    let nearness = Nearness::of(at.heap.heap().blocks());
-    let waiting = Waiting::new(run, nearness);
-    let mut walk = Walk { at, waiting };
-    walk.judge_all(files, &mut cursor, look_ups, report)
+    let slots = RowSlots::new(alloc, 0)?;
+    let judge = RowJudge {
+        index: KeyedHeap { at, first: 0 },
+        slots: &slots,
+    };
+    judge.judge_blocks(
+        files,
+        &mut cursor,
+        at.heap.heap().blocks(),
+        look_ups,
+        report,
+    )
 }
 
 /// Adds to the report each live row of a heap that has no entry in an index of it under its own key, with the TID of
 /// its root, that isn't killed (X1), and each whose key has a compressed value and so can't be looked up (U6), by
 /// rising TID.
 ///
-/// Rows of a heap of 64 blocks or more are looked up in runs, in the order of their keys; those of a smaller one, each
-/// as it comes. Pages of the index are looked at through the cache or in hand, and each look is a visit. For each row
-/// there are at most as many as its way from the fast root has pages, and one more: no more than `fastlevel` + 1 +
-/// `right_halves` + `half_dead` + 1 of the index. Beside these there are at most as many as were saved before.
+/// Each row is looked up by itself, as it comes. Pages of the index are looked at through the cache, and each look is a
+/// visit: for each row no more than its way from the fast root has pages, which is at most `fastlevel` + 1 +
+/// `right_halves` + `half_dead` of the index.
 ///
 /// `ReadFault` comes only where the count of the files' faults rose, and `NoFile` and `TooLarge` never. After an error
 /// the report has a first part of what it would have got.
@@ -99,17 +97,13 @@ pub fn probe_rows<F: Files>(
     requires belong { BelongTogether at.case.now at.heap.now at.tree.now }
     requires hold { IfTold F.seen files.old (λ names. HoldTogether names at.case.now at.heap.now at.tree.now) }
     requires of { IfTold F.seen files.old (λ names. AreOf names at.tree.now look_ups.old) }
-    requires room { look_ups.old.visits.count ≤ 2 ^ 62 }
     ensures lists { IfTold F.seen files.old (λ names. AddsIn report_lists result report.old report.new
         (rows_lists at.entry.case.now names (number_of (file_of at.entry.tree.now)))) }
-    ensures visits { IfTold F.seen files.old (λ names. OnOk result (visits_spent look_ups.new ≤
-        visits_spent look_ups.old
-        + length (rows_of at.entry.case.now names) * look_up_visits names at.entry.tree.now)) }
-    ensures count { IfTold F.seen files.old (λ names. OnOk result (look_ups.new.visits.count ≤
-        look_ups.old.visits.count + look_ups.old.saved
-        + length (rows_of at.entry.case.now names) * look_up_visits names at.entry.tree.now)) }
-    ensures most { IfTold F.seen files.old (λ names. OnOk result (look_ups.new.visits.count ≤
-        look_ups.old.visits.count + look_ups.old.saved
+    ensures visits { IfTold F.seen files.old (λ names. OnOk result (look_ups.new.visits.count
+        ≤ look_ups.old.visits.count
+        + length (rows_of at.entry.case.now names) * way_length names at.entry.tree.now)) }
+    ensures most { IfTold F.seen files.old (λ names. OnOk result (look_ups.new.visits.count
+        ≤ look_ups.old.visits.count
         + length (rows_of at.entry.case.now names) * most_visits at.entry.tree.now)) }
     ensures of { IfTold F.seen files.old (λ names. AreOf names at.entry.tree.now look_ups.new) }
     ensures only { IfErr result (λ e. e ≡ CheckFault.ReadFault ⊎ e ≡ CheckFault.NoMemory) }
@@ -120,9 +114,9 @@ pub fn probe_rows<F: Files>(
     Ok(())
 }
 
-/// Judges a heap and an index of it together, in both of which nothing was found, and adds to the report what is found:
-/// first of the live rows (X1, U6), by rising TID, and then each entry of the index, killed or not, that names what no
-/// entry may name (X2), by block, item and place in the item.
+/// Judges a heap and an index of it together, in both of which nothing was found, by look-ups, and adds to the report
+/// what is found: first of the live rows (X1, U6), by rising TID, and then each entry of the index, killed or not, that
+/// names what no entry may name (X2), by block, item and place in the item.
 ///
 /// `ReadFault` comes only where the count of the files' faults rose, and `NoFile` and `TooLarge` never. After an error
 /// the report has a first part of what it would have got.
@@ -139,8 +133,8 @@ pub fn check_indexed<F: Files>(
     ensures only { IfErr result (λ e. e ≡ CheckFault.ReadFault ⊎ e ≡ CheckFault.NoMemory) }
     ensures asked { Asked F.seen files.old files.new result CheckFault.ReadFault }
 {
-    let mut look_ups = new_look_ups(alloc, at.heap.heap().blocks())?;
+    let mut look_ups = LookUps::new(alloc)?;
     probe_rows(alloc, files, at, &mut look_ups, report)?;
-    check_entries(files, at, report)?;
+    check_strays(alloc, files, at, report)?;
     Ok(())
 }

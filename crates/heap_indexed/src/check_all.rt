@@ -1,19 +1,21 @@
 //! The check of a heap against all its indexes.
 ghost use Rattle.std.specs.Prelude.{◌≡◌, ◌⊎◌, ◌+◌, ◌++◌, ◌∷◌, [], IfErr, IfOk, List, OnOk, length, map};
 ghost use Rattle.outside.specs.Outside.{Asked, IfTold, Names, Tells};
+ghost use Rattle.reports.specs.Added.{joined, nothing};
 ghost use Rattle.bt_levels.specs.Files.{number_of};
 ghost use Rattle.bt_levels.specs.Sound.{file_of};
-ghost use Rattle.heap_check.specs.declared.row_values.AskedColumns.{AskedColumns as Columns};
-ghost use Rattle.heap_check.specs.RowCursor.{AreAsked};
+ghost use Rattle.heap_check.specs.RowCursor.{AreAsked, asked_at};
+ghost use Rattle.heap_check.specs.declared.row_cursor.RowCursor.{RowCursor as Cursor};
 ghost use Rattle.indexed_rules.specs.Lists.{indexed_lists};
-ghost use Rattle.heap_check.specs.declared.rows.LiveRow.{LiveRow as Row};
-ghost use Rattle.heap_indexed.specs.Joins.{BelongToIt, EachFor, HasPagesOf, HoldIt, IsReady, IsThrough};
-ghost use Rattle.heap_indexed.specs.Joins.{columns_of_all};
-ghost use Rattle.heap_indexed.specs.Waiting.{columns_in};
+ghost use Rattle.heap_indexed.specs.Joined.{BelongTogether, HoldTogether};
+ghost use Rattle.heap_indexed.specs.Meetings.{AreFirsts, AreInWork, BelongToIt, HoldIt, columns_of_all};
+ghost use Rattle.heap_indexed.specs.Rows.{columns_in};
 
-use crate::joined::IndexedTable;
-use crate::joins::Join;
-use crate::rows::columns_of;
+use crate::check::check_indexed;
+use crate::joined::{IndexedHeap, IndexedTable};
+use crate::keys::columns_of;
+use crate::meeting::Meeting;
+use crate::ranges::Ranges;
 use bt_levels::SoundTree;
 use heap_check::RowCursor;
 use key_orders::KeySpec;
@@ -22,6 +24,9 @@ use reports::{CheckFault, PageFault, Report};
 use root_set::set_tells_of_pages;
 use std::alloc::Global;
 use std::collections::VecDeque;
+
+// The rows of a heap of fewer blocks are looked up.
+const MEET_BLOCKS: u32 = 64;
 
 // Puts the columns of a key behind others.
 fn push_columns(alloc: Global, columns: &mut Vec<u16>, specs: &[KeySpec]) -> Result<(), NoMemory>
@@ -50,22 +55,32 @@ fn next_first(first: usize, specs: &[KeySpec]) -> Result<usize, NoMemory>
     first.checked_add(specs.len()).ok_or(NoMemory)
 }
 
-// What is in work for each index before the first row of a heap of so many blocks.
-fn new_joins(alloc: Global, blocks: u32, trees: &[SoundTree]) -> Result<Vec<Join>, NoMemory>
-    ensures ready { IfOk result (λ joins. (asked : Columns) → AreAsked (columns_of_all trees.now) asked
-        → EachFor (IsReady asked) trees.now joins.items) }
-    ensures pages { IfOk result (λ joins. (names : Names) → EachFor (HasPagesOf names) trees.now joins.items) }
-    ensures done { IfOk result (λ joins. (names : Names) (rows : List Row)
-        → EachFor (IsThrough names [] rows) trees.now joins.items) }
+// Where the columns of each key begin among those of all keys.
+fn firsts_of(alloc: Global, trees: &[SoundTree]) -> Result<Vec<usize>, NoMemory>
+    ensures { IfOk result (λ firsts. (cursor : Cursor) → AreAsked (columns_of_all trees.now) (asked_at cursor)
+        → AreFirsts firsts.items trees.now cursor) }
 {
-    let mut joins = Vec::new(alloc);
+    let mut firsts = Vec::new(alloc);
     let mut first = 0;
     for j in 0..trees.len() {
-        let join = Join::new(alloc, blocks, first)?;
-        joins.push(join)?;
+        firsts.push(first)?;
         first = next_first(first, trees[j].specs())?;
     }
-    Ok(joins)
+    Ok(firsts)
+}
+
+// What is in work for each index before the first row.
+fn new_meetings(alloc: Global, trees: &[SoundTree]) -> Result<Vec<Meeting>, NoMemory>
+    ensures count { IfOk result (λ meetings. length meetings.items ≡ length trees.now) }
+    ensures work { IfOk result (λ meetings. (names : Names)
+        → AreInWork names (λ tree. nothing) (λ tree. nothing) [] trees.now meetings.items) }
+{
+    let mut meetings = Vec::new(alloc);
+    for j in 0..trees.len() {
+        let meeting = Meeting::new(alloc)?;
+        meetings.push(meeting)?;
+    }
+    Ok(meetings)
 }
 
 // Puts a report behind others.
@@ -76,19 +91,20 @@ fn push_report(reports: &mut VecDeque<Report>, report: Report) -> Result<(), NoM
     Ok(())
 }
 
-// The reports of what was in work.
-fn reports_of(alloc: Global, joins: Vec<Join>) -> Result<VecDeque<Report>, NoMemory>
-    ensures { IfOk result (λ reports. reports.items ≡ map (λ join. join.report) joins.items) }
+// What was found for each index.
+fn reports_of(alloc: Global, meetings: Vec<Meeting>) -> Result<VecDeque<Report>, NoMemory>
+    ensures { IfOk result (λ reports. reports.items ≡ map (λ m. joined m.rows m.entries) meetings.items) }
 {
     let mut reports = VecDeque::new(alloc);
-    for join in joins {
-        push_report(&mut reports, join.report)?;
+    for meeting in meetings {
+        let report = meeting.report()?;
+        push_report(&mut reports, report)?;
     }
     Ok(reports)
 }
 
-// The report of each index.
-fn reports_on<F: Files>(
+// The report of each index, told by entries that meet rows.
+fn meet_all<F: Files>(
     alloc: Global,
     files: &mut F,
     at: IndexedTable<'_>,
@@ -101,19 +117,86 @@ fn reports_on<F: Files>(
 {
     set_tells_of_pages();
     at.case.sound();
-    let mut joins = new_joins(alloc, at.heap.heap().blocks(), at.trees)?;
+    let mut meetings = new_meetings(alloc, at.trees)?;
+    let firsts = firsts_of(alloc, at.trees)?;
     let columns = columns_of_all(alloc, at.trees)?;
     let mut cursor = RowCursor::new(alloc, at.case, at.heap, &columns)?;
-    at.judge_rows(alloc, files, &mut joins, &mut cursor)?;
-    at.finish(files, &mut joins, at.heap.targets())?;
-    let reports = reports_of(alloc, joins)?;
+    let ranges = Ranges {
+        at,
+        firsts: &firsts,
+    };
+    ranges.judge_all(files, &mut meetings, &mut cursor)?;
+    let reports = reports_of(alloc, meetings)?;
+    Ok(reports)
+}
+
+/// Judges a heap together with each of these indexes of it, in all of which nothing was found, and gives a report for
+/// each, in their order: that which [`check_indexed`] adds. Here the rows of a range of blocks are kept by their roots,
+/// each with its key, and the entries of each index meet them, in whatever order these stand: so each row of the heap is
+/// read once for all indexes, and again only in a range with a row that no entry met.
+///
+/// `ReadFault` comes only where the count of the files' faults rose, and `NoFile` and `TooLarge` never.
+pub fn meet_indexes<F: Files>(
+    alloc: Global,
+    files: &mut F,
+    at: IndexedTable<'_>,
+) -> Result<VecDeque<Report>, CheckFault>
+    requires belong { BelongToIt at }
+    requires hold { IfTold F.seen files.old (λ names. HoldIt names at) }
+    ensures reports { Tells F.seen files.old result (λ reports names. reports.items
+        ≡ map (λ tree. indexed_lists at.entry.case.now names (number_of (file_of tree))) at.entry.trees.now) }
+    ensures only { IfErr result (λ e. e ≡ CheckFault.ReadFault ⊎ e ≡ CheckFault.NoMemory) }
+    ensures asked { Asked F.seen files.old files.new result CheckFault.ReadFault }
+{
+    let reports = meet_all(alloc, files, at)?;
+    Ok(reports)
+}
+
+// The report on one index, told by look-ups.
+fn probe_index<F: Files>(
+    alloc: Global,
+    files: &mut F,
+    at: IndexedHeap<'_>,
+) -> Result<Report, CheckFault>
+    requires belong { BelongTogether at.case.now at.heap.now at.tree.now }
+    requires hold { IfTold F.seen files.old (λ names. HoldTogether names at.case.now at.heap.now at.tree.now) }
+    ensures report { Tells F.seen files.old result (λ report names.
+        report ≡ indexed_lists at.entry.case.now names (number_of (file_of at.entry.tree.now))) }
+    ensures only { IfErr result (λ e. e ≡ CheckFault.ReadFault ⊎ e ≡ CheckFault.NoMemory) }
+    ensures asked { Asked F.seen files.old files.new result CheckFault.ReadFault }
+{
+    let mut report = Report::new(alloc);
+    check_indexed(alloc, files, at, &mut report)?;
+    Ok(report)
+}
+
+// The report of each index, told by look-ups.
+fn probe_indexes<F: Files>(
+    alloc: Global,
+    files: &mut F,
+    at: IndexedTable<'_>,
+) -> Result<VecDeque<Report>, CheckFault>
+    requires belong { BelongToIt at }
+    requires hold { IfTold F.seen files.old (λ names. HoldIt names at) }
+    ensures reports { Tells F.seen files.old result (λ reports names. reports.items
+        ≡ map (λ tree. indexed_lists at.entry.case.now names (number_of (file_of tree))) at.entry.trees.now) }
+    ensures only { IfErr result (λ e. e ≡ CheckFault.ReadFault ⊎ e ≡ CheckFault.NoMemory) }
+    ensures asked { Asked F.seen files.old files.new result CheckFault.ReadFault }
+{
+    let IndexedTable { case, heap, trees } = at;
+    let mut reports = VecDeque::new(alloc);
+    for j in 0..trees.len() {
+        let tree = &trees[j];
+        let report = probe_index(alloc, files, IndexedHeap { case, heap, tree })?;
+        push_report(&mut reports, report)?;
+    }
     Ok(reports)
 }
 
 /// Judges a heap together with each of these indexes of it, in all of which nothing was found, and gives a report for
 /// each, in their order: first what is found of the live rows (X1, U6), by rising TID, and then each entry of the
-/// index, killed or not, that names what no entry may name (X2), by block, item and place in the item. That is what
-/// [`check_indexed`](crate::check_indexed) adds for each; here each row of the heap is read once for all of them.
+/// index, killed or not, that names what no entry may name (X2), by block, item and place in the item. The rows of a
+/// heap of fewer than 64 blocks are looked up ([`check_indexed`]), and those of a larger one are met ([`meet_indexes`]).
 ///
 /// `ReadFault` comes only where the count of the files' faults rose, and `NoFile` and `TooLarge` never.
 pub fn check_indexes<F: Files>(
@@ -128,6 +211,9 @@ pub fn check_indexes<F: Files>(
     ensures only { IfErr result (λ e. e ≡ CheckFault.ReadFault ⊎ e ≡ CheckFault.NoMemory) }
     ensures asked { Asked F.seen files.old files.new result CheckFault.ReadFault }
 {
-    let reports = reports_on(alloc, files, at)?;
-    Ok(reports)
+    if at.heap.heap().blocks() < MEET_BLOCKS {
+        probe_indexes(alloc, files, at)
+    } else {
+        meet_indexes(alloc, files, at)
+    }
 }

@@ -1,17 +1,19 @@
-//! A heap and an index of it together: each live tuple is looked up in the index under its own key (X1, U6), and
-//! each entry of the index is asked what it names in the heap (X2).
+//! A heap and an index of it together: each live tuple has an entry in the index under its own key (X1, U6), and
+//! each entry of the index names what it may name in the heap (X2).
+//!
+//! There are two ways to tell. Rows are looked up one by one ([`check_indexed`], [`probe_rows`]), or the rows of a
+//! range of blocks are kept and the entries of the index meet them ([`meet_indexes`]). [`check_indexes`] takes the one
+//! that is faster for the heap's size.
 #![tactic(auto)]
 
 mod check;
 mod check_all;
-mod in_step;
 mod joined;
-mod joins;
-mod nearness;
-mod prober;
-mod rows;
-mod waiting;
+mod keys;
+mod meeting;
+mod ranges;
+mod row_judge;
 
 pub use check::{check_indexed, probe_rows};
-pub use check_all::check_indexes;
+pub use check_all::{check_indexes, meet_indexes};
 pub use joined::{IndexedHeap, IndexedTable, LookUps};

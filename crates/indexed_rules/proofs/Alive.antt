@@ -39,7 +39,7 @@ module _ (specs : List KeySpec) (total : IsTotalOrder (compare_keys (columns_of 
   some-is h = cc
 
   -- an entry that passes the test
-  passed : (e : Entry Value Tid) → is_alive_of specs key tid e ≡ true → IsSought key tid e × (e.killed ≡ false)
+  pub passed : (e : Entry Value Tid) → is_alive_of specs key tid e ≡ true → IsSought key tid e × (e.killed ≡ false)
   passed e t =
       let live = and_parts (not e.killed) _ t in
       let apart = and_parts (not (is_lt (order (as_separator e) sought-of))) _ live.1 in
@@ -49,7 +49,7 @@ module _ (specs : List KeySpec) (total : IsTotalOrder (compare_keys (columns_of 
       )
 
   -- an entry that is sought passes it
-  passes : (e : Entry Value Tid) → IsSought key tid e → e.killed ≡ false → is_alive_of specs key tid e ≡ true
+  pub passes : (e : Entry Value Tid) → IsSought key tid e → e.killed ≡ false → is_alive_of specs key tid e ≡ true
   passes e s alive =
       let is : as_separator e ≡ sought-of = λ i. record { kept = s.values i; tid = Some (s.tid_is i) } in
       let equal : order (as_separator e) sought-of ≡ Equal = (same (as_separator e) sought-of).1 is in

@@ -1,12 +1,10 @@
-//! The tests of the crates of values, attributes and keys: `key_orders`, `key_runs` and `varlena_attrs`.
+//! The tests of the crates of values, attributes and keys: `key_orders` and `varlena_attrs`.
 #![tactic(auto)]
 
 #[cfg(test)]
 mod checks;
 #[cfg(test)]
 mod key_attrs_tests;
-#[cfg(test)]
-mod key_runs_tests;
 #[cfg(test)]
 mod keys_tests;
 #[cfg(test)]

@@ -13,7 +13,7 @@ ghost use Rattle.leaf_meets.specs.Meeting.{HaveMet, leaf_keys};
 
 use bt_steps::is_live_leaf;
 use bt_tuples::{Spot3, TidList, TreeItem, plain_entry, tree_item};
-use key_orders::{KeyRefs, KeySpec};
+use key_orders::{KeyRefs, KeySpec, Tid};
 use page_layout::{PageKind, PageView};
 use row_slots::RowSlots;
 use tree_image::first_data;
@@ -85,16 +85,22 @@ fn meet_item(slots: &mut RowSlots, specs: &[KeySpec], page: PageView<'_>, i: u16
 }
 
 // Reads what the looks for the rows that a page's items name will read, all at once, so that none of them waits for
-// the one before.
+// the one before. No page has more entries of one TID each.
 fn touch_rows(slots: &mut RowSlots, page: PageView<'_>)
     requires { page_rule_of PageKind.Tree (page_bytes page) ≡ None }
     ensures { slots.new ≡ slots.old }
 {
+    let mut tids = [Tid { block: 0, item: 0 }; 512];
+    let mut count = 0;
     for k in 0..page.item_count() {
         if let Some(entry) = plain_entry(page, k + 1) {
-            slots.touch(entry.tid);
+            if count < tids.len() {
+                tids[count] = entry.tid;
+                count += 1;
+            }
         }
     }
+    slots.touch(&tids[..count]);
 }
 
 // Meets the rows that the data items of a leaf name.

@@ -10,7 +10,9 @@ ghost use Rattle.row_slots.specs.Told.{TellsKey};
 
 use crate::bits::are_all_set;
 use crate::blocks::add_block_in;
-use crate::slots::{Kept, find, is_kept_in, is_met_in, meet_in, meet_plain_in, put_at};
+use crate::slots::{
+    Kept, bytes_at, find, is_kept_in, is_met_in, meet_in, meet_plain_in, places_of, put_at,
+};
 use key_orders::{KeyRefs, KeySpec, Tid};
 use outside::NoMemory;
 use std::alloc::Global;
@@ -116,18 +118,19 @@ impl RowSlots {
         Ok(true)
     }
 
-    /// Reads what a look for the row that is rooted at a line pointer will read, so that it is at hand then.
-    #[inline]
-    pub fn touch(&mut self, tid: Tid)
+    /// Reads what looks for the rows that are rooted at these line pointers will read, of the first 512 of them, so that
+    /// it is at hand then: first all slots and then all keys, so that none of them is waited for alone.
+    pub fn touch(&mut self, tids: &[Tid])
         ensures { self.new ≡ self.old }
     {
-        if let Some(slot) = find(self.first, &self.starts, tid) {
-            if let Some(place) = self.records.get(slot) {
-                if let Some(byte) = self.arena.get(*place as usize) {
-                    self.touched ^= *byte;
-                }
-            }
-        }
+        let kept = Kept {
+            first: self.first,
+            starts: &self.starts,
+            records: &self.records,
+            arena: &self.arena,
+        };
+        let places = places_of(kept, tids);
+        self.touched ^= bytes_at(&self.arena, &places);
     }
 
     /// Meets the row that is rooted at a line pointer, if there is one and its values are these: numbers that are

@@ -57,6 +57,41 @@ fn bytes_from(arena: &[u8], at: u32) -> &[u8]
     }
 }
 
+/// Of how many line pointers at a time slots and keys are read ahead.
+const AHEAD: usize = 512;
+
+// What the slot of a line pointer says, 0 where there is none.
+#[inline]
+fn place_of(kept: Kept<'_>, tid: Tid) -> u32 {
+    let Some(slot) = find(kept.first, kept.starts, tid) else {
+        return 0;
+    };
+    match kept.records.get(slot) {
+        Some(place) => *place,
+        None => 0,
+    }
+}
+
+/// What the slots of the first line pointers say.
+pub(crate) fn places_of(kept: Kept<'_>, tids: &[Tid]) -> [u32; AHEAD] {
+    let mut places = [0u32; AHEAD];
+    for (place, tid) in places.iter_mut().zip(tids.iter()) {
+        *place = place_of(kept, *tid);
+    }
+    places
+}
+
+/// The bytes at these places, all in one.
+pub(crate) fn bytes_at(arena: &[u8], places: &[u32; AHEAD]) -> u8 {
+    let mut all = 0u8;
+    for place in places.iter() {
+        if let Some(byte) = arena.get(*place as usize) {
+            all ^= *byte;
+        }
+    }
+    all
+}
+
 // Whether a slot says that this key lies in the arena.
 #[inline]
 #[tactic(auto, unfolding(crate::specs::Slots::key_of))]

@@ -8,7 +8,7 @@ use bt_search::{PageCache, Visits, probe};
 use bt_steps::Sought;
 use case_file::Case;
 use heap_check::{LiveRows, SoundHeap};
-use heap_indexed::{IndexedHeap, LookUps, check_indexed, probe_rows};
+use heap_indexed::{IndexedHeap, IndexedTable, LookUps, check_indexed, meet_indexes, probe_rows};
 use key_orders::{KeyRefs, Octets, Tid, ValueRef, fits_columns};
 use reports::Report;
 use std::alloc::Global;
@@ -37,7 +37,7 @@ const NUMBERS: Table = Table {
     wrong: Wrong::Nothing,
 };
 
-// A heap of a hundred blocks, whose rows are looked up in runs.
+// A heap of a hundred blocks.
 const TEXTS: Table = Table {
     kind: Kind::Text,
     across: 100,
@@ -102,15 +102,28 @@ fn reported(alloc: Global, table: Table) -> Result<(Octets, u64), Fail> {
     Ok((report.text(alloc)?, files.reads.saturating_sub(before)))
 }
 
+// The report on a heap and its index together, told by entries that meet rows.
+fn met(alloc: Global, table: Table) -> Result<Octets, Fail> {
+    let (mut files, case, heap, tree) = open(alloc, table)?;
+    let mut trees = Vec::new(alloc);
+    trees.push(tree)?;
+    let at = IndexedTable {
+        case: &case,
+        heap: &heap,
+        trees: &trees,
+    };
+    let mut reports = meet_indexes(alloc, &mut files, at)?;
+    let report = reports.pop_front().ok_or("no report")?;
+    Ok(report.text(alloc)?)
+}
+
 // How many visits the look-ups of a heap's rows take through a cache of one page, where nothing is found.
 fn visits_of(alloc: Global, table: Table) -> Result<u64, Fail> {
     let (mut files, case, heap, tree) = open(alloc, table)?;
     let mut report = Report::new(alloc);
     let mut look_ups = LookUps {
         cache: PageCache::new(alloc, 1)?,
-        hand: None,
         visits: Visits { count: 0 },
-        saved: 0,
     };
     let at = IndexedHeap {
         case: &case,
@@ -184,7 +197,7 @@ fn a_row_is_looked_up_in_three_reads(rt: HostRuntime) -> Result<(), Fail> {
 }
 
 #[test]
-fn rows_of_many_blocks(rt: HostRuntime) -> Result<(), Fail> {
+fn rows_of_many_blocks_by_look_ups_and_by_entries(rt: HostRuntime) -> Result<(), Fail> {
     let found = "\nfindings 1 unjudged 0\nverdict findings\n";
     let packed = "unjudged U6 index 1 tuple 99 10\nfindings 0 unjudged 1\nverdict unjudged\n";
     let rows = [
@@ -206,9 +219,10 @@ fn rows_of_many_blocks(rt: HostRuntime) -> Result<(), Fail> {
     ];
     for (wrong, first, rest) in rows {
         let alloc = rt.alloc();
-        let text = reported(alloc, Table { wrong, ..TEXTS })?.0;
+        let table = Table { wrong, ..TEXTS };
         let want = format!(in alloc; "{first}{rest}")?;
-        assert_eq!(rt; text.as_slice(), want.as_bytes());
+        assert_eq!(rt; reported(alloc, table)?.0.as_slice(), want.as_bytes());
+        assert_eq!(rt; met(alloc, table)?.as_slice(), want.as_bytes());
     }
     Ok(())
 }

@@ -1,22 +1,22 @@
 //! The live rows of files in memory.
+ghost use Rattle.std.specs.Prelude.{◌≡◌};
 ghost use Rattle.heap_files.specs.Files.{BelongTo, files_of};
+ghost use Rattle.heap_check.specs.RowCursor.{heap_at};
 
 use crate::sound::sound_heap;
 use case_file::Case;
 use heap_check::{Cell, LiveRow, LiveRows, RowCursor, RowPlace, SoundHeap};
-use key_orders::{Tid, Value, ValueRef};
+use key_orders::{Tid, Value};
 use outside::Part;
 use std::alloc::Global;
 use std::test::Fail;
 use test_files::{HeapHead, UntoldFiles, case_with, heap_page};
 
-// A table of one text column, with a TOAST table, and one of a column of numbers.
+// A table of one text column, with a TOAST table.
 const TEXTS: &str =
     "toast_file = \"tt\"\ntoast_oid = 16400\n[[column]]\nname = \"a\"\ntype = \"text\"\n";
 
-const NUMBERS: &str = "[[column]]\nname = \"a\"\ntype = \"int4\"\n";
-
-// The one row of each table.
+// Its one row.
 const FIRST: RowPlace = RowPlace {
     tid: Tid { block: 0, item: 1 },
     root: Tid { block: 0, item: 1 },
@@ -105,66 +105,36 @@ fn a_value_in_the_toast_table_is_joined(rt: HostRuntime) -> Result<(), Fail> {
     Ok(())
 }
 
-// A cursor over the first column, before the first row.
-fn cursor_of<'a>(
-    alloc: Global,
+// The first row of block 0, and whether it is the only one.
+fn first_of_block(
     files: &mut UntoldFiles,
-    case: &'a Case,
-    heap: &'a SoundHeap,
-) -> Result<RowCursor<'a>, Fail>
-    requires { BelongTo case.now (files_of heap.now) }
+    cursor: &mut RowCursor<'_>,
+    heap: &SoundHeap,
+) -> Result<(Option<RowPlace>, bool), Fail>
+    requires { heap_at cursor.old ≡ heap.now }
+    ensures { heap_at cursor.new ≡ heap.now }
 {
-    if case.columns().is_empty() {
-        return Err("no column".into());
+    cursor.go_to(0);
+    if heap.heap().blocks() == 0 {
+        return Ok((None, false));
     }
-    let mut cursor = RowCursor::new(alloc, case, heap, &[0])?;
-    cursor.find(files)?;
-    Ok(cursor)
-}
-
-// Whether the next row is at this place, and has this text as its bytes lie.
-fn is_told(cursor: &RowCursor<'_>, place: RowPlace, text: &[u8]) -> bool {
-    let Some(found) = cursor.place_after(cursor.done()) else {
-        return false;
-    };
-    match cursor.value_after(cursor.done(), 0) {
-        Some(ValueRef::Bytes(bytes)) => found == place && bytes == text,
-        _ => false,
+    cursor.take_block(files)?;
+    let found = cursor.find_in_block(files)?;
+    if let Some(_) = found {
+        cursor.pass();
     }
+    let next = cursor.find_in_block(files)?;
+    Ok((found, next.is_none()))
 }
 
 #[test]
-fn a_row_is_told_as_its_bytes_lie(rt: HostRuntime) -> Result<(), Fail> {
+fn a_block_is_gone_over_again(rt: HostRuntime) -> Result<(), Fail> {
     let alloc = rt.alloc();
     let mut files = files_of(alloc, page(alloc, 0x0902, 1, b"\x07ab")?, Vec::new(alloc))?;
     let case = case_with(alloc, TEXTS).ok_or("refused")?;
     let heap = sound_heap(alloc, &mut files, &case)?;
-    let mut cursor = cursor_of(alloc, &mut files, &case, &heap)?;
-    assert!(rt; is_told(&cursor, FIRST, b"ab"));
-    assert_eq!(rt; cursor.pass_live(2), 1);
-    assert!(rt; cursor.find(&mut files)?.is_none());
-    Ok(())
-}
-
-// Whether the next row has these bytes at a fixed place.
-fn is_fixed(cursor: &RowCursor<'_>, want: &[u8]) -> bool {
-    let (Some(_), Some(column)) = (cursor.place_after(cursor.done()), cursor.fixed_column(0)) else {
-        return false;
-    };
-    match cursor.fixed_value_after(cursor.done(), column) {
-        Some(bytes) => bytes == want,
-        None => false,
-    }
-}
-
-#[test]
-fn a_number_is_told_at_its_place(rt: HostRuntime) -> Result<(), Fail> {
-    let alloc = rt.alloc();
-    let heap = page(alloc, 0x0900, 1, b"\x07\0\0\0")?;
-    let mut files = files_of(alloc, heap, Vec::new(alloc))?;
-    let case = case_with(alloc, NUMBERS).ok_or("refused")?;
-    let heap = sound_heap(alloc, &mut files, &case)?;
-    let cursor = cursor_of(alloc, &mut files, &case, &heap)?;
-    assert!(rt; is_fixed(&cursor, b"\x07\0\0\0"));
+    let mut cursor = RowCursor::new(alloc, &case, &heap, &[])?;
+    assert!(rt; first_of_block(&mut files, &mut cursor, &heap)? == (Some(FIRST), true));
+    assert!(rt; first_of_block(&mut files, &mut cursor, &heap)? == (Some(FIRST), true));
     Ok(())
 }

@@ -6,8 +6,6 @@ mod block_sets;
 #[cfg(test)]
 mod caches;
 #[cfg(test)]
-mod hands;
-#[cfg(test)]
 mod images;
 #[cfg(test)]
 mod items;

@@ -1,9 +1,10 @@
 //! The entries of a leaf of four, against a page of a heap.
 use crate::trees::SmallIndex;
-use index_targets::check_targets;
+use index_targets::check_entries;
 use page_layout::{PageKind, PageView};
 use reports::Report;
 use root_set::RootSet;
+use row_slots::RowSlots;
 use std::alloc::Global;
 use std::test::Fail;
 use test_files::Page;
@@ -32,7 +33,8 @@ fn strays(alloc: Global, flags: [u8; 4]) -> Result<(u64, u64), Fail> {
     }
     let (mut files, tree) = SmallIndex::Listed.open(alloc)?;
     let mut report = Report::new(alloc);
-    check_targets(&mut files, &tree, &targets, &mut report)?;
+    let mut slots = RowSlots::new(alloc, 0)?;
+    check_entries(&mut files, &tree, Some(&targets), &mut slots, &mut report)?;
     Ok(report.counts())
 }
 

@@ -1,8 +1,7 @@
-use Rattle.std.proofs.Common.{◌≡◌, ◌∙◌, Bool, true, List, [], ◌∷◌, refl, ap, sym}
+use Rattle.std.proofs.Common.{◌≡◌, ◌∙◌, ap, sym}
 use Rattle.std.specs.Prelude.{Option, Some, is_some, map}
 use Rattle.std.specs.Option.{option_copied}
 use Rattle.heap_files.specs.declared.files.SoundHeap.{SoundHeap}
-use Rattle.indexed_rules.specs.Lists.{indexed_lists}
 use Rattle.amcheck.specs.Tables.{case_seen, heap_seen}
 use Rattle.amcheck.specs.Together.{joint_lists, tree_number}
 use Rattle.amcheck.proofs.TogetherLaws.{all-beside, hold-beside}

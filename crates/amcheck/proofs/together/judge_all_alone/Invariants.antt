@@ -1,4 +1,4 @@
-use Rattle.std.proofs.Common.{◌≡◌, ◌++◌, List, length}
+use Rattle.std.proofs.Common.{length}
 use Rattle.std.specs.Prelude.{All}
 use Rattle.outside.specs.Outside.{IfTold, Passed}
 use Rattle.bt_levels.specs.Files.{BelongsTo, IsFileOf}

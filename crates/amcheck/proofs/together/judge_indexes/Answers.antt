@@ -1,6 +1,5 @@
 use Rattle.std.proofs.Common.{◌≡◌, ◌∙◌, Bool, List, ap, sym, subst}
 use Rattle.std.specs.Prelude.{All, is_some, map}
-use Rattle.reports.specs.Added.{joined}
 use Rattle.bt_levels.specs.Files.{IsFileOf}
 use Rattle.bt_levels.specs.Sound.{HoldsTree, file_of}
 use Rattle.bt_levels.specs.declared.sound.SoundTree.{SoundTree}

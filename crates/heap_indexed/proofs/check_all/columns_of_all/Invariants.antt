@@ -1,6 +1,6 @@
 use Rattle.std.proofs.Common.{◌≡◌}
 use Rattle.std.specs.Prelude.{take}
-use Rattle.heap_indexed.specs.Joins.{columns_of_all}
+use Rattle.heap_indexed.specs.Meetings.{columns_of_all}
 use Rattle.heap_indexed.proofs.check_all.columns_of_all.Given as goal
 
 -- the columns of the indexes so far

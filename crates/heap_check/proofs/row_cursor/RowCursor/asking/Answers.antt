@@ -5,7 +5,7 @@ use Rattle.heap_files.specs.Files.{chunks_in, toast_in}
 use Rattle.heap_check.specs.RowValues.{AreStarts}
 use Rattle.heap_check.proofs.QuietHeap.{nothing_in_hand}
 use Rattle.heap_check.proofs.RowSources.{columns_readable}
-use Rattle.heap_check.proofs.RowSteps.{first_rows}
+use Rattle.heap_check.proofs.RowSteps.{first_rows, in_hand_done}
 use Rattle.heap_check.proofs.row_cursor.RowCursor.asking.Goals as goal
 
 pub returns-clause-all : goal.returns-clause-all
@@ -26,3 +26,6 @@ returns-clause-told c = λ names sound quiet. record {
   hand = nothing_in_hand c.args.case.now names (toast_in c.args.heap.now) (chunks_in c.args.heap.now) c.new-page.result c.new-page.ensures.count;
   next = λ found. absurd (false≢true (sym c.new-page.ensures.found ∙ found));
 }
+
+pub returns-clause-none : goal.returns-clause-none
+returns-clause-none c = λ names. in_hand_done c.args.case.now names c.new-page.result (omega (arith, c.new-page.ensures.count))

@@ -51,3 +51,15 @@ returns-clause-told g c = λ names told.
     let known = subst (λ (t : Table). AreKnown t c.args.self.now.next c.take.new.self) (heap_rules_are case names c.heap_rules-table.result rules.kind (rules.columns ∙ c.new-columns.ensures ∙ c.column_types.ensures) (ap toast_oid_seen rules.toast ∙ c.toast_table-toast.ensures.oid) (rules.logs ∙ here.logs)) (c.in_ok-take.ensures.known names told) in
     let load = loaded case names (toast_in heap) (chunks_in heap) c.take.new.self c.args.self.now.next here.quiet below here.belong.toast here.heap.chunks c.in_ok-take.ensures.block c.in_ok-take.ensures.done bytes known in
     moved names c.args.self.now c.take.new.self (c.args.self.now.next + 1) here c.take.ensures.few load.hand (λ yes. absurd (false≢true (sym c.take.ensures.found ∙ yes)))
+
+pub returns-clause-here : goal.returns-clause-here
+returns-clause-here g c = λ names told.
+    let here = c.requires.told names told in
+    let case = c.args.self.now.case.now in
+    let heap = heap_at c.args.self.now in
+    let rules = c.heap_rules-table.ensures in
+    let below = heap_count case names c.args.self.now.next (heap_in heap) here.heap.files.heap c.requires.inside in
+    let bytes = c.in_ok-take.ensures.bytes names told ∙ ap (λ (r : Relation). block_of names (base_of r) (size_of r) c.args.self.now.next) c.heap-2.ensures ∙ ap (λ (f : List ℕ). block_of names f (size_of (heap_in heap)) c.args.self.now.next) here.belong.heap.named ∙ ap (λ (n : ℕ). block_of names case.heap_file n c.args.self.now.next) here.belong.heap.sized in
+    let known = subst (λ (t : Table). AreKnown t c.args.self.now.next c.take.new.self) (heap_rules_are case names c.heap_rules-table.result rules.kind (rules.columns ∙ c.new-columns.ensures ∙ c.column_types.ensures) (ap toast_oid_seen rules.toast ∙ c.toast_table-toast.ensures.oid) (rules.logs ∙ here.logs)) (c.in_ok-take.ensures.known names told) in
+    let load = loaded case names (toast_in heap) (chunks_in heap) c.take.new.self c.args.self.now.next here.quiet below here.belong.toast here.heap.chunks c.in_ok-take.ensures.block c.in_ok-take.ensures.done bytes known in
+    load.rows

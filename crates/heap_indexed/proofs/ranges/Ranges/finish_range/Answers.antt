@@ -1,0 +1,82 @@
+use Rattle.std.proofs.Common.{◌≡◌, ◌∙◌, ◌-◌, List, [], get_or, refl, subst, sym, arith}
+use Rattle.std.specs.Option.{option_copied}
+use Rattle.std.proofs.lemmas.List.{length-set}
+use Rattle.outside.proofs.Asking.{Passed-next, Passed-none}
+use Rattle.case_file.specs.Record.{CaseRecord}
+use Rattle.bt_levels.specs.declared.sound.SoundTree.{SoundTree}
+use Rattle.heap_files.specs.declared.files.SoundHeap.{SoundHeap}
+use Rattle.reports.specs.Added.{joined}
+use Rattle.heap_check.specs.RowCursor.{next_in}
+use Rattle.heap_check.specs.declared.rows.LiveRow.{LiveRow}
+use Rattle.index_targets.specs.Passes.{strays_of}
+use Rattle.heap_indexed.specs.declared.meeting.Meeting.{Meeting}
+use Rattle.heap_indexed.specs.Joined.{HoldTogether}
+use Rattle.heap_indexed.specs.Meetings.{InWork}
+use Rattle.heap_indexed.specs.Rows.{owed_for, rows_from}
+use Rattle.heap_indexed.proofs.Each.{above-set, below-set, still-before}
+use Rattle.heap_indexed.proofs.Places.{index-at, same-table, same-then}
+use Rattle.heap_indexed.proofs.ranges.Ranges.finish_range.Goals as goal
+
+pub finish_range-requires-clause-index : goal.finish_range-requires-clause-index
+finish_range-requires-clause-index g c =
+    index-at c.args.self c.loop-j.cursor c.loop-j.j c.index_at.result (same-table c.args.self c.args.cursor.now c.loop-j.cursor c.loop-j.invariant.cursor c.requires.table) c.index_at.ensures (omega arith)
+
+pub finish_range-requires-clause-told : goal.finish_range-requires-clause-told
+finish_range-requires-clause-told g c = λ names told.
+    let inv = c.loop-j.invariant in
+    let at = c.args.self.at in
+    let index = c.index_at.result in
+    let tree : SoundTree = index.at.tree.now in
+    let before = c.requires.told names (sym inv.asked.same ∙ told) in
+    let hold : HoldTogether names at.case.now at.heap.now tree =
+    subst (λ (t : SoundTree). HoldTogether names at.case.now at.heap.now t) (sym c.index_at.ensures.tree) (before.hold.each c.loop-j.j tree (omega arith)) in
+    let rows : List LiveRow = rows_from at.case.now names c.args.first (next_in c.args.cursor.now - c.args.first) in
+    let same-rows : rows_from index.at.case.now names c.args.first (next_in c.loop-j.cursor - c.args.first) ≡ rows =
+    (λ i. rows_from (c.index_at.ensures.case i) names c.args.first (inv.next_block i - c.args.first)) in
+    record {
+      hold = subst (λ (case : CaseRecord). HoldTogether names case index.at.heap.now tree) (sym c.index_at.ensures.case)
+          (subst (λ (heap : SoundHeap). HoldTogether names at.case.now heap tree) (sym c.index_at.ensures.heap) hold);
+      behind = inv.behind names (sym inv.asked.same ∙ told);
+      done = before.done tree;
+      strays = before.strays tree;
+      work = subst (λ (rs : List LiveRow). InWork names (before.done tree) (before.strays tree) rs tree (get_or c.loop-j.meetings c.loop-j.j c.index-meetings-j.result)) (sym same-rows)
+          (still-before (λ (t : SoundTree) (m : Meeting). InWork names (before.done t) (before.strays t) rows t m) at.trees.now c.args.meetings.now c.loop-j.meetings c.loop-j.j inv.same before.work tree c.index-meetings-j.result c.index_at.ensures.tree (omega arith));
+    }
+
+pub loop-j-init : goal.loop-j-init
+loop-j-init g c = record {
+  many = c.requires.same;
+  behind = λ names told. (c.requires.told names told).behind;
+  same = λ k d le. refl;
+  done = λ names told done strays was k t d lt. absurd (omega arith);
+  next_block = refl;
+  cursor = record { case = refl; heap = refl; asked = refl };
+  asked = Passed-none;
+}
+
+pub loop-j-preserved : goal.loop-j-preserved
+loop-j-preserved g c =
+    let inv = c.loop-j.invariant in
+    let next = c.in_ok-finish_range.ensures in
+    let at = c.args.self.at in
+    let trees = at.trees.now in
+    let index = c.index_at.result in
+    let tree : SoundTree = index.at.tree.now in
+    let new = c.finish_range.new.self in
+    record {
+      many = length-set c.loop-j.meetings c.loop-j.j new ∙ inv.many;
+      behind = λ names told. next.behind names (inv.asked.same ∙ told);
+      same = above-set c.args.meetings.now c.loop-j.meetings c.loop-j.j new inv.same;
+      done = λ names told done strays was.
+          let rows : List LiveRow = rows_from at.case.now names c.args.first (next_in c.args.cursor.now - c.args.first) in
+          let same-rows : rows_from index.at.case.now names c.args.first (next_in c.loop-j.cursor - c.args.first) ≡ rows =
+          (λ i. rows_from (c.index_at.ensures.case i) names c.args.first (inv.next_block i - c.args.first)) in
+          below-set (λ (t : SoundTree) (m : Meeting). InWork names (joined (done t) (owed_for names t rows)) (joined (strays t) (strays_of names (option_copied c.args.targets) t)) [] t m) trees c.loop-j.meetings c.loop-j.j tree new inv.many c.index_at.ensures.tree (omega arith) (inv.done names told done strays was)
+          (subst (λ (rs : List LiveRow). InWork names (joined (done tree) (owed_for names tree rs)) (joined (strays tree) (strays_of names (option_copied c.args.targets) tree)) [] tree new) same-rows
+          (next.work names (inv.asked.same ∙ told) (done tree) (strays tree)
+          (subst (λ (rs : List LiveRow). InWork names (done tree) (strays tree) rs tree (get_or c.loop-j.meetings c.loop-j.j c.index-meetings-j.result)) (sym same-rows)
+          (still-before (λ (t : SoundTree) (m : Meeting). InWork names (done t) (strays t) rows t m) trees c.args.meetings.now c.loop-j.meetings c.loop-j.j inv.same was tree c.index-meetings-j.result c.index_at.ensures.tree (omega arith)))));
+      next_block = next.next_block ∙ inv.next_block;
+      cursor = same-then c.args.cursor.now c.loop-j.cursor c.finish_range.new.cursor inv.cursor next.same;
+      asked = Passed-next inv.asked next.asked;
+    }

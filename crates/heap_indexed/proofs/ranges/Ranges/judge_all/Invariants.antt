@@ -1,0 +1,23 @@
+use Rattle.std.proofs.Common.{◌≡◌, ◌≤◌, [], length}
+use Rattle.std.specs.Prelude.{Some}
+use Rattle.outside.specs.Outside.{IfTold, Passed}
+use Rattle.rel_files.specs.Relation.{count_of}
+use Rattle.heap_files.specs.Files.{heap_in, targets_in}
+use Rattle.heap_check.specs.RowCursor.{IsSameCursor, next_in}
+use Rattle.index_targets.specs.Passes.{strays_of}
+use Rattle.heap_indexed.specs.Judging.{IsBehind}
+use Rattle.heap_indexed.specs.Meetings.{AreInWork}
+use Rattle.heap_indexed.specs.Rows.{owed_for, rows_from}
+use Rattle.heap_indexed.proofs.ranges.Ranges.judge_all.Given as goal
+
+-- the rows of the blocks before the cursor's next were judged, and so were the entries; each range has a block
+abbrev pub invariant-loop-k : goal.invariant-loop-k
+invariant-loop-k g l = record {
+  many : length l.meetings ≡ length l.self.at.trees.now;
+  behind : IfTold g.F.Files.seen l.fn.files (λ names. IsBehind names l.cursor);
+  work : IfTold g.F.Files.seen l.fn.files (λ names. AreInWork names (λ tree. owed_for names tree (rows_from l.self.at.case.now names 0 (next_in l.cursor))) (λ tree. strays_of names (Some (targets_in l.self.at.heap.now)) tree) [] l.self.at.trees.now l.meetings);
+  onward : l.k ≤ count_of (heap_in l.self.at.heap.now) → l.k ≤ next_in l.cursor;
+  inside : next_in l.cursor ≤ count_of (heap_in l.self.at.heap.now);
+  cursor : IsSameCursor l.fn.cursor l.cursor;
+  asked : Passed g.F.Files.seen l.fn.files l.files;
+}

@@ -1,0 +1,46 @@
+use Rattle.std.proofs.Common.{◌∙◌, ◌-◌, ℕ, [], sym, subst}
+use Rattle.std.specs.Option.{option_copied}
+use Rattle.bt_levels.specs.declared.sound.SoundTree.{SoundTree}
+use Rattle.reports.specs.Added.{joined}
+use Rattle.heap_check.specs.RowCursor.{next_in}
+use Rattle.index_targets.specs.Passes.{strays_of}
+use Rattle.heap_indexed.specs.Meetings.{AreInWork}
+use Rattle.heap_indexed.specs.Rows.{owed_for, rows_from}
+use Rattle.heap_indexed.proofs.Places.{same-table}
+use Rattle.heap_indexed.proofs.ranges.Ranges.judge_range.Goals as goal
+
+pub keep_blocks-requires-clause-behind : goal.keep_blocks-requires-clause-behind
+keep_blocks-requires-clause-behind g c = λ names told. (c.requires.told names told).behind
+
+pub finish_range-requires-clause-table : goal.finish_range-requires-clause-table
+finish_range-requires-clause-table g c = same-table c.args.self c.args.cursor.now c.keep_blocks.new.cursor c.keep_blocks.ensures.cursor c.requires.table
+
+pub finish_range-requires-clause-told : goal.finish_range-requires-clause-told
+finish_range-requires-clause-told g c = λ names told.
+    let held = sym c.keep_blocks.ensures.asked.same ∙ told in
+    let before = c.requires.told names held in
+    let case = c.args.self.at.case.now in
+    record {
+      hold = before.hold;
+      behind = c.in_ok-keep_blocks.ensures.behind names held;
+      done = before.done;
+      strays = before.strays;
+      work = subst (λ (n : ℕ). AreInWork names before.done before.strays (rows_from case names n (next_in c.keep_blocks.new.cursor - n)) c.args.self.at.trees.now c.keep_blocks.new.meetings) (sym c.next_block-first.ensures)
+          (c.in_ok-keep_blocks.ensures.kept names held before.done before.strays before.work);
+    }
+
+pub returns-clause-work : goal.returns-clause-work
+returns-clause-work g c = λ names told done strays work.
+    let held = c.keep_blocks.ensures.asked.same ∙ told in
+    let case = c.args.self.at.case.now in
+    let trees = c.args.self.at.trees.now in
+    let first = c.next_block-first.result in
+    let mid = next_in c.keep_blocks.new.cursor in
+    let kept : AreInWork names done strays (rows_from case names first (mid - first)) trees c.keep_blocks.new.meetings =
+    subst (λ (n : ℕ). AreInWork names done strays (rows_from case names n (mid - n)) trees c.keep_blocks.new.meetings) (sym c.next_block-first.ensures) (c.in_ok-keep_blocks.ensures.kept names told done strays work) in
+    subst (λ (n : ℕ). AreInWork names (λ (tree : SoundTree). joined (done tree) (owed_for names tree (rows_from case names n (next_in c.finish_range.new.cursor - n)))) (λ (tree : SoundTree). joined (strays tree) (strays_of names (option_copied c.args.targets) tree)) [] trees c.finish_range.new.meetings) c.next_block-first.ensures
+    (subst (λ (m : ℕ). AreInWork names (λ (tree : SoundTree). joined (done tree) (owed_for names tree (rows_from case names first (m - first)))) (λ (tree : SoundTree). joined (strays tree) (strays_of names (option_copied c.args.targets) tree)) [] trees c.finish_range.new.meetings) (sym c.in_ok-finish_range.ensures.next_block)
+    (c.in_ok-finish_range.ensures.work names held done strays kept))
+
+pub returns-clause-behind : goal.returns-clause-behind
+returns-clause-behind g c = λ names told. c.in_ok-finish_range.ensures.behind names (c.keep_blocks.ensures.asked.same ∙ told)

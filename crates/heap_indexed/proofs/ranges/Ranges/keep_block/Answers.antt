@@ -1,0 +1,40 @@
+use Rattle.std.proofs.Common.{◌≡◌, ◌∙◌, ◌≤◌, ◌++◌, List, length, ap, sym, subst}
+use Rattle.std.proofs.lemmas.Result.{on_ok_weaker}
+use Rattle.case_file.specs.Record.{CaseRecord}
+use Rattle.heap_check.specs.RowCursor.{case_at, next_in, rows_here}
+use Rattle.heap_check.specs.Rows.{block_rows}
+use Rattle.heap_check.specs.declared.rows.LiveRow.{LiveRow}
+use Rattle.heap_indexed.specs.Meetings.{AreInWork}
+use Rattle.heap_indexed.proofs.Pages.{block-few}
+use Rattle.heap_indexed.proofs.Places.{same-table}
+use Rattle.heap_indexed.proofs.ranges.Ranges.keep_block.Goals as goal
+
+pub take_block-requires-clause-told : goal.take_block-requires-clause-told
+take_block-requires-clause-told g c = λ names told. (c.requires.behind names told).cursor_of
+
+pub take_block-requires-clause-done : goal.take_block-requires-clause-done
+take_block-requires-clause-done g c = λ names told. (c.requires.behind names told).none
+
+pub keep_rows-requires-clause-table : goal.keep_rows-requires-clause-table
+keep_rows-requires-clause-table g c = same-table c.args.self c.args.cursor.now c.take_block.new.self c.take_block.ensures.same c.requires.table
+
+pub keep_rows-requires-clause-told : goal.keep_rows-requires-clause-told
+keep_rows-requires-clause-told g c = λ names told. c.take_block.ensures.told names (sym c.take_block.ensures.asked.same ∙ told)
+
+pub keep_rows-requires-clause-few : goal.keep_rows-requires-clause-few
+keep_rows-requires-clause-few g c = λ names told.
+    let before = sym c.take_block.ensures.asked.same ∙ told in
+    subst (λ (rs : List LiveRow). length rs ≤ 2042) (sym (c.in_ok-items.ensures.here names before))
+    (block-few (case_at c.args.cursor.now) names (next_in c.args.cursor.now))
+
+pub returns-clause-kept : goal.returns-clause-kept
+returns-clause-kept g c = λ names told.
+    let same = c.take_block.ensures.asked.same ∙ told in
+    let first = next_in c.args.cursor.now in
+    let here : rows_here names c.take_block.new.self ≡ block_rows c.args.self.at.case.now names first =
+    c.in_ok-items.ensures.here names told ∙ ap (λ (case : CaseRecord). block_rows case names first) c.requires.table.case in
+    on_ok_weaker c.keep_rows.result
+    (λ kept done strays range work.
+    subst (λ (rs : List LiveRow). AreInWork names done strays (range ++ rs) c.args.self.at.trees.now c.keep_rows.new.meetings) here
+    (kept done strays range (c.in_ok-add_block.ensures names done strays range work)))
+    (c.keep_rows.ensures.kept names same)

@@ -1,0 +1,67 @@
+use Rattle.std.proofs.Common.{◌≡◌, ◌∙◌, ◌+◌, ◌-◌, ◌++◌, ℕ, List, refl, ap, sym, subst, arith}
+use Rattle.outside.proofs.Asking.{Passed-next, Passed-none}
+use Rattle.heap_check.specs.RowCursor.{next_in}
+use Rattle.heap_check.specs.Rows.{block_rows}
+use Rattle.heap_check.specs.declared.rows.LiveRow.{LiveRow}
+use Rattle.heap_indexed.specs.Meetings.{AreInWork}
+use Rattle.heap_indexed.specs.Rows.{rows_from}
+use Rattle.heap_indexed.proofs.Owed.{rows-next, rows-none}
+use Rattle.heap_indexed.proofs.Places.{same-table, same-then}
+use Rattle.heap_indexed.proofs.ranges.Ranges.keep_blocks.Goals as goal
+
+pub keep_block-requires-clause-table : goal.keep_block-requires-clause-table
+keep_block-requires-clause-table g c = same-table c.args.self c.args.cursor.now c.loop-k.cursor c.loop-k.invariant.same c.requires.table
+
+pub keep_block-requires-clause-behind : goal.keep_block-requires-clause-behind
+keep_block-requires-clause-behind g c = λ names told. c.loop-k.invariant.behind names (sym c.loop-k.invariant.asked.same ∙ told)
+
+pub loop-k-init : goal.loop-k-init
+loop-k-init g c = record {
+  many = refl;
+  behind = c.requires.behind;
+  kept = λ names told done strays work. subst (λ (rows : List LiveRow). AreInWork names done strays rows c.args.self.at.trees.now c.args.meetings.now) (sym (rows-none c.args.self.at.case.now names (next_in c.args.cursor.now))) work;
+  next_block = omega arith;
+  same = record { case = refl; heap = refl; asked = refl };
+  asked = Passed-none;
+}
+
+pub loop-k-preserved : goal.loop-k-preserved
+loop-k-preserved g c =
+    let inv = c.loop-k.invariant in
+    let next = c.in_ok-keep_block.ensures in
+    let case = c.args.self.at.case.now in
+    let first = next_in c.args.cursor.now in
+    let k = c.loop-k.k in
+    record {
+      many = next.count ∙ inv.many;
+      behind = λ names told. next.behind names (inv.asked.same ∙ told);
+      kept = λ names told done strays work.
+          subst (λ (rows : List LiveRow). AreInWork names done strays rows c.args.self.at.trees.now c.keep_block.new.meetings)
+          (ap (λ (b : ℕ). rows_from case names first k ++ block_rows case names b) inv.next_block ∙ sym (rows-next case names first k))
+          (next.kept names (inv.asked.same ∙ told) done strays (rows_from case names first k) (inv.kept names told done strays work));
+      next_block = next.next_block ∙ omega (arith, inv.next_block);
+      same = same-then c.args.cursor.now c.loop-k.cursor c.keep_block.new.cursor inv.same next.cursor;
+      asked = Passed-next inv.asked next.asked;
+    }
+
+pub returns-then-are_full-clause-kept : goal.returns-then-are_full-clause-kept
+returns-then-are_full-clause-kept g c = λ names told done strays work.
+    let inv = c.loop-k.invariant in
+    let next = c.in_ok-keep_block.ensures in
+    let case = c.args.self.at.case.now in
+    let first = next_in c.args.cursor.now in
+    let k = c.loop-k.k in
+    let count : k + 1 ≡ next_in c.keep_block.new.cursor - first = omega (arith, inv.next_block, next.next_block) in
+    subst (λ (rows : List LiveRow). AreInWork names done strays rows c.args.self.at.trees.now c.keep_block.new.meetings)
+    (ap (λ (b : ℕ). rows_from case names first k ++ block_rows case names b) inv.next_block ∙ sym (rows-next case names first k) ∙ ap (rows_from case names first) count)
+    (next.kept names (inv.asked.same ∙ told) done strays (rows_from case names first k) (inv.kept names told done strays work))
+
+pub returns-then-are_full-clause-behind : goal.returns-then-are_full-clause-behind
+returns-then-are_full-clause-behind g c = λ names told. c.in_ok-keep_block.ensures.behind names (c.loop-k.invariant.asked.same ∙ told)
+
+pub returns-clause-kept : goal.returns-clause-kept
+returns-clause-kept g c = λ names told done strays work.
+    let inv = c.loop-k.invariant in
+    let first = next_in c.args.cursor.now in
+    let count : c.loop-k.k ≡ next_in c.loop-k.cursor - first = omega (arith, inv.next_block) in
+    subst (λ (n : ℕ). AreInWork names done strays (rows_from c.args.self.at.case.now names first n) c.args.self.at.trees.now c.loop-k.meetings) count (inv.kept names told done strays work)

@@ -1,0 +1,21 @@
+use Rattle.std.proofs.Common.{◌≡◌, ◌+◌, [], length}
+use Rattle.outside.specs.Outside.{IfTold, Passed}
+use Rattle.bt_levels.specs.declared.sound.SoundTree.{SoundTree}
+use Rattle.reports.specs.Lists.{Lists}
+use Rattle.heap_check.specs.RowCursor.{IsSameCursor, next_in}
+use Rattle.heap_indexed.specs.Judging.{IsBehind}
+use Rattle.heap_indexed.specs.Meetings.{AreInWork}
+use Rattle.heap_indexed.specs.Rows.{rows_from}
+use Rattle.heap_indexed.proofs.ranges.Ranges.keep_blocks.Given as goal
+
+-- the rows of so many blocks are kept
+abbrev pub invariant-loop-k : goal.invariant-loop-k
+invariant-loop-k g l = record {
+  many : length l.meetings ≡ length l.fn.meetings;
+  behind : IfTold g.F.Files.seen l.fn.files (λ names. IsBehind names l.cursor);
+  kept : IfTold g.F.Files.seen l.fn.files (λ names. (done strays : SoundTree → Lists) → AreInWork names done strays [] l.self.at.trees.now l.fn.meetings
+      → AreInWork names done strays (rows_from l.self.at.case.now names (next_in l.fn.cursor) l.k) l.self.at.trees.now l.meetings);
+  next_block : next_in l.cursor ≡ next_in l.fn.cursor + l.k;
+  same : IsSameCursor l.fn.cursor l.cursor;
+  asked : Passed g.F.Files.seen l.fn.files l.files;
+}

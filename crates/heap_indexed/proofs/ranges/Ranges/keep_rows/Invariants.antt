@@ -1,0 +1,21 @@
+use Rattle.std.proofs.Common.{◌≡◌, ◌+◌, ◌≤◌, ◌++◌, List, length}
+use Rattle.outside.specs.Outside.{IfTold, Passed}
+use Rattle.bt_levels.specs.declared.sound.SoundTree.{SoundTree}
+use Rattle.reports.specs.Lists.{Lists}
+use Rattle.heap_check.specs.declared.rows.LiveRow.{LiveRow}
+use Rattle.heap_check.specs.RowCursor.{IsCursorOf, IsSameCursor, next_in, rows_here}
+use Rattle.heap_indexed.specs.Meetings.{AreInWork, HaveKept}
+use Rattle.heap_indexed.proofs.ranges.Ranges.keep_rows.Given as goal
+
+-- of the rows of the page those that aren't ahead any more are kept
+abbrev pub invariant-loop-k : goal.invariant-loop-k
+invariant-loop-k g l = record {
+  many : length l.meetings ≡ length l.fn.meetings;
+  told : IfTold g.F.Files.seen l.fn.files (λ names. IsCursorOf names l.cursor);
+  kept : IfTold g.F.Files.seen l.fn.files (λ names. (done strays : SoundTree → Lists) (range : List LiveRow) → AreInWork names done strays range l.self.at.trees.now l.fn.meetings
+      → HaveKept names done strays (range ++ rows_here names l.fn.cursor) (rows_here names l.cursor) l.self.at.trees.now l.meetings);
+  few : IfTold g.F.Files.seen l.fn.files (λ names. length (rows_here names l.cursor) + l.k ≤ length (rows_here names l.fn.cursor));
+  next_block : next_in l.cursor ≡ next_in l.fn.cursor;
+  same : IsSameCursor l.fn.cursor l.cursor;
+  asked : Passed g.F.Files.seen l.fn.files l.files;
+}

@@ -1,0 +1,132 @@
+-- What is in work for each index of a heap while the rows of its blocks are gone through, range by range.
+use Rattle.std.specs.Prelude.{◌≡◌, ℕ, ◌-◌, ◌<◌, ◌++◌, Bool, true, false, List, All, Some, length, slice_index_or}
+use Rattle.std.specs.List.{flat_map}
+use Rattle.outside.specs.Outside.{Names}
+use Rattle.key_orders.specs.declared.columns.KeySpec.{KeySpec}
+use Rattle.key_orders.specs.declared.columns.Value.{Value}
+use Rattle.key_orders.specs.declared.Tid.{Tid}
+use Rattle.bt_levels.specs.declared.sound.SoundTree.{SoundTree}
+use Rattle.bt_levels.specs.Sound.{specs_of}
+use Rattle.case_file.specs.Record.{CaseRecord}
+use Rattle.reports.specs.Added.{joined}
+use Rattle.reports.specs.Lists.{Lists}
+use Rattle.heap_files.specs.Files.{BelongTo, IsSoundHeapOf, files_of}
+use Rattle.heap_files.specs.Found.{IsQuiet}
+use Rattle.heap_check.specs.declared.row_cursor.RowCursor.{RowCursor}
+use Rattle.heap_check.specs.declared.rows.LiveRow.{LiveRow}
+use Rattle.heap_check.specs.RowCursor.{asked_at, case_at, heap_at}
+use Rattle.indexed_rules.specs.Rows.{key_in}
+use Rattle.index_targets.specs.Passes.{strays_of}
+use Rattle.row_slots.specs.Slots.{Tables, keys_in, met_in}
+use Rattle.heap_indexed.specs.declared.joined.IndexedTable.{IndexedTable}
+use Rattle.heap_indexed.specs.declared.keys.KeyedHeap.{KeyedHeap}
+use Rattle.heap_indexed.specs.declared.meeting.Meeting.{Meeting}
+use Rattle.heap_indexed.specs.declared.ranges.Ranges.{Ranges}
+use Rattle.heap_indexed.specs.Joined.{BelongTogether, HoldTogether}
+use Rattle.heap_indexed.specs.Judging.{IsBehind}
+use Rattle.heap_indexed.specs.Looking.{AreOf}
+use Rattle.heap_indexed.specs.Rows.{AreAskedFrom, columns_in, owed_for, rows_from}
+
+-- The heap and its indexes
+
+-- all are of this case, whatever its names hold
+pub record BelongToIt (at : IndexedTable) : Type 0 where
+  pub heap : BelongTo at.case.now (files_of at.heap.now)
+  pub each : All (λ tree. BelongTogether at.case.now at.heap.now tree) at.trees.now
+
+-- the names hold all, and nothing is found of any
+pub record HoldIt (names : Names) (at : IndexedTable) : Type 0 where
+  pub heap : IsSoundHeapOf at.case.now names at.heap.now
+  pub quiet : IsQuiet at.case.now names
+  pub each : All (λ tree. HoldTogether names at.case.now at.heap.now tree) at.trees.now
+
+-- the columns of the keys of indexes, one index after another
+abbrev pub columns_of_all : List SoundTree → List ℕ
+columns_of_all trees = flat_map (λ tree. columns_in (specs_of tree)) trees
+
+-- for each index these say which of the values that are asked for is the first of its key
+pub record AreFirsts (firsts : List ℕ) (trees : List SoundTree) (cursor : RowCursor) : Type 0 where
+  pub same : length firsts ≡ length trees
+  pub each : (k : ℕ) (tree : SoundTree) → k < length trees
+      → AreAskedFrom (slice_index_or firsts k 0) (columns_in (specs_of (slice_index_or trees k tree)))
+      (asked_at cursor)
+
+-- the cursor is one of the heap, and asked for the columns of all keys
+pub record IsOfTable (ranges : Ranges) (cursor : RowCursor) : Type 0 where
+  pub belong : BelongToIt ranges.at
+  pub case : case_at cursor ≡ ranges.at.case.now
+  pub heap : heap_at cursor ≡ ranges.at.heap.now
+  pub firsts : AreFirsts ranges.firsts.now ranges.at.trees.now cursor
+
+-- the index at a place, from 0
+pub record IsIndexNo (ranges : Ranges) (j : ℕ) (index : KeyedHeap) : Type 0 where
+  pub case : index.at.case.now ≡ ranges.at.case.now
+  pub heap : index.at.heap.now ≡ ranges.at.heap.now
+  pub tree : index.at.tree.now ≡ slice_index_or ranges.at.trees.now j index.at.tree.now
+  pub first : index.first ≡ slice_index_or ranges.firsts.now j 0
+
+-- Rows that are kept
+
+-- the row is kept under its root, with its key
+pub record IsKeptRow (specs : List KeySpec) (slots : Tables) (row : LiveRow) : Type 0 where
+  pub key : List Value
+  pub is : key_in specs row.cells ≡ Some key
+  pub there : keys_in slots row.root ≡ Some key
+
+-- where it says so, each row of the blocks from one up to another is
+abbrev pub IsKept : Names → KeyedHeap → (first end : ℕ) → Meeting → Type 0
+IsKept names index first end meeting = meeting.is_whole ≡ true
+    → All (IsKeptRow (specs_of index.at.tree.now) meeting.slots)
+    (rows_from index.at.case.now names first (end - first))
+
+-- what was found so far of the rows and of the entries of an index is this; none of the rows of the range was met yet,
+-- and each of them is kept, where it says so
+pub record InWork (names : Names) (done strays : Lists) (range : List LiveRow) (tree : SoundTree) (meeting : Meeting)
+    : Type 0 where
+  pub pages : AreOf names tree meeting.look_ups
+  pub done_is : meeting.rows ≡ done
+  pub strays_are : meeting.entries ≡ strays
+  pub unmet : (tid : Tid) → met_in meeting.slots tid ≡ false
+  pub kept : meeting.is_whole ≡ true → All (IsKeptRow (specs_of tree) meeting.slots) range
+
+-- the names hold the heap and the index, a cursor is behind the rows of a block, and these rows of the range are in work
+pub record IsToFinish (names : Names) (index : KeyedHeap) (range : List LiveRow) (meeting : Meeting)
+    (cursor : RowCursor) : Type 0 where
+  pub hold : HoldTogether names index.at.case.now index.at.heap.now index.at.tree.now
+  pub behind : IsBehind names cursor
+  pub done : Lists
+  pub strays : Lists
+  pub work : InWork names done strays range index.at.tree.now meeting
+
+-- something is so of each index and of what is in work for it
+pub record EachFor (R : SoundTree → Meeting → Type 0) (trees : List SoundTree) (meetings : List Meeting) : Type 0 where
+  pub same : length meetings ≡ length trees
+  pub each : (k : ℕ) (tree : SoundTree) (meeting : Meeting) → k < length trees
+      → R (slice_index_or trees k tree) (slice_index_or meetings k meeting)
+
+abbrev pub AreInWork : Names → (done strays : SoundTree → Lists) → List LiveRow → List SoundTree → List Meeting
+    → Type 0
+AreInWork names done strays range =
+    EachFor (λ tree meeting. InWork names (done tree) (strays tree) range tree meeting)
+
+-- of all rows those that are not left are kept, behind those that were before
+pub record HaveKept (names : Names) (done strays : SoundTree → Lists) (all left : List LiveRow) (trees : List SoundTree)
+    (meetings : List Meeting) : Type 0 where
+  pub range : List LiveRow
+  pub is : all ≡ range ++ left
+  pub each : AreInWork names done strays range trees meetings
+
+-- the names hold all, a cursor is behind the rows of a block, and these rows of the range are in work
+pub record AreToFinish (names : Names) (ranges : Ranges) (range : List LiveRow) (meetings : List Meeting)
+    (cursor : RowCursor) : Type 0 where
+  pub hold : HoldIt names ranges.at
+  pub behind : IsBehind names cursor
+  pub done : SoundTree → Lists
+  pub strays : SoundTree → Lists
+  pub work : AreInWork names done strays range ranges.at.trees.now meetings
+
+-- all rows and all entries were judged
+abbrev pub IsJudged : CaseRecord → Names → (blocks : ℕ) → List (List Bool) → SoundTree → Meeting → Type 0
+IsJudged case names blocks targets tree meeting =
+    joined meeting.rows meeting.entries
+    ≡ joined (owed_for names tree (rows_from case names 0 blocks)) (strays_of names (Some targets) tree)

@@ -1,0 +1,223 @@
+//! The rows of a range of heap blocks against one index: its entries meet them, and those that none met are looked up.
+ghost use Rattle.std.specs.Prelude.{◌≡◌, ◌∷◌, ◌++◌, ◌-◌, ◌≤◌, [], IfOk, List, None, OnErr, OnOk, true, false};
+ghost use Rattle.std.specs.Option.{option_copied};
+ghost use Rattle.outside.specs.Outside.{Asked, IfTold, Names};
+ghost use Rattle.rel_files.specs.Relation.{count_of};
+ghost use Rattle.reports.specs.Added.{joined, nothing};
+ghost use Rattle.reports.specs.Lists.{Lists};
+ghost use Rattle.bt_levels.specs.declared.sound.SoundTree.{SoundTree as Tree};
+ghost use Rattle.heap_files.specs.Files.{heap_in};
+ghost use Rattle.heap_check.specs.RowCursor.{IsAtRow, IsSameCursor, next_in};
+ghost use Rattle.heap_check.specs.declared.rows.LiveRow.{LiveRow as Row};
+ghost use Rattle.index_targets.specs.Passes.{strays_of};
+ghost use Rattle.row_slots.specs.Slots.{AreAllMet, IsBegun, keys_in, keys_with, met_in};
+ghost use Rattle.heap_indexed.specs.Looking.{AreOf};
+ghost use Rattle.heap_indexed.specs.Judging.{IsBehind, IsReadyBehind};
+ghost use Rattle.heap_indexed.specs.Meetings.{InWork, IsKept, IsToFinish};
+ghost use Rattle.heap_indexed.specs.Rows.{IsFound, IsIndexAt, owed_for, rows_from};
+
+use crate::joined::LookUps;
+use crate::keys::KeyedHeap;
+use crate::row_judge::RowJudge;
+use heap_check::{RowCursor, RowPlace};
+use index_targets::check_entries;
+use key_orders::{KeyRefs, Tid, ValueRef, key_orders_are_total};
+use outside::{Files, NoMemory};
+use reports::{PageFault, Report};
+use root_set::RootSet;
+use row_slots::RowSlots;
+use std::alloc::Global;
+
+// A longer value, in bytes, stands in no index, since no page holds it. A row with one in its key isn't kept.
+const LONGEST_VALUE: usize = 8192;
+
+/// What is in work for one index while the rows of its heap are gone through.
+#[derive(Drop)]
+pub struct Meeting {
+    /// The rows of the range, and which of them an entry met.
+    pub slots: RowSlots,
+    /// Whether each row of the range is kept there, under its root and with its key.
+    pub is_whole: bool,
+    /// What rows are looked up through that aren't kept there.
+    pub look_ups: LookUps,
+    /// What is found of the rows.
+    pub rows: Report,
+    /// What is found of the entries.
+    pub entries: Report,
+}
+
+// Whether an index may have a key, by the lengths of its values.
+fn may_be_indexed(key: &KeyRefs<'_>) -> bool {
+    let values = key.as_slice();
+    for i in 0..values.len() {
+        if let ValueRef::Bytes(bytes) = values[i] {
+            if LONGEST_VALUE < bytes.len() {
+                return false;
+            }
+        }
+    }
+    true
+}
+
+// Keeps the key of the row that is rooted at a line pointer; whether it is kept.
+fn keep_key(slots: &mut RowSlots, root: Tid, key: &KeyRefs<'_>) -> Result<bool, NoMemory>
+    ensures kept { IfOk result (λ kept. kept ≡ true
+        → keys_in slots.new ≡ keys_with (keys_in slots.old) root key.now) }
+    ensures fresh { IfOk result (λ kept. kept ≡ true → keys_in slots.old root ≡ None) }
+    ensures met { met_in slots.new ≡ met_in slots.old }
+{
+    if !may_be_indexed(key) {
+        return Ok(false);
+    }
+    slots.put(root, key)
+}
+
+impl Meeting {
+    /// Nothing is done yet, and no row is kept.
+    pub fn new(alloc: Global) -> Result<Meeting, NoMemory>
+        ensures { IfOk result (λ m. (names : Names) (tree : Tree) → InWork names nothing nothing [] tree m) }
+    {
+        Ok(Meeting {
+            slots: RowSlots::new(alloc, 0)?,
+            is_whole: true,
+            look_ups: LookUps::new(alloc)?,
+            rows: Report::new(alloc),
+            entries: Report::new(alloc),
+        })
+    }
+
+    /// Adds the line pointers of the next block to the range.
+    pub fn add_block(&mut self, items: u16) -> Result<(), NoMemory>
+        ensures { OnOk result ((names : Names) (done strays : Lists) (range : List Row) (tree : Tree)
+            → InWork names done strays range tree self.old → InWork names done strays range tree self.new) }
+    {
+        self.slots.add_block(items)?;
+        Ok(())
+    }
+
+    /// Keeps the row at which a cursor is under its root, with its key.
+    pub fn keep_row(
+        &mut self,
+        index: KeyedHeap<'_>,
+        cursor: &RowCursor<'_>,
+        place: RowPlace,
+    ) -> Result<(), NoMemory>
+        requires index { IsIndexAt index cursor.now }
+        requires at { IsAtRow cursor.now }
+        ensures { OnOk result ((names : Names) (done strays : Lists) (range : List Row) (row : Row)
+            → IsFound names cursor.now place row
+            → InWork names done strays range index.entry.at.tree.now self.old
+            → InWork names done strays (range ++ row ∷ []) index.entry.at.tree.now self.new) }
+    {
+        let mut key = KeyRefs::new();
+        if !index.read_key(cursor, &mut key) {
+            self.is_whole = false;
+            return Ok(());
+        }
+        let kept = keep_key(&mut self.slots, place.root, &key)?;
+        self.is_whole = self.is_whole && kept;
+        Ok(())
+    }
+
+    // Whether each row of the range is kept and was met.
+    fn is_all_met(&self) -> bool
+        ensures { result ≡ true → (self.now.is_whole ≡ true) × AreAllMet self.now.slots }
+    {
+        self.is_whole && self.slots.are_all_met()
+    }
+
+    // Judges the rows of the range, whose first block is given, after the entries have met them; a cursor stands behind
+    // them. Where each was met nothing is found, and no block is read again.
+    fn judge_rows<F: Files>(
+        &mut self,
+        files: &mut F,
+        index: KeyedHeap<'_>,
+        cursor: &mut RowCursor<'_>,
+        first: u32,
+    ) -> Result<(), PageFault>
+        requires index { IsIndexAt index cursor.old }
+        requires begun { first ≤ next_in cursor.old }
+        requires end { next_in cursor.old ≤ count_of (heap_in index.at.heap.now) }
+        requires told { IfTold F.seen files.old (λ names. IsReadyBehind names index self.old cursor.old) }
+        ensures rows { IfTold F.seen files.old (λ names.
+            IsKept names index.entry first (next_in cursor.old) self.old
+            → OnOk result (self.new.rows ≡ joined self.old.rows (owed_for names index.entry.at.tree.now
+            (rows_from index.entry.at.case.now names first (next_in cursor.old - first))))) }
+        ensures entries { self.new.entries ≡ self.old.entries }
+        ensures pages { IfTold F.seen files.old (λ names. AreOf names index.entry.at.tree.now self.new.look_ups) }
+        ensures behind { IfTold F.seen files.old (λ names. OnOk result (IsBehind names cursor.new)) }
+        ensures next_block { OnOk result (next_in cursor.new ≡ next_in cursor.old) }
+        ensures same { IsSameCursor cursor.old cursor.new }
+        ensures asked { Asked F.seen files.old files.new result PageFault.ReadFault }
+    {
+        if self.is_all_met() {
+            return Ok(());
+        }
+        let end = cursor.next_block();
+        cursor.go_to(first);
+        let judge = RowJudge {
+            index,
+            slots: &self.slots,
+        };
+        judge.judge_blocks(files, cursor, end, &mut self.look_ups, &mut self.rows)
+    }
+
+    // Begins the next range of heap blocks.
+    fn begin(&mut self, block: u32)
+        ensures slots { IsBegun block self.new.slots }
+        ensures rows { self.new.rows ≡ self.old.rows }
+        ensures entries { self.new.entries ≡ self.old.entries }
+        ensures look_ups { self.new.look_ups ≡ self.old.look_ups }
+    {
+        self.slots.begin(block);
+        self.is_whole = true;
+    }
+
+    /// Has the entries of the index meet the rows of the range, whose first block is given, and judges these and, where
+    /// it is asked, what the entries name; a cursor stands behind the range. Then the next range begins.
+    pub fn finish_range<F: Files>(
+        &mut self,
+        files: &mut F,
+        index: KeyedHeap<'_>,
+        targets: Option<&RootSet>,
+        cursor: &mut RowCursor<'_>,
+        first: u32,
+    ) -> Result<(), PageFault>
+        requires index { IsIndexAt index cursor.old }
+        requires begun { first ≤ next_in cursor.old }
+        requires end { next_in cursor.old ≤ count_of (heap_in index.at.heap.now) }
+        requires told { IfTold F.seen files.old (λ names. IsToFinish names index
+            (rows_from index.at.case.now names first (next_in cursor.old - first)) self.old cursor.old) }
+        ensures work { IfTold F.seen files.old (λ names. (done strays : Lists) → InWork names done strays
+            (rows_from index.entry.at.case.now names first (next_in cursor.old - first)) index.entry.at.tree.now self.old
+            → OnOk result (InWork names (joined done (owed_for names index.entry.at.tree.now
+            (rows_from index.entry.at.case.now names first (next_in cursor.old - first))))
+            (joined strays (strays_of names (option_copied targets.entry) index.entry.at.tree.now)) []
+            index.entry.at.tree.now self.new)) }
+        ensures behind { IfTold F.seen files.old (λ names. OnOk result (IsBehind names cursor.new)) }
+        ensures next_block { OnOk result (next_in cursor.new ≡ next_in cursor.old) }
+        ensures same { IsSameCursor cursor.old cursor.new }
+        ensures asked { Asked F.seen files.old files.new result PageFault.ReadFault }
+    {
+        key_orders_are_total();
+        check_entries(
+            files,
+            index.at.tree,
+            targets,
+            &mut self.slots,
+            &mut self.entries,
+        )?;
+        self.judge_rows(files, index, cursor, first)?;
+        self.begin(cursor.next_block());
+        Ok(())
+    }
+
+    /// What was found: first of the rows, and then of the entries.
+    pub fn report(self) -> Result<Report, NoMemory>
+        ensures { IfOk result (λ report. report ≡ joined self.rows self.entries) }
+    {
+        let mut report = self.rows;
+        report.append(self.entries)?;
+        Ok(report)
+    }
+}

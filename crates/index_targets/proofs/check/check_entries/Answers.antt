@@ -1,0 +1,92 @@
+use Rattle.std.proofs.Common.{◌≡◌, ◌∙◌, ◌+◌, ◌-◌, ◌++◌, ℕ, Bool, List, ap, subst, sym, arith}
+use Rattle.std.specs.List.{flat_map}
+use Rattle.std.specs.Option.{option_copied}
+use Rattle.std.specs.Prelude.{Ok, Option, Some}
+use Rattle.std.proofs.lemmas.Grind.{common_steps}
+use Rattle.outside.specs.declared.files.Failed.{Failed}
+use Rattle.outside.specs.Outside.{AskedWithin, Names, Seen, failed}
+use Rattle.outside.proofs.Adding.{Adds-exit}
+use Rattle.outside.proofs.Asking.{PassedAtMost-none}
+use Rattle.tree_search.specs.Keys.{Entry}
+use Rattle.tree_search.specs.Search.{tree_blocks}
+use Rattle.key_orders.specs.declared.columns.Value.{Value}
+use Rattle.key_orders.specs.declared.Tid.{Tid}
+use Rattle.bt_levels.specs.Files.{number_of, relation_of}
+use Rattle.bt_levels.specs.Sound.{block_count, file_of, held_block, specs_of}
+use Rattle.reports.specs.Added.{each_upto, joined, report_lists}
+use Rattle.reports.specs.Lists.{Lists}
+use Rattle.reports.proofs.Upto.{upto-cut, upto-next, upto-none}
+use Rattle.bt_levels.specs.declared.sound.SoundTree.{SoundTree}
+use Rattle.leaf_meets.specs.Meeting.{all_keys, leaf_keys}
+use Rattle.leaf_meets.proofs.Meets.{met-then, none, same}
+use Rattle.index_targets.specs.Passes.{strays_of, strays_on}
+use Rattle.index_targets.proofs.BlockKeys.{all-blocks, blocks-next}
+use Rattle.index_targets.proofs.check.check_entries.Goals as goal
+
+-- what is found of a block, and its entries
+abbrev of-block : SoundTree → Option (List (List Bool)) → Names → ℕ → Lists
+of-block tree targets names b = strays_on (number_of (file_of tree)) (specs_of tree) targets b (held_block names tree b)
+
+abbrev keys-of : SoundTree → Names → ℕ → List (Entry Value Tid)
+keys-of tree names b = leaf_keys (specs_of tree) (held_block names tree b)
+
+-- one read more
+passed-more : {D E U : Type 0} {n : ℕ} {a b d : Seen} {y : U} {e : D} {f : E} → AskedWithin {T = Failed} {E = D} (Some n) a b (Ok failed) e → AskedWithin {T = U} {E = E} (Some 1) b d (Ok y) f
+    → AskedWithin {T = Failed} {E = Failed} (Some (n + 1)) a d (Ok failed) failed
+passed-more g h = grind (arith, common_steps)
+
+pub take_block-requires-clause-holds : goal.take_block-requires-clause-holds
+take_block-requires-clause-holds g c names told = c.requires.holds names (sym c.loop-k.invariant.asked.same ∙ told)
+
+pub take_block-requires-clause-hand : goal.take_block-requires-clause-hand
+take_block-requires-clause-hand g c names told = c.loop-k.invariant.hand names (sym c.loop-k.invariant.asked.same ∙ told)
+
+pub loop-k-init : goal.loop-k-init
+loop-k-init g c = record {
+  lists = λ names told. upto-none report_lists (of-block c.args.tree.now (option_copied c.args.targets) names) c.args.report.now;
+  met = λ names told. none c.args.slots.now;
+  hand = λ names told. c.new-ahead.ensures names (relation_of (file_of c.args.tree.now));
+  asked = PassedAtMost-none;
+}
+
+pub loop-k-preserved : goal.loop-k-preserved
+loop-k-preserved g c = record {
+  lists = λ names told.
+      upto-next report_lists (of-block c.args.tree.now (option_copied c.args.targets) names) c.loop-k.k c.args.report.now c.loop-k.report c.take_block.new.report (c.loop-k.invariant.lists names told)
+      (c.in_ok-take_block.ensures.lists names (c.loop-k.invariant.asked.same ∙ told));
+  met = λ names told.
+      let keys = keys-of c.args.tree.now names in
+      let k = c.loop-k.k in
+      let before : List (Entry Value Tid) = flat_map keys (tree_blocks (k + 1)) in
+      same (before ++ keys (k + 1)) (flat_map keys (tree_blocks (k + 1 + 1))) c.args.slots.now c.take_block.new.slots (sym (blocks-next keys k))
+      (met-then before (keys (k + 1)) c.args.slots.now c.loop-k.slots c.take_block.new.slots (c.loop-k.invariant.met names told)
+      (c.in_ok-take_block.ensures.met names (c.loop-k.invariant.asked.same ∙ told)));
+  hand = λ names told. c.in_ok-take_block.ensures.hand names (c.loop-k.invariant.asked.same ∙ told);
+  asked = passed-more c.loop-k.invariant.asked c.in_ok-take_block.ensures.asked;
+}
+
+pub returns-in_err-take_block-clause-lists : goal.returns-in_err-take_block-clause-lists
+unfolding strays_of
+returns-in_err-take_block-clause-lists g c names told =
+    let tree = c.args.tree.now in
+    let of = of-block tree (option_copied c.args.targets) names in
+    Adds-exit report_lists c.from_residual.result _ c.args.report.now c.take_block.new.report (each_upto report_lists of (block_count tree - 1)) c.from_residual.ensures.1
+    (upto-cut report_lists of c.loop-k.k (block_count tree - 1) c.args.report.now c.loop-k.report c.take_block.new.report (omega (arith, c.loop-k-test.true, c.saturating_sub-k-end.ensures, c.blocks-2.ensures)) (c.loop-k.invariant.lists names told)
+    (c.in_err-take_block.ensures.lists names (c.loop-k.invariant.asked.same ∙ told)))
+
+pub returns-clause-lists : goal.returns-clause-lists
+unfolding strays_of
+returns-clause-lists g c names told =
+    let tree = c.args.tree.now in
+    let of = of-block tree (option_copied c.args.targets) names in
+    let whole : c.loop-k.k ≡ block_count tree - 1 = omega (arith, c.loop-k-test.false, c.saturating_sub-k-end.ensures, c.blocks-2.ensures) in
+    subst (λ (n : ℕ). c.loop-k.report ≡ joined c.args.report.now (each_upto report_lists of n)) whole (c.loop-k.invariant.lists names told)
+
+pub returns-clause-met : goal.returns-clause-met
+unfolding all_keys
+returns-clause-met g c names told =
+    let tree = c.args.tree.now in
+    let keys = keys-of tree names in
+    let whole : c.loop-k.k ≡ block_count tree - 1 = omega (arith, c.loop-k-test.false, c.saturating_sub-k-end.ensures, c.blocks-2.ensures) in
+    same (flat_map keys (tree_blocks (c.loop-k.k + 1))) (flat_map keys (tree_blocks (block_count tree))) c.args.slots.now c.loop-k.slots (ap (flat_map keys) (all-blocks c.loop-k.k (block_count tree) whole))
+    (c.loop-k.invariant.met names told)

@@ -1,3 +1,0 @@
-pub mod StoredLaws
-pub mod MarkLaws
-pub mod RunLaws

@@ -1,4 +1,0 @@
-pub mod Rows
-pub mod Marks
-pub mod Stored
-pub mod Tables
