@@ -326,15 +326,12 @@ columns as (
         case
             when attributes.attisdropped then null
             when base_types.type_oid in (
-                'bool'::regtype, 'int2'::regtype, 'int4'::regtype, 'int8'::regtype,
-                'uuid'::regtype, 'text'::regtype, 'bytea'::regtype
+                'bool'::regtype, 'int2'::regtype, 'int4'::regtype, 'int8'::regtype, 'uuid'::regtype, 'text'::regtype,
+                'bytea'::regtype, 'oid'::regtype, 'date'::regtype, 'timestamp'::regtype, 'timestamptz'::regtype
             ) then base_types.type_name
             when base_types.type_oid = 'varchar'::regtype then 'text'
             -- These are stored and ordered as integers.
-            when base_types.type_oid = 'date'::regtype then 'int4'
-            when base_types.type_oid in (
-                'time'::regtype, 'timestamp'::regtype, 'timestamptz'::regtype, 'money'::regtype
-            ) then 'int8'
+            when base_types.type_oid in ('time'::regtype, 'money'::regtype) then 'int8'
         end as key_type,
         attributes.atthasmissing and not attributes.attisdropped as has_missing,
         attributes.attmissingval as missing_array
@@ -577,7 +574,7 @@ key_columns as (
         *,
         coalesce(key_type is not null and is_class_of_server and class_name in (
             'bool_ops', 'int2_ops', 'int4_ops', 'int8_ops', 'uuid_ops', 'bytea_ops',
-            'date_ops', 'time_ops', 'timestamp_ops', 'timestamptz_ops', 'money_ops',
+            'oid_ops', 'date_ops', 'time_ops', 'timestamp_ops', 'timestamptz_ops', 'money_ops',
             'text_ops', 'varchar_ops', 'text_pattern_ops', 'varchar_pattern_ops'
         ), false) as has_known_order,
         key_type is distinct from 'text'

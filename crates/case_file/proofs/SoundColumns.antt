@@ -1,7 +1,7 @@
 -- The columns of a document that breaks no rule are sound.
 use Rattle.std.proofs.Common.{◌≡◌, ℕ, ◌<◌, ◌≤◌, ◌+◌, ◌/◌, ◌%◌, List, [], ◌∷◌, length, map, Bool, true, false, not, ◌&&◌, ◌||◌, ◌==◌, cond, nat_le, Option, Some}
-use Rattle.std.proofs.Common.{None, is_some, option_and_then, unwrap_or, refl, sym, codes, arith, lit<}
-use Rattle.std.proofs.lemmas.Bool.{and_parts, eqb-true, false≢true, le-leb, lt-ltb, not-false}
+use Rattle.std.proofs.Common.{None, is_some, option_and_then, unwrap_or, find, inl, inr, refl, sym, codes, arith, lit<}
+use Rattle.std.proofs.lemmas.Bool.{and_parts, cases_Bool, eqb-true, false≢true, le-leb, lt-ltb, not-false}
 use Rattle.std.proofs.lemmas.Bool.Decides.{nat_tests}
 use Rattle.std.proofs.lemmas.List.Sums.{AllPass-from_list_all}
 use Rattle.std.specs.Int.{is_in_range, IsInRange}
@@ -9,7 +9,7 @@ use Rattle.std.specs.List.{AllByRecursion, list_all}
 use Rattle.hex.specs.Hex.{IsBytes, is_hex_digit}
 use Rattle.hex.proofs.HexLemmas.{decode_of-digits, decode_of-ok}
 use Rattle.key_orders.specs.declared.columns.ColType.{ColType}
-use Rattle.key_orders.specs.declared.columns.ColType.TheVariants.{Bool as BoolType, Int2, Int4, Int8, Uuid, Text, Bytea, Fixed, Varlena}
+use Rattle.key_orders.specs.declared.columns.ColType.TheVariants.{Fixed, Varlena}
 use Rattle.key_orders.specs.declared.columns.Value.{Value}
 use Rattle.key_orders.specs.Orders.{fits_type}
 use Rattle.key_orders.specs.Types.{fixed_length}
@@ -22,7 +22,7 @@ use Rattle.case_file.specs.declared.keys.Range.TheVariants.{StoredBytes}
 use Rattle.case_file.specs.Columns.{below_or_zero, column_of, decoded, missing_of, stored_type, told_type}
 use Rattle.case_file.specs.Keys.{keys_of, row_of}
 use Rattle.case_file.specs.Rules.{applies, breaks, fails, has_known_type, has_other_kind, has_type, is_align, is_fit, is_len, is_missing_text, is_needed, is_of}
-use Rattle.case_file.specs.Rules.{is_out_of_range, is_stored_len, is_told_len, is_unknown, key_type, has_key_type}
+use Rattle.case_file.specs.Rules.{is_out_of_range, is_stored_len, is_told, is_told_len, is_unknown, key_type, key_types, has_key_type}
 use Rattle.case_file.specs.Sound.{IsSoundColumn, is_sound_type, octet_count}
 use Rattle.case_file.specs.Spots.{column_spots, flat_map_from, in_table, listed}
 use Rattle.case_file.specs.Tables.{number_at, text_at}
@@ -30,26 +30,21 @@ use Rattle.case_file.proofs.Passing.{EachPasses, Passes, passes_after, passes_be
 use Rattle.case_file.proofs.MissingValues.{null_fits, value_fits, value_is_small}
 use Rattle.case_file.proofs.Rows.{align_found, needed_key, number_in_range}
 
--- the type that the words of a column name, where a to g say which of the types that may be keys it has
-abbrev pub key_or : (a b c d e f g : Bool) → Option ColType
-key_or a b c d e f g =
-    cond a (Some BoolType) (cond b (Some Int2) (cond c (Some Int4) (cond d (Some Int8) (cond e (Some Uuid) (cond f (Some Text) (cond g (Some Bytea) None))))))
-
-sound_or : (a b c d e f g : Bool) (s : ColType) → (is_some (key_or a b c d e f g) ≡ false → is_sound_type s ≡ true)
-    → is_sound_type (unwrap_or (key_or a b c d e f g) s) ≡ true
-sound_or true b c d e f g s h = refl
-sound_or false true c d e f g s h = refl
-sound_or false false true d e f g s h = refl
-sound_or false false false true e f g s h = refl
-sound_or false false false false true f g s h = refl
-sound_or false false false false false true g s h = refl
-sound_or false false false false false false true s h = refl
-sound_or false false false false false false false s h = h refl
+-- the first of some types that passes a test, or else another: it is good where each of them is, and the other where
+-- none passes
+pub found_or : (test good : ColType → Bool) (types : List ColType) (other : ColType) → list_all good types ≡ true
+    → (is_some (find test types) ≡ false → good other ≡ true) → good (unwrap_or (find test types) other) ≡ true
+found_or test good [] other all none = none refl
+found_or test good (t ∷ ts) other all none =
+    let parts = and_parts (good t) (list_all good ts) all in
+    elim (cases_Bool (test t)) [
+      | inl passes ↦ rw passes parts.0
+      | inr fails ↦ rw fails (found_or test good ts other parts.1 (rw fails at none))
+    ]
 
 key_or_stored : (t : Members) → (has_key_type t ≡ false → is_sound_type (stored_type t) ≡ true) → is_sound_type (told_type (Some t)) ≡ true
 unfolding key_type told_type
-key_or_stored t h =
-    sound_or (has_type (codes "bool") t) (has_type (codes "int2") t) (has_type (codes "int4") t) (has_type (codes "int8") t) (has_type (codes "uuid") t) (has_type (codes "text") t) (has_type (codes "bytea") t) (stored_type t) h
+key_or_stored t h = found_or (is_told t) is_sound_type key_types (stored_type t) refl h
 
 pub below-kept : (limit n : ℕ) → n < limit → below_or_zero limit n ≡ n
 below-kept limit n l = rw (lt-ltb n limit l) refl

@@ -1,12 +1,11 @@
 -- The indexes of a document that breaks no rule are sound.
 use Rattle.std.proofs.Common.{◌≡◌, ℕ, suc, ◌≤◌, ◌<◌, ◌+◌, List, [], ◌∷◌, ◌++◌, length, map, Bool, true, false, Option, Some, None, is_some, unwrap_or, refl}
-use Rattle.std.proofs.Common.{codes, arith, inl, inr}
+use Rattle.std.proofs.Common.{codes, arith, inl, inr, sym, ◌∙◌}
 use Rattle.std.proofs.lemmas.Bool.{and_parts, cases_Bool, false≢true, lt-ltb, not-false}
 use Rattle.std.proofs.lemmas.List.{length-map}
 use Rattle.std.proofs.lemmas.Option.{slice_get-map}
 use Rattle.std.specs.List.{AllByRecursion, list_all, list_any, position, position_or_len, slice_get}
 use Rattle.std.specs.Option.{option_map_or}
-use Rattle.key_orders.specs.declared.columns.ColType.{ColType}
 use Rattle.key_orders.specs.Types.{may_be_key}
 use Rattle.toml.specs.Data.{Data, Members, get_member, as_table}
 use Rattle.case_file.specs.declared.keys.Place.TheVariants.{Index, IndexKey}
@@ -14,13 +13,13 @@ use Rattle.case_file.specs.declared.keys.Key.TheVariants.{IndexName, IndexFile, 
 use Rattle.case_file.specs.Columns.{column_of, stored_type, told_type}
 use Rattle.case_file.specs.Indexes.{column_named, index_of, key_of}
 use Rattle.case_file.specs.Keys.{keys_of, row_of}
-use Rattle.case_file.specs.Rules.{breaks, has_name, has_type, is_fit, is_key_column, is_needed, is_unknown, key_type, has_key_type}
+use Rattle.case_file.specs.Rules.{breaks, has_name, is_fit, is_key_column, is_needed, is_told, is_unknown, key_type, key_types, has_key_type}
 use Rattle.case_file.specs.Sound.{IsSoundIndex, IsSoundKey}
 use Rattle.case_file.specs.Spots.{flat_map_from, in_table, index_keys_spots, index_spots, key_spots, listed}
 use Rattle.case_file.specs.Tables.{is_table, tables_at, text_at, text_in}
 use Rattle.case_file.proofs.Passing.{EachPasses, Passes, passes_after, passes_before}
 use Rattle.case_file.proofs.Rows.{needed_key, needed_tables, text_found, text_in_range}
-use Rattle.case_file.proofs.SoundColumns.{below-kept, key_or}
+use Rattle.case_file.proofs.SoundColumns.{below-kept, found_or}
 
 -- the first element that passes a test
 record Found (test : Data → Bool) (ds : List Data) (n : ℕ) : Type 0 where
@@ -46,21 +45,11 @@ at_position : (test : Data → Bool) (ds : List Data) → position_or_len test d
 at_position test ds l = rw (lt-ltb (position_or_len test ds) (length ds) l) refl
 
 -- a column that may be a key has a type that may be one
-is_key_or : (a b c d e f g : Bool) (s : ColType) → is_some (key_or a b c d e f g) ≡ true → may_be_key (unwrap_or (key_or a b c d e f g) s) ≡ true
-is_key_or true b c d e f g s h = refl
-is_key_or false true c d e f g s h = refl
-is_key_or false false true d e f g s h = refl
-is_key_or false false false true e f g s h = refl
-is_key_or false false false false true f g s h = refl
-is_key_or false false false false false true g s h = refl
-is_key_or false false false false false false true s h = refl
-is_key_or false false false false false false false s h = absurd (false≢true h)
-
 has_key_type-sound : (o : Option Members) → option_map_or has_key_type o false ≡ true → may_be_key (told_type o) ≡ true
 unfolding key_type told_type
 has_key_type-sound None may = absurd (false≢true may)
 has_key_type-sound (Some t) may =
-    is_key_or (has_type (codes "bool") t) (has_type (codes "int2") t) (has_type (codes "int4") t) (has_type (codes "int8") t) (has_type (codes "uuid") t) (has_type (codes "text") t) (has_type (codes "bytea") t) (stored_type t) may
+    found_or (is_told t) may_be_key key_types (stored_type t) refl (λ none. absurd (false≢true (sym none ∙ may)))
 
 sound_key : (top : Members) (k j : ℕ) (d : Data) (t : Members) → as_table d ≡ Some t → length (tables_at (codes "column") top) ≤ 64
     → Passes top (listed (IndexKey k j) KeyColumn t)

@@ -51,27 +51,25 @@ same_text _ _ = false
 unfoldable pub has_type : List ℕ → Members → Bool
 has_type word t = same_text (text_at (codes "type") t) (Some word)
 
--- the word of a type. Oid, date, timestamp and timestamptz have none yet: they are here for what reads their values,
--- and a case
--- that names one of them is refused as one with any other unknown word, until their words come
-abbrev pub word_of : ColType → Option (List ℕ)
-word_of BoolType = Some (codes "bool")
-word_of Int2 = Some (codes "int2")
-word_of Int4 = Some (codes "int4")
-word_of Int8 = Some (codes "int8")
-word_of Uuid = Some (codes "uuid")
-word_of TextType = Some (codes "text")
-word_of Bytea = Some (codes "bytea")
-word_of Oid = None
-word_of Date = None
-word_of Timestamp = None
-word_of Timestamptz = None
-word_of (Fixed len align) = Some (codes "fixed")
-word_of (Varlena align) = Some (codes "varlena")
+-- the word of a type
+abbrev pub word_of : ColType → List ℕ
+word_of BoolType = codes "bool"
+word_of Int2 = codes "int2"
+word_of Int4 = codes "int4"
+word_of Int8 = codes "int8"
+word_of Uuid = codes "uuid"
+word_of TextType = codes "text"
+word_of Bytea = codes "bytea"
+word_of Oid = codes "oid"
+word_of Date = codes "date"
+word_of Timestamp = codes "timestamp"
+word_of Timestamptz = codes "timestamptz"
+word_of (Fixed len align) = codes "fixed"
+word_of (Varlena align) = codes "varlena"
 
 -- the column's type is this one, by its word
 abbrev pub is_told : Members → ColType → Bool
-is_told t ctype = option_map_or (λ word. has_type word t) (word_of ctype) false
+is_told t ctype = has_type (word_of ctype) t
 
 -- the types that may be keys
 abbrev pub key_types : List ColType

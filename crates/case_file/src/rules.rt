@@ -56,31 +56,31 @@ const KEY_TYPES: [ColType; 11] = [
     ColType::Timestamptz,
 ];
 
-// The word of a type. The words of the four without one come later.
-fn word_of(ctype: ColType) -> Option<&'static str>
-    ensures { option_copied result ≡ word_of ctype }
+// The word of a type.
+fn word_of(ctype: ColType) -> &'static str
+    ensures { result.now ≡ word_of ctype }
 {
     match ctype {
-        ColType::Bool => Some("bool"),
-        ColType::Int2 => Some("int2"),
-        ColType::Int4 => Some("int4"),
-        ColType::Int8 => Some("int8"),
-        ColType::Uuid => Some("uuid"),
-        ColType::Text => Some("text"),
-        ColType::Bytea => Some("bytea"),
-        ColType::Oid | ColType::Date | ColType::Timestamp | ColType::Timestamptz => None,
-        ColType::Fixed { .. } => Some("fixed"),
-        ColType::Varlena { .. } => Some("varlena"),
+        ColType::Bool => "bool",
+        ColType::Int2 => "int2",
+        ColType::Int4 => "int4",
+        ColType::Int8 => "int8",
+        ColType::Uuid => "uuid",
+        ColType::Text => "text",
+        ColType::Bytea => "bytea",
+        ColType::Oid => "oid",
+        ColType::Date => "date",
+        ColType::Timestamp => "timestamp",
+        ColType::Timestamptz => "timestamptz",
+        ColType::Fixed { .. } => "fixed",
+        ColType::Varlena { .. } => "varlena",
     }
 }
 
 fn is_told(column: &Table, ctype: ColType) -> bool
     ensures { result ≡ is_told (table_view column.now) ctype }
 {
-    match word_of(ctype) {
-        Some(word) => has_type(column, word),
-        None => false,
-    }
+    has_type(column, word_of(ctype))
 }
 
 // The first of some types that a column has.

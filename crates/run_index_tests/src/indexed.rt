@@ -191,6 +191,41 @@ fn short_and_long_texts(rt: HostRuntime) -> Result<(), Fail> {
     expect_index(&rt, alloc, &mut files, NOTHING)
 }
 
+// A type of key, and two of its numbers, the lower one first: an oid has no sign, a date and a time have one.
+const COUNTED: [(&str, &[u8], &[u8]); 4] = [
+    ("oid", &[7, 0, 0, 0], &[0, 0, 0, 0x80]),
+    ("date", &[0, 0, 0, 0x80], &[7, 0, 0, 0]),
+    (
+        "timestamp",
+        &[0, 0, 0, 0, 0, 0, 0, 0x80],
+        &[7, 0, 0, 0, 0, 0, 0, 0],
+    ),
+    ("timestamptz", &[0xff; 8], &[0; 8]),
+];
+
+#[test]
+fn oids_dates_and_times(rt: HostRuntime) -> Result<(), Fail> {
+    let alloc = rt.alloc();
+    for (ctype, low, high) in COUNTED {
+        let first = Tuple { body: high, ..LIVE };
+        let second = Tuple {
+            item: 2,
+            body: low,
+            ..LIVE
+        };
+        let heap = page_of(0, &[Item::Tuple(first), Item::Tuple(second)]);
+        let entries = [
+            IndexTuple { body: low, ..SEVEN },
+            IndexTuple { body: high, ..FIVE },
+        ];
+        let index = index_file(alloc, &[leaf(&entries)])?;
+        let column = format!(in alloc; "[[column]]\nname = \"a\"\ntype = \"{ctype}\"\n")?;
+        let mut files = indexed_files(alloc, column.as_str(), "", &heap, index.as_slice())?;
+        expect_index(&rt, alloc, &mut files, NOTHING)?;
+    }
+    Ok(())
+}
+
 // The files of a case with two indexes on one number, whose trees are these.
 fn twice_indexed(
     alloc: Global,
