@@ -3,6 +3,7 @@ use Rattle.std.specs.Prelude.{ℕ, ◌-◌, [], slice_get, unwrap_or}
 use Rattle.outside.specs.Outside.{Names}
 use Rattle.rel_files.specs.Blocks.{block_of, blocks_of, long_segment_of}
 use Rattle.case_file.specs.Record.{CaseRecord, IndexRecord}
+use Rattle.varlena_attrs.specs.Columns.{TreeColumns}
 use Rattle.attach_files.specs.Refusals.{block_limit}
 use Rattle.reports.specs.Lists.{Lists}
 use Rattle.bt_pages.specs.Trees.{Tree}
@@ -15,12 +16,16 @@ no_index = record { name = []; file = []; keys = [] }
 abbrev pub index_of : CaseRecord → ℕ → IndexRecord
 index_of case n = unwrap_or (slice_get case.indexes (n - 1)) no_index
 
--- its blocks, as these names hold them; no index of a case includes columns yet
+-- its columns; none are included, since a case lists none
+abbrev pub case_columns : CaseRecord → ℕ → TreeColumns
+case_columns case n = record { specs = (index_of case n).keys; more = [] }
+
+-- its columns and its blocks, as these names hold them
 abbrev pub tree_of : CaseRecord → Names → ℕ → Tree
 tree_of case names n = record {
   number = n;
-  specs = (index_of case n).keys;
-  more = [];
+  specs = (case_columns case n).specs;
+  more = (case_columns case n).more;
   blocks = blocks_of names (index_of case n).file case.segment_blocks block_limit;
   block = block_of names (index_of case n).file case.segment_blocks;
 }

@@ -7,13 +7,14 @@ use Rattle.case_file.specs.Record.{CaseRecord}
 use Rattle.rel_files.specs.Blocks.{block_of}
 use Rattle.rel_files.specs.Relation.{IsAttached, base_of, count_of, size_of}
 use Rattle.tree_rules.specs.Rules.{KeepsLevelRules}
+use Rattle.varlena_attrs.specs.Columns.{TreeColumns}
 use Rattle.tree_image.specs.Image.{TreeIndex, index_image}
 use Rattle.tree_image.specs.Pages.{KeepsTreeRules}
 use Rattle.bt_walks.specs.Counts.{half_dead_in, right_halves_in}
 use Rattle.bt_levels.specs.declared.files.TreeFile.{TreeFile}
 use Rattle.bt_levels.specs.declared.sound.SoundTree.{SoundTree}
 use Rattle.bt_levels.specs.Files.{BelongsTo, number_of, relation_of}
-use Rattle.bt_levels.specs.Index.{index_of}
+use Rattle.bt_levels.specs.Index.{case_columns, index_of}
 
 -- its file, and the columns of its key
 abbrev pub file_of : SoundTree → TreeFile
@@ -21,6 +22,10 @@ file_of sound = sound.file
 
 abbrev pub specs_of : SoundTree → List KeySpec
 specs_of sound = sound.specs.items
+
+-- all its columns; none are included, since a case lists none
+abbrev pub index_columns : SoundTree → TreeColumns
+index_columns sound = record { specs = specs_of sound; more = [] }
 
 -- what it keeps of its levels
 abbrev pub fastroot_of : SoundTree → ℕ
@@ -40,6 +45,7 @@ pub record IsSoundIndexOf (case : CaseRecord) (n : ℕ) (sound : SoundTree) : Ty
   pub number : number_of (file_of sound) ≡ n
   pub belongs : BelongsTo case (file_of sound)
   pub keys : specs_of sound ≡ (index_of case n).keys
+  pub columns : index_columns sound ≡ case_columns case n
 
 -- its blocks, as these names hold them
 abbrev pub block_count : SoundTree → ℕ
@@ -50,13 +56,15 @@ held_block names sound = block_of names (base_of (relation_of (file_of sound))) 
 
 -- the image of its pages, as a search sees them
 abbrev pub image_of : Names → SoundTree → TreeIndex
-image_of names sound = index_image (specs_of sound) [] (block_count sound) (held_block names sound)
+image_of names sound =
+    index_image (index_columns sound).specs (index_columns sound).more (block_count sound) (held_block names sound)
 
 -- the names hold the index: its pages break no rule, nor do its levels; its fast root and the level of that are those
 -- of the metapage, and its numbers of right halves and half-dead leaves are those of its levels
 pub record HoldsTree (names : Names) (sound : SoundTree) : Type 0 where
   pub attached : IsAttached names (relation_of (file_of sound))
-  pub pages : KeepsTreeRules (specs_of sound) [] (block_count sound) (held_block names sound)
+  pub pages : KeepsTreeRules (index_columns sound).specs (index_columns sound).more (block_count sound)
+      (held_block names sound)
   pub levels : KeepsLevelRules (order_of (specs_of sound)) (image_of names sound)
   pub fastroot : fastroot_of sound ≡ (image_of names sound).fastroot
   pub fastlevel : fastlevel_of sound ≡ (image_of names sound).fastlevel

@@ -1,5 +1,5 @@
 //! Judges an index of a case.
-ghost use Rattle.std.specs.Prelude.{◌≡◌, ◌↔◌, ◌⊎◌, ◌*◌, [], IfErr, IfOk, IfSome, IsSome};
+ghost use Rattle.std.specs.Prelude.{◌≡◌, ◌≤◌, ◌↔◌, ◌⊎◌, ◌*◌, [], IfErr, IfOk, IfSome, IsSome, length};
 ghost use Rattle.outside.specs.Adds.{AddsIn};
 ghost use Rattle.outside.specs.Outside.{AskedAtMost, IfTold, Tells};
 ghost use Rattle.rel_files.specs.Relation.{count_of};
@@ -22,19 +22,30 @@ use outside::{Files, NoMemory};
 use reports::{CheckFault, PageFault, Report};
 use std::alloc::Global;
 use tree_image::kept_rules_make_a_sound_image;
+use varlena_attrs::IndexColumns;
+
+// The columns of index `n` of a case, which lists none that are included.
+fn case_columns(case: &Case, n: u16) -> IndexColumns<'_>
+    requires first { 1 ≤ n }
+    requires last { n ≤ length case.now.indexes }
+    ensures specs { result.specs.now ≡ (index_of case.now n).keys }
+    ensures more { result.more.now ≡ [] }
+{
+    case.sound();
+    IndexColumns::new(case.index_keys(n), &[])
+}
 
 // What the rules of the index need to know.
 fn rules_of<'p>(case: &'p Case, at: &'p TreeFile) -> TreeRules<'p>
     requires { BelongsTo case.now at.now }
     ensures number { result.number ≡ number_of at.now }
-    ensures specs { result.specs.now ≡ (index_of case.now (number_of at.now)).keys }
-    ensures more { result.more.now ≡ [] }
+    ensures specs { result.columns.specs.now ≡ (index_of case.now (number_of at.now)).keys }
+    ensures more { result.columns.more.now ≡ [] }
     ensures relation { result.relation.now ≡ relation_of at.now }
 {
     TreeRules {
         number: at.index,
-        specs: case.index_keys(at.index),
-        more: &[],
+        columns: case_columns(case, at.index),
         relation: &at.relation,
     }
 }
@@ -58,7 +69,6 @@ fn judge_file<F: Files>(
     ensures asked { AskedAtMost (4096 * count_of (relation_of at.now)) F.seen files.old files.new result
         PageFault.ReadFault }
 {
-    case.sound();
     let tree = rules_of(case, at);
     let shape = judge_index(alloc, files, &tree, report)?;
     Ok(shape)

@@ -1,17 +1,15 @@
 //! Judges the segments, the blocks and the levels of an index.
-ghost use Rattle.std.specs.Prelude.{◌≡◌, ◌+◌, ◌-◌, ◌*◌, ◌<◌, ◌↔◌, ◌≤◌, All, IfOk, IfSome, IsSome};
+ghost use Rattle.std.specs.Prelude.{◌≡◌, ◌+◌, ◌-◌, ◌*◌, ◌<◌, ◌↔◌, IfOk, IfSome, IsSome};
 ghost use Rattle.std.specs.Prelude.{None, length, min, true};
 ghost use Rattle.outside.specs.Adds.{AddsIn};
 ghost use Rattle.outside.specs.Outside.{Asked, AskedAtMost, IfTold, Tells};
-ghost use Rattle.key_orders.specs.Types.{HasAlignment};
-ghost use Rattle.varlena_attrs.specs.Keyed.{key_types, more_types};
 ghost use Rattle.rel_files.specs.Relation.{IsAttached, count_of, long_of};
 ghost use Rattle.reports.specs.Added.{report_lists};
 ghost use Rattle.bt_pages.specs.Seen.{HasSeen, StaysSeen};
 ghost use Rattle.bt_pages.specs.Trees.{tree_seen};
 ghost use Rattle.bt_pages.specs.Broken.{AreEmpty};
 ghost use Rattle.bt_walks.specs.Shape.{IsShapeOf};
-ghost use Rattle.bt_walks.specs.Trees.{HasColumns, HoldsPages, first_broken_in};
+ghost use Rattle.bt_walks.specs.Trees.{HoldsPages, first_broken_in};
 ghost use Rattle.bt_levels.specs.Lists.{blocks_lists, first_lists, index_lists, is_first_quiet, level_finding_lists};
 ghost use Rattle.bt_levels.specs.Lists.{level_lists, other_lists, pages_lists, segment_lists};
 
@@ -69,10 +67,6 @@ fn judge_others<F: Files>(
     tree: &mut SeenTree<'_>,
     report: &mut Report,
 ) -> Result<(), PageFault>
-    requires few { length tree.old.rules.specs.now ≤ 8 }
-    requires few_more { length tree.old.rules.more.now ≤ 24 }
-    requires aligned { All HasAlignment (key_types tree.old.rules.specs.now) }
-    requires aligned_more { All HasAlignment (more_types tree.old.rules.more.now) }
     requires attached { IfTold F.seen files.old (λ names. IsAttached names tree.old.rules.relation.now) }
     requires seen { IfTold F.seen files.old (λ names. HasSeen names tree.old) }
     requires some { 0 < count_of tree.old.rules.relation.now }
@@ -97,10 +91,6 @@ fn judge_blocks<F: Files>(
     tree: &TreeRules<'_>,
     report: &mut Report,
 ) -> Result<(), PageFault>
-    requires few { length tree.now.specs.now ≤ 8 }
-    requires few_more { length tree.now.more.now ≤ 24 }
-    requires aligned { All HasAlignment (key_types tree.now.specs.now) }
-    requires aligned_more { All HasAlignment (more_types tree.now.more.now) }
     requires attached { IfTold F.seen files.old (λ names. IsAttached names tree.now.relation.now) }
     ensures lists { IfTold F.seen files.old (λ names. AddsIn report_lists result report.old report.new
         (blocks_lists (tree_seen names tree.now))) }
@@ -122,7 +112,6 @@ fn judge_pages<F: Files>(
     tree: &TreeRules<'_>,
     report: &mut Report,
 ) -> Result<(), PageFault>
-    requires columns { HasColumns tree.now }
     requires attached { IfTold F.seen files.old (λ names. IsAttached names tree.now.relation.now) }
     ensures lists { IfTold F.seen files.old (λ names. AddsIn report_lists result report.old report.new
         (pages_lists (tree_seen names tree.now) (long_of tree.now.relation.now))) }
@@ -155,7 +144,6 @@ fn judge_levels<F: Files>(
     tree: &TreeRules<'_>,
     report: &mut Report,
 ) -> Result<Option<TreeShape>, PageFault>
-    requires columns { HasColumns tree.now }
     requires some { 0 < count_of tree.now.relation.now }
     requires pages { IfTold F.seen files.old (λ names. HoldsPages names tree.now) }
     ensures lists { IfTold F.seen files.old (λ names. AddsIn report_lists result report.old report.new
@@ -195,7 +183,6 @@ pub fn judge_index<F: Files>(
     tree: &TreeRules<'_>,
     report: &mut Report,
 ) -> Result<Option<TreeShape>, PageFault>
-    requires columns { HasColumns tree.now }
     requires attached { IfTold F.seen files.old (λ names. IsAttached names tree.now.relation.now) }
     ensures lists { IfTold F.seen files.old (λ names. AddsIn report_lists result report.old report.new
         (index_lists (tree_seen names tree.now) (long_of tree.now.relation.now))) }

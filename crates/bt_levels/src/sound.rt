@@ -8,6 +8,7 @@ use bt_walks::TreeShape;
 use key_orders::KeySpec;
 use outside::Files;
 use rel_files::{Ahead, ReadFault};
+use varlena_attrs::IndexColumns;
 
 /// The file of an index, in which nothing was found and nothing stayed unjudged, with the columns of its
 /// key and what its levels have. It stores none of its bytes: it is used with the files and the case that
@@ -22,9 +23,8 @@ pub struct SoundTree {
 }
 
 impl SoundTree {
-    ghost use Rattle.std.specs.Prelude.{◌≡◌, ◌<◌, ◌≤◌, All, OnOk, length};
-    ghost use Rattle.key_orders.specs.Types.{HasAlignment};
-    ghost use Rattle.varlena_attrs.specs.Keyed.{key_types};
+    ghost use Rattle.std.specs.Prelude.{◌≡◌, ◌<◌, OnOk};
+    ghost use Rattle.varlena_attrs.specs.Columns.{tree_columns};
     ghost use Rattle.outside.specs.Outside.{AskedAtMost, IfTold};
     ghost use Rattle.rel_files.specs.Ahead.{IsAheadOf, IsInHand, page_in_hand};
     ghost use Rattle.rel_files.specs.Blocks.{block_of};
@@ -32,13 +32,7 @@ impl SoundTree {
     ghost use Rattle.rel_files.specs.Relation.{IsAttached, base_of, count_of, size_of};
     ghost use Rattle.bt_levels.specs.Files.{number_of, relation_of};
     ghost use Rattle.bt_levels.specs.Sound.{fastlevel_of, fastroot_of, file_of, half_dead_of, right_halves_of};
-    ghost use Rattle.bt_levels.specs.Sound.{specs_of};
-
-    /// A law: its key has at most 8 columns, each of a type whose values are aligned.
-    pub fn keyed(&self)
-        ensures few { length (specs_of self.now) ≤ 8 }
-        ensures aligned { All HasAlignment (key_types (specs_of self.now)) }
-    {}
+    ghost use Rattle.bt_levels.specs.Sound.{index_columns, specs_of};
 
     /// The number of its blocks, the metapage among them.
     pub fn blocks(&self) -> u32
@@ -74,6 +68,14 @@ impl SoundTree {
         ensures { result ≡ half_dead_of self.now }
     {
         self.shape.half_dead
+    }
+
+    /// Its columns. It has no included ones, since a case lists none.
+    pub fn columns(&self) -> IndexColumns<'_>
+        ensures lists { tree_columns result ≡ index_columns self.now }
+        ensures specs { result.specs.now ≡ specs_of self.now }
+    {
+        IndexColumns::new(&self.specs, &[])
     }
 
     /// The columns of its key, at most 8.

@@ -1,9 +1,7 @@
 //! Two pages of an index in hand: a block that is judged, and the one after it, to which it mostly links.
-ghost use Rattle.std.specs.Prelude.{◌≡◌, ◌+◌, ◌<◌, ◌≤◌, All, OnOk, length};
+ghost use Rattle.std.specs.Prelude.{◌≡◌, ◌+◌, ◌<◌, OnOk};
 ghost use Rattle.outside.specs.Adds.{AddsIn};
 ghost use Rattle.outside.specs.Outside.{AskedAtMost, IfTold};
-ghost use Rattle.key_orders.specs.Types.{HasAlignment};
-ghost use Rattle.varlena_attrs.specs.Keyed.{key_types, more_types};
 ghost use Rattle.rel_files.specs.Faults.{read_fault};
 ghost use Rattle.rel_files.specs.Relation.{IsAttached, count_of};
 ghost use Rattle.reports.specs.Added.{report_lists};
@@ -47,10 +45,6 @@ fn judge_block<F: Files>(
     next: &mut [u8; 8192],
     report: &mut Report,
 ) -> Result<(), PageFault>
-    requires few { length tree.old.rules.specs.now ≤ 8 }
-    requires few_more { length tree.old.rules.more.now ≤ 24 }
-    requires aligned { All HasAlignment (key_types tree.old.rules.specs.now) }
-    requires aligned_more { All HasAlignment (more_types tree.old.rules.more.now) }
     requires attached { IfTold F.seen files.old (λ names. IsAttached names tree.old.rules.relation.now) }
     requires seen { IfTold F.seen files.old (λ names. HasSeen names tree.old) }
     requires inside { b < count_of tree.old.rules.relation.now }
@@ -118,10 +112,6 @@ impl Window {
         b: u32,
         report: &mut Report,
     ) -> Result<(), PageFault>
-        requires few { length tree.old.rules.specs.now ≤ 8 }
-        requires few_more { length tree.old.rules.more.now ≤ 24 }
-        requires aligned { All HasAlignment (key_types tree.old.rules.specs.now) }
-        requires aligned_more { All HasAlignment (more_types tree.old.rules.more.now) }
         requires attached { IfTold F.seen files.old (λ names. IsAttached names tree.old.rules.relation.now) }
         requires seen { IfTold F.seen files.old (λ names. HasSeen names tree.old) }
         requires inside { b < count_of tree.old.rules.relation.now }

@@ -23,8 +23,8 @@ pub record Tree : Type 0 where
 abbrev pub tree_seen : Names → TreeRules → Tree
 tree_seen names tree = record {
   number = tree.number;
-  specs = tree.specs.now;
-  more = tree.more.now;
+  specs = tree.columns.specs.now;
+  more = tree.columns.more.now;
   blocks = count_of tree.relation.now;
   block = block_of names (base_of tree.relation.now) (size_of tree.relation.now);
 }

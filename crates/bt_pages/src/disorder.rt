@@ -1,10 +1,8 @@
 //! Items that aren't in order: which of them, on a page where each is plain (B10 and B11).
-ghost use Rattle.std.specs.Prelude.{◌≡◌, ◌≤◌, ◌-◌, [], ◌∷◌, length, true, false, None, All, find};
+ghost use Rattle.std.specs.Prelude.{◌≡◌, ◌≤◌, ◌-◌, [], ◌∷◌, true, false, None, find};
 ghost use Rattle.page_layout.specs.Page.{count_of, page_rule_of};
 ghost use Rattle.page_layout.specs.View.{page_bytes};
 ghost use Rattle.page_layout.specs.declared.rules.Rule.TheVariants.{B10, B11};
-ghost use Rattle.key_orders.specs.Types.{HasAlignment};
-ghost use Rattle.varlena_attrs.specs.Keyed.{key_types, more_types};
 ghost use Rattle.bt_meta.specs.Flags.{is_half_dead};
 ghost use Rattle.bt_meta.specs.Pages.{opaque_of};
 ghost use Rattle.tree_image.specs.Pages.{breaks_high_key, breaks_order};
@@ -13,65 +11,57 @@ ghost use Rattle.bt_pages.specs.Questions.{are_plain, breaks_on_page};
 use crate::high_key::{is_past_high_key, last_key_at};
 use crate::turns::read_item;
 use bt_tuples::ItemKeys;
-use key_orders::{KeySpec, MoreSpec};
 use page_layout::{PageKind, PageView, Rule};
 use tree_image::ItemPlaces;
+use varlena_attrs::IndexColumns;
 
 // Whether an item breaks B10.
-fn is_low_item(page: PageView<'_>, i: u16, specs: &[KeySpec], more: &[MoreSpec]) -> bool
+fn is_low_item(page: PageView<'_>, i: u16, columns: &IndexColumns<'_>) -> bool
     requires page { page_rule_of PageKind.Tree (page_bytes page) ≡ None }
     requires first { 1 ≤ i }
     requires last { i ≤ count_of (page_bytes page) }
-    requires few { length specs.now ≤ 8 }
-    requires few_more { length more.now ≤ 24 }
-    requires aligned { All HasAlignment (key_types specs.now) }
-    requires aligned_more { All HasAlignment (more_types more.now) }
     requires live { is_half_dead (opaque_of (page_bytes page)) ≡ false }
-    requires plain { are_plain specs.now more.now (page_bytes page) (count_of (page_bytes page)) ≡ true }
-    ensures { result ≡ breaks_order specs.now more.now (page_bytes page.entry) i }
+    requires plain { are_plain columns.now.specs.now columns.now.more.now (page_bytes page) (count_of (page_bytes page))
+        ≡ true }
+    ensures { result ≡ breaks_order columns.now.specs.now columns.now.more.now (page_bytes page.entry) i }
 {
-    let before = last_key_at(page, i - 1, specs, more);
+    let before = last_key_at(page, i - 1, columns);
     let at = ItemPlaces::of(page).at(i);
-    match read_item(page, at, specs, more, &before, &mut ItemKeys::new()) {
+    match read_item(page, at, columns, &before, &mut ItemKeys::new()) {
         None => false,
         Some(is_low) => is_low,
     }
 }
 
 // Whether a page that has this item breaks B11.
-fn is_past(page: PageView<'_>, i: u16, specs: &[KeySpec], more: &[MoreSpec]) -> bool
+fn is_past(page: PageView<'_>, i: u16, columns: &IndexColumns<'_>) -> bool
     requires page { page_rule_of PageKind.Tree (page_bytes page) ≡ None }
     requires first { 1 ≤ i }
     requires last { i ≤ count_of (page_bytes page) }
-    requires few { length specs.now ≤ 8 }
-    requires few_more { length more.now ≤ 24 }
-    requires aligned { All HasAlignment (key_types specs.now) }
-    requires aligned_more { All HasAlignment (more_types more.now) }
     requires live { is_half_dead (opaque_of (page_bytes page)) ≡ false }
-    requires plain { are_plain specs.now more.now (page_bytes page) (count_of (page_bytes page)) ≡ true }
-    ensures { result ≡ breaks_high_key specs.now more.now (page_bytes page.entry) }
+    requires plain { are_plain columns.now.specs.now columns.now.more.now (page_bytes page) (count_of (page_bytes page))
+        ≡ true }
+    ensures { result ≡ breaks_high_key columns.now.specs.now columns.now.more.now (page_bytes page.entry) }
 {
-    let last = last_key_at(page, page.item_count(), specs, more);
-    is_past_high_key(page, specs, more, &last)
+    let last = last_key_at(page, page.item_count(), columns);
+    is_past_high_key(page, columns, &last)
 }
 
 /// The first of B10 and B11 that an item breaks, on a page where each item is plain.
-pub fn order_rule(page: PageView<'_>, i: u16, specs: &[KeySpec], more: &[MoreSpec]) -> Option<Rule>
+pub fn order_rule(page: PageView<'_>, i: u16, columns: &IndexColumns<'_>) -> Option<Rule>
     requires page { page_rule_of PageKind.Tree (page_bytes page) ≡ None }
     requires first { 1 ≤ i }
     requires last { i ≤ count_of (page_bytes page) }
-    requires few { length specs.now ≤ 8 }
-    requires few_more { length more.now ≤ 24 }
-    requires aligned { All HasAlignment (key_types specs.now) }
-    requires aligned_more { All HasAlignment (more_types more.now) }
     requires live { is_half_dead (opaque_of (page_bytes page)) ≡ false }
-    requires plain { are_plain specs.now more.now (page_bytes page) (count_of (page_bytes page)) ≡ true }
-    ensures { result ≡ find (breaks_on_page specs.now more.now (page_bytes page.entry) i) (B10 ∷ B11 ∷ []) }
+    requires plain { are_plain columns.now.specs.now columns.now.more.now (page_bytes page) (count_of (page_bytes page))
+        ≡ true }
+    ensures { result ≡ find (breaks_on_page columns.now.specs.now columns.now.more.now (page_bytes page.entry) i)
+        (B10 ∷ B11 ∷ []) }
 {
-    if is_low_item(page, i, specs, more) {
+    if is_low_item(page, i, columns) {
         return Some(Rule::B10);
     }
-    if i == 1 && is_past(page, i, specs, more) {
+    if i == 1 && is_past(page, i, columns) {
         return Some(Rule::B11);
     }
     None

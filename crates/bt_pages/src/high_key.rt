@@ -1,10 +1,8 @@
 //! The high key of a page and the key of its last item, which B11 compares.
-ghost use Rattle.std.specs.Prelude.{◌≡◌, ◌≤◌, length, true, false, None, All};
+ghost use Rattle.std.specs.Prelude.{◌≡◌, ◌≤◌, true, false, None};
 ghost use Rattle.page_layout.specs.Page.{count_of, page_rule_of};
 ghost use Rattle.page_layout.specs.View.{page_bytes};
 ghost use Rattle.key_orders.specs.Separators.{separator_of};
-ghost use Rattle.key_orders.specs.Types.{HasAlignment};
-ghost use Rattle.varlena_attrs.specs.Keyed.{key_types, more_types};
 ghost use Rattle.bt_meta.specs.Flags.{is_half_dead};
 ghost use Rattle.bt_meta.specs.Pages.{opaque_of};
 ghost use Rattle.bt_tuples.specs.Shown.{item_shown};
@@ -14,9 +12,10 @@ ghost use Rattle.bt_pages.specs.Passes.{IsCarried};
 ghost use Rattle.bt_pages.specs.Questions.{are_plain, is_without_fault};
 
 use bt_tuples::{ItemKeys, TreeItem, tree_item};
-use key_orders::{KeySpec, MoreSpec, SepRef};
+use key_orders::SepRef;
 use page_layout::{PageKind, PageView};
 use tree_image::{breaks_high_key, has_high_key, spot_of};
+use varlena_attrs::IndexColumns;
 
 // What an item keeps as a separator; one that is none keeps nothing.
 pub fn separator_in<'p>(item: TreeItem<'p>) -> SepRef<'p>
@@ -29,54 +28,38 @@ pub fn separator_in<'p>(item: TreeItem<'p>) -> SepRef<'p>
 }
 
 // Whether the last key of a page is past its high key, if it has one (B11).
-pub fn is_past_high_key(
-    page: PageView<'_>,
-    specs: &[KeySpec],
-    more: &[MoreSpec],
-    last: &SepRef<'_>,
-) -> bool
+pub fn is_past_high_key(page: PageView<'_>, columns: &IndexColumns<'_>, last: &SepRef<'_>) -> bool
     requires page { page_rule_of PageKind.Tree (page_bytes page) ≡ None }
     requires some { 1 ≤ count_of (page_bytes page) }
-    requires few { length specs.now ≤ 8 }
-    requires few_more { length more.now ≤ 24 }
-    requires aligned { All HasAlignment (key_types specs.now) }
-    requires aligned_more { All HasAlignment (more_types more.now) }
     requires live { is_half_dead (opaque_of (page_bytes page)) ≡ false }
-    requires plain { is_without_fault specs.now more.now (page_bytes page) 1 ≡ true }
-    requires last { IsCarried specs.now more.now (page_bytes page) (count_of (page_bytes page)) last.now }
-    ensures { result ≡ breaks_high_key specs.now more.now (page_bytes page.entry) }
+    requires plain { is_without_fault columns.now.specs.now columns.now.more.now (page_bytes page) 1 ≡ true }
+    requires last { IsCarried columns.now.specs.now columns.now.more.now (page_bytes page)
+        (count_of (page_bytes page)) last.now }
+    ensures { result ≡ breaks_high_key columns.now.specs.now columns.now.more.now (page_bytes page.entry) }
 {
     if !has_high_key(page) {
         return false;
     }
-    match tree_item(page, 1, specs, more, spot_of(page, 1)) {
+    match tree_item(page, 1, columns, spot_of(page, 1)) {
         Err(_) => false,
-        Ok(item) => breaks_high_key(page, specs, last, &separator_in(item)),
+        Ok(item) => breaks_high_key(page, columns.specs, last, &separator_in(item)),
     }
 }
 
 // The key of the last entry of item i; before the first item none is kept.
-pub fn last_key_at<'p>(
-    page: PageView<'p>,
-    i: u16,
-    specs: &[KeySpec],
-    more: &[MoreSpec],
-) -> SepRef<'p>
+pub fn last_key_at<'p>(page: PageView<'p>, i: u16, columns: &IndexColumns<'_>) -> SepRef<'p>
     requires page { page_rule_of PageKind.Tree (page_bytes page) ≡ None }
     requires last { i ≤ count_of (page_bytes page) }
-    requires few { length specs.now ≤ 8 }
-    requires few_more { length more.now ≤ 24 }
-    requires aligned { All HasAlignment (key_types specs.now) }
-    requires aligned_more { All HasAlignment (more_types more.now) }
     requires live { is_half_dead (opaque_of (page_bytes page)) ≡ false }
-    requires plain { are_plain specs.now more.now (page_bytes page) (count_of (page_bytes page)) ≡ true }
-    ensures { IsCarried specs.now more.now (page_bytes page.entry) i result }
+    requires plain { are_plain columns.now.specs.now columns.now.more.now (page_bytes page) (count_of (page_bytes page))
+        ≡ true }
+    ensures { IsCarried columns.now.specs.now columns.now.more.now (page_bytes page.entry) i result }
 {
     let mut keys = ItemKeys::new();
     if i == 0 {
         return keys.first;
     }
-    match keys.read(page, i, specs, more, spot_of(page, i)) {
+    match keys.read(page, i, columns, spot_of(page, i)) {
         Err(_) => keys.first,
         Ok(()) => {
             keys.keep_last();

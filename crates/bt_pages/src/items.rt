@@ -1,11 +1,9 @@
 //! The items of a page, each by itself: its rules B5 to B9, and U5; its place in the order, B10 and B11.
-ghost use Rattle.std.specs.Prelude.{◌≡◌, ◌≤◌, List, length, true, false, None, All, find};
+ghost use Rattle.std.specs.Prelude.{◌≡◌, ◌≤◌, List, true, false, None, find};
 ghost use Rattle.page_layout.specs.Page.{count_of, page_rule_of};
 ghost use Rattle.page_layout.specs.View.{page_bytes};
 ghost use Rattle.key_orders.specs.declared.columns.KeySpec.{KeySpec as Spec};
 ghost use Rattle.key_orders.specs.declared.more.MoreSpec.{MoreSpec as More};
-ghost use Rattle.key_orders.specs.Types.{HasAlignment};
-ghost use Rattle.varlena_attrs.specs.Keyed.{key_types, more_types};
 ghost use Rattle.bt_meta.specs.Flags.{is_half_dead};
 ghost use Rattle.bt_meta.specs.Pages.{opaque_of};
 ghost use Rattle.bt_tuples.specs.Rules.{breaks_place};
@@ -16,10 +14,10 @@ use crate::disorder::order_rule;
 use crate::pass::Pass;
 use bt_meta::tree_head;
 use bt_tuples::{ItemFault, tree_item};
-use key_orders::{KeySpec, MoreSpec};
 use page_layout::{PageKind, PageView, Rule};
 use reports::Reason;
 use tree_image::spot_of;
+use varlena_attrs::IndexColumns;
 
 /// What is found of an item before its downlink is followed.
 #[derive(Clone, Copy, Debug, PartialEq, Eq)]
@@ -55,19 +53,15 @@ fn form_rule(page: PageView<'_>, i: u16) -> Option<Rule>
 }
 
 // What is found of an item by itself, on a page that isn't half-dead.
-fn own_found(page: PageView<'_>, i: u16, specs: &[KeySpec], more: &[MoreSpec]) -> ItemFound
+fn own_found(page: PageView<'_>, i: u16, columns: &IndexColumns<'_>) -> ItemFound
     requires page { page_rule_of PageKind.Tree (page_bytes page) ≡ None }
     requires first { 1 ≤ i }
     requires last { i ≤ count_of (page_bytes page) }
-    requires few { length specs.now ≤ 8 }
-    requires few_more { length more.now ≤ 24 }
-    requires aligned { All HasAlignment (key_types specs.now) }
-    requires aligned_more { All HasAlignment (more_types more.now) }
     requires live { is_half_dead (opaque_of (page_bytes page)) ≡ false }
-    ensures rule { result.rule ≡ own_rule specs.now more.now (page_bytes page.entry) i }
-    ensures doubt { result.doubt ≡ own_doubt specs.now more.now (page_bytes page.entry) i }
+    ensures rule { result.rule ≡ own_rule columns.now.specs.now columns.now.more.now (page_bytes page.entry) i }
+    ensures doubt { result.doubt ≡ own_doubt columns.now.specs.now columns.now.more.now (page_bytes page.entry) i }
 {
-    match tree_item(page, i, specs, more, spot_of(page, i)) {
+    match tree_item(page, i, columns, spot_of(page, i)) {
         Ok(_) => ItemFound {
             rule: None,
             doubt: None,
@@ -87,20 +81,15 @@ fn own_found(page: PageView<'_>, i: u16, specs: &[KeySpec], more: &[MoreSpec]) -
 pub fn found_on_page(
     page: PageView<'_>,
     i: u16,
-    specs: &[KeySpec],
-    more: &[MoreSpec],
+    columns: &IndexColumns<'_>,
     pass: Pass,
 ) -> ItemFound
     requires page { page_rule_of PageKind.Tree (page_bytes page) ≡ None }
     requires first { 1 ≤ i }
     requires last { i ≤ count_of (page_bytes page) }
-    requires few { length specs.now ≤ 8 }
-    requires few_more { length more.now ≤ 24 }
-    requires aligned { All HasAlignment (key_types specs.now) }
-    requires aligned_more { All HasAlignment (more_types more.now) }
-    requires pass { pass ≡ pass_of specs.now more.now (page_bytes page) }
-    ensures rule { result.rule ≡ rule_on_page specs.now more.now (page_bytes page.entry) i }
-    ensures doubt { result.doubt ≡ own_doubt specs.now more.now (page_bytes page.entry) i }
+    requires pass { pass ≡ pass_of columns.now.specs.now columns.now.more.now (page_bytes page) }
+    ensures rule { result.rule ≡ rule_on_page columns.now.specs.now columns.now.more.now (page_bytes page.entry) i }
+    ensures doubt { result.doubt ≡ own_doubt columns.now.specs.now columns.now.more.now (page_bytes page.entry) i }
     ensures placed { result.rule ≡ None → breaks_place (page_bytes page.entry) i ≡ false }
 {
     match pass {
@@ -108,9 +97,9 @@ pub fn found_on_page(
             rule: form_rule(page, i),
             doubt: None,
         },
-        Pass::NotPlain => own_found(page, i, specs, more),
+        Pass::NotPlain => own_found(page, i, columns),
         Pass::Disordered => ItemFound {
-            rule: order_rule(page, i, specs, more),
+            rule: order_rule(page, i, columns),
             doubt: None,
         },
         Pass::Ordered => ItemFound {

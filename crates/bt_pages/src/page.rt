@@ -1,11 +1,9 @@
 //! Judges one page of a tree.
-ghost use Rattle.std.specs.Prelude.{◌≡◌, ◌*◌, ◌≤◌, All, false, length, None};
+ghost use Rattle.std.specs.Prelude.{◌≡◌, ◌*◌, ◌≤◌, false, None};
 ghost use Rattle.outside.specs.Adds.{AddsIn};
 ghost use Rattle.outside.specs.Outside.{AskedAtMost, IfTold, Tells};
 ghost use Rattle.page_layout.specs.Page.{count_of, page_rule_of};
 ghost use Rattle.page_layout.specs.View.{page_bytes};
-ghost use Rattle.key_orders.specs.Types.{HasAlignment};
-ghost use Rattle.varlena_attrs.specs.Keyed.{key_types, more_types};
 ghost use Rattle.bt_tuples.specs.Rules.{breaks_place};
 ghost use Rattle.rel_files.specs.Faults.{read_fault};
 ghost use Rattle.rel_files.specs.Relation.{IsAttached};
@@ -60,7 +58,8 @@ fn rule_of_item<F: Files>(
     requires placed { found.rule ≡ None → breaks_place (page_bytes page) i ≡ false }
     requires attached { IfTold F.seen files.old (λ names. IsAttached names tree.old.rules.relation.now) }
     requires seen { IfTold F.seen files.old (λ names. HasSeen names tree.old) }
-    requires rule { found.rule ≡ rule_on_page tree.old.rules.specs.now tree.old.rules.more.now (page_bytes page) i }
+    requires rule { found.rule ≡ rule_on_page tree.old.rules.columns.specs.now tree.old.rules.columns.more.now
+        (page_bytes page) i }
     ensures told { Tells F.seen files.old result (λ rule names.
         rule ≡ item_rule (tree_seen names tree.old.rules) (page_bytes page.entry) i) }
     ensures tree { StaysSeen F.seen files.old tree.old tree.new }
@@ -84,19 +83,15 @@ fn judge_item<F: Files>(
     requires page { page_rule_of PageKind.Tree (page_bytes page) ≡ None }
     requires first { 1 ≤ at.item }
     requires last { at.item ≤ count_of (page_bytes page) }
-    requires few { length tree.old.rules.specs.now ≤ 8 }
-    requires few_more { length tree.old.rules.more.now ≤ 24 }
-    requires aligned { All HasAlignment (key_types tree.old.rules.specs.now) }
-    requires aligned_more { All HasAlignment (more_types tree.old.rules.more.now) }
     requires attached { IfTold F.seen files.old (λ names. IsAttached names tree.old.rules.relation.now) }
     requires seen { IfTold F.seen files.old (λ names. HasSeen names tree.old) }
-    requires pass { pass ≡ pass_of tree.old.rules.specs.now tree.old.rules.more.now (page_bytes page) }
+    requires pass { pass ≡ pass_of tree.old.rules.columns.specs.now tree.old.rules.columns.more.now (page_bytes page) }
     ensures lists { IfTold F.seen files.old (λ names. AddsIn report_lists result report.old report.new
         (item_lists (tree_seen names tree.old.rules) at.block (page_bytes page.entry) at.item)) }
     ensures tree { StaysSeen F.seen files.old tree.old tree.new }
     ensures asked { AskedAtMost 2 F.seen files.old files.new result PageFault.ReadFault }
 {
-    let found = found_on_page(page, at.item, tree.rules.specs, tree.rules.more, pass);
+    let found = found_on_page(page, at.item, &tree.rules.columns, pass);
     let place = Place::Item(Rel::Index(tree.rules.number), at.block, at.item);
     let rule = rule_of_item(files, tree, page, at.item, found)?;
     add_found(report, place, rule, found.doubt)?;
@@ -113,13 +108,9 @@ fn judge_each<F: Files>(
     report: &mut Report,
 ) -> Result<(), PageFault>
     requires page { page_rule_of PageKind.Tree (page_bytes page) ≡ None }
-    requires few { length tree.old.rules.specs.now ≤ 8 }
-    requires few_more { length tree.old.rules.more.now ≤ 24 }
-    requires aligned { All HasAlignment (key_types tree.old.rules.specs.now) }
-    requires aligned_more { All HasAlignment (more_types tree.old.rules.more.now) }
     requires attached { IfTold F.seen files.old (λ names. IsAttached names tree.old.rules.relation.now) }
     requires seen { IfTold F.seen files.old (λ names. HasSeen names tree.old) }
-    requires pass { pass ≡ pass_of tree.old.rules.specs.now tree.old.rules.more.now (page_bytes page) }
+    requires pass { pass ≡ pass_of tree.old.rules.columns.specs.now tree.old.rules.columns.more.now (page_bytes page) }
     ensures lists { IfTold F.seen files.old (λ names. AddsIn report_lists result report.old report.new
         (items_lists (tree_seen names tree.old.rules) b (page_bytes page.entry))) }
     ensures tree { StaysSeen F.seen files.old tree.old tree.new }
@@ -146,10 +137,6 @@ fn judge_items<F: Files>(
     report: &mut Report,
 ) -> Result<(), PageFault>
     requires page { page_rule_of PageKind.Tree (page_bytes page) ≡ None }
-    requires few { length tree.old.rules.specs.now ≤ 8 }
-    requires few_more { length tree.old.rules.more.now ≤ 24 }
-    requires aligned { All HasAlignment (key_types tree.old.rules.specs.now) }
-    requires aligned_more { All HasAlignment (more_types tree.old.rules.more.now) }
     requires attached { IfTold F.seen files.old (λ names. IsAttached names tree.old.rules.relation.now) }
     requires seen { IfTold F.seen files.old (λ names. HasSeen names tree.old) }
     ensures lists { IfTold F.seen files.old (λ names. AddsIn report_lists result report.old report.new
@@ -157,7 +144,7 @@ fn judge_items<F: Files>(
     ensures tree { StaysSeen F.seen files.old tree.old tree.new }
     ensures asked { AskedAtMost 4076 F.seen files.old files.new result PageFault.ReadFault }
 {
-    let pass = pass_of_items(page, tree.rules.specs, tree.rules.more);
+    let pass = pass_of_items(page, &tree.rules.columns);
     match pass {
         Pass::Ordered if opaque(page).is_leaf() => Ok(()),
         _ => judge_each(files, tree, page, b, pass, report),
@@ -178,10 +165,6 @@ pub fn judge_page<F: Files>(
     b: u32,
     report: &mut Report,
 ) -> Result<(), PageFault>
-    requires few { length tree.old.rules.specs.now ≤ 8 }
-    requires few_more { length tree.old.rules.more.now ≤ 24 }
-    requires aligned { All HasAlignment (key_types tree.old.rules.specs.now) }
-    requires aligned_more { All HasAlignment (more_types tree.old.rules.more.now) }
     requires attached { IfTold F.seen files.old (λ names. IsAttached names tree.old.rules.relation.now) }
     requires seen { IfTold F.seen files.old (λ names. HasSeen names tree.old) }
     requires page { IfTold F.seen files.old (λ names. page_bytes page ≡ (tree_seen names tree.old.rules).block b) }

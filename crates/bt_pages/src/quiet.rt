@@ -1,11 +1,9 @@
 //! Leaves of plain entries that rise by their first values, as nearly all do: each item is asked once, by its bytes as
 //! they lie. A second way to what a pass over the items tells, for its speed alone.
-ghost use Rattle.std.specs.Prelude.{◌≡◌, ◌≤◌, ◌-◌, [], length, true, false, None, All};
+ghost use Rattle.std.specs.Prelude.{◌≡◌, ◌≤◌, ◌-◌, [], true, false, None};
 ghost use Rattle.std.specs.Bool.{OnTrue};
 ghost use Rattle.page_layout.specs.Page.{count_of, page_rule_of};
 ghost use Rattle.page_layout.specs.View.{page_bytes};
-ghost use Rattle.key_orders.specs.Types.{HasAlignment};
-ghost use Rattle.varlena_attrs.specs.Keyed.{key_types, more_types};
 ghost use Rattle.bt_meta.specs.Flags.{is_half_dead, is_leaf};
 ghost use Rattle.bt_meta.specs.Pages.{opaque_of};
 ghost use Rattle.tree_image.specs.Image.{first_data, has_high_key};
@@ -15,28 +13,26 @@ ghost use Rattle.bt_pages.specs.declared.pass.Pass.TheVariants.{Ordered};
 use crate::high_key::{last_key_at, separator_in};
 use bt_meta::opaque;
 use bt_tuples::{Spot3, plain_entry_prefix, tree_item};
-use key_orders::{KeySpec, MoreSpec};
 use page_layout::{PageKind, PageView};
 use tree_image::{breaks_high_key, first_data, has_high_key};
+use varlena_attrs::IndexColumns;
 
 // Whether the data items of a leaf in an index without included columns are plain entries, of which each has a greater
 // number than the one before.
-fn do_entries_rise(page: PageView<'_>, first: u16, specs: &[KeySpec]) -> bool
+fn do_entries_rise(page: PageView<'_>, first: u16, columns: &IndexColumns<'_>) -> bool
     requires page { page_rule_of PageKind.Tree (page_bytes page) ≡ None }
-    requires few { length specs.now ≤ 8 }
-    requires aligned { All HasAlignment (key_types specs.now) }
     requires live { is_half_dead (opaque_of (page_bytes page)) ≡ false }
     requires leaf { is_leaf (opaque_of (page_bytes page)) ≡ true }
     requires first { first ≡ first_data (page_bytes page) }
     requires some { first ≤ count_of (page_bytes page) }
-    ensures { OnTrue result (RiseTo specs.now [] (page_bytes page.entry) (first - 1)
-        → RiseTo specs.now [] (page_bytes page.entry) (count_of (page_bytes page.entry))) }
+    ensures { OnTrue result (RiseTo columns.now.specs.now [] (page_bytes page.entry) (first - 1)
+        → RiseTo columns.now.specs.now [] (page_bytes page.entry) (count_of (page_bytes page.entry))) }
 {
-    let Some(mut last) = plain_entry_prefix(page, first, specs) else {
+    let Some(mut last) = plain_entry_prefix(page, first, columns) else {
         return false;
     };
     for k in first..page.item_count() {
-        match plain_entry_prefix(page, k + 1, specs) {
+        match plain_entry_prefix(page, k + 1, columns) {
             None => return false,
             Some(number) => {
                 if number <= last {
@@ -50,48 +46,40 @@ fn do_entries_rise(page: PageView<'_>, first: u16, specs: &[KeySpec]) -> bool
 }
 
 // Whether the last of such items isn't above the high key of the leaf, which is plain too.
-fn has_plain_high_key(page: PageView<'_>, specs: &[KeySpec], more: &[MoreSpec]) -> bool
+fn has_plain_high_key(page: PageView<'_>, columns: &IndexColumns<'_>) -> bool
     requires page { page_rule_of PageKind.Tree (page_bytes page) ≡ None }
-    requires few { length specs.now ≤ 8 }
-    requires few_more { length more.now ≤ 24 }
-    requires aligned { All HasAlignment (key_types specs.now) }
-    requires aligned_more { All HasAlignment (more_types more.now) }
     requires live { is_half_dead (opaque_of (page_bytes page)) ≡ false }
     requires high { has_high_key (page_bytes page) ≡ true }
     requires some { 1 ≤ count_of (page_bytes page) }
-    requires rise { RiseTo specs.now more.now (page_bytes page) 1
-        → RiseTo specs.now more.now (page_bytes page) (count_of (page_bytes page)) }
-    ensures { OnTrue result (pass_of specs.now more.now (page_bytes page.entry) ≡ Ordered) }
+    requires rise { RiseTo columns.now.specs.now columns.now.more.now (page_bytes page) 1
+        → RiseTo columns.now.specs.now columns.now.more.now (page_bytes page) (count_of (page_bytes page)) }
+    ensures { OnTrue result (pass_of columns.now.specs.now columns.now.more.now (page_bytes page.entry) ≡ Ordered) }
 {
-    match tree_item(page, 1, specs, more, Spot3::HighKey) {
+    match tree_item(page, 1, columns, Spot3::HighKey) {
         Err(_) => false,
         Ok(item) => {
-            let last = last_key_at(page, page.item_count(), specs, more);
-            !breaks_high_key(page, specs, &last, &separator_in(item))
+            let last = last_key_at(page, page.item_count(), columns);
+            !breaks_high_key(page, columns.specs, &last, &separator_in(item))
         }
     }
 }
 
 // Whether a leaf that isn't half-dead has plain entries alone, which rise by their first values and aren't above its
 // high key. `false` says nothing.
-pub fn is_quiet_leaf(page: PageView<'_>, specs: &[KeySpec], more: &[MoreSpec]) -> bool
+pub fn is_quiet_leaf(page: PageView<'_>, columns: &IndexColumns<'_>) -> bool
     requires page { page_rule_of PageKind.Tree (page_bytes page) ≡ None }
-    requires few { length specs.now ≤ 8 }
-    requires few_more { length more.now ≤ 24 }
-    requires aligned { All HasAlignment (key_types specs.now) }
-    requires aligned_more { All HasAlignment (more_types more.now) }
     requires live { is_half_dead (opaque_of (page_bytes page)) ≡ false }
-    ensures { OnTrue result (pass_of specs.now more.now (page_bytes page.entry) ≡ Ordered) }
+    ensures { OnTrue result (pass_of columns.now.specs.now columns.now.more.now (page_bytes page.entry) ≡ Ordered) }
 {
     let first = first_data(page);
-    if !more.is_empty() || !opaque(page).is_leaf() || page.item_count() < first {
+    if !columns.more.is_empty() || !opaque(page).is_leaf() || page.item_count() < first {
         return false;
     }
-    if !do_entries_rise(page, first, specs) {
+    if !do_entries_rise(page, first, columns) {
         return false;
     }
     if !has_high_key(page) {
         return true;
     }
-    has_plain_high_key(page, specs, more)
+    has_plain_high_key(page, columns)
 }

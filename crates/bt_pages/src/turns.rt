@@ -1,11 +1,9 @@
 //! The keys of items that follow each other: each is read into the place of the one before the last, so
 //! that no key is copied.
-ghost use Rattle.std.specs.Prelude.{◌≡◌, ◌≤◌, ◌-◌, [], length, false, None, All, IfSome, is_some};
+ghost use Rattle.std.specs.Prelude.{◌≡◌, ◌≤◌, ◌-◌, [], false, None, IfSome, is_some};
 ghost use Rattle.page_layout.specs.Page.{count_of, page_rule_of};
 ghost use Rattle.page_layout.specs.View.{page_bytes};
 ghost use Rattle.key_orders.specs.Separators.{separator_of};
-ghost use Rattle.key_orders.specs.Types.{HasAlignment};
-ghost use Rattle.varlena_attrs.specs.Keyed.{key_types, more_types};
 ghost use Rattle.bt_meta.specs.Flags.{is_half_dead};
 ghost use Rattle.bt_meta.specs.Pages.{opaque_of};
 ghost use Rattle.tree_image.specs.Pages.{breaks_order};
@@ -14,9 +12,10 @@ ghost use Rattle.bt_pages.specs.Passes.{IsCarried, held};
 ghost use Rattle.bt_pages.specs.Questions.{is_without_fault};
 
 use bt_tuples::ItemKeys;
-use key_orders::{KeySpec, MoreSpec, SepRef};
+use key_orders::SepRef;
 use page_layout::{PageKind, PageView};
 use tree_image::{ItemPlace, ItemPlaces, breaks_order};
+use varlena_attrs::IndexColumns;
 
 // Reads an item into a place, where it is plain, and tells whether it isn't above the item before, whose
 // last key is in hand (B10). The place then has the key of the last entry.
@@ -24,8 +23,7 @@ use tree_image::{ItemPlace, ItemPlaces, breaks_order};
 pub fn read_item<'p>(
     page: PageView<'p>,
     at: ItemPlace,
-    specs: &[KeySpec],
-    more: &[MoreSpec],
+    columns: &IndexColumns<'_>,
     before: &SepRef<'p>,
     keys: &mut ItemKeys<'p>,
 ) -> Option<bool>
@@ -33,21 +31,20 @@ pub fn read_item<'p>(
     requires place { at ≡ place_of (page_bytes page) at.number }
     requires first { 1 ≤ at.number }
     requires last { at.number ≤ count_of (page_bytes page) }
-    requires few { length specs.now ≤ 8 }
-    requires few_more { length more.now ≤ 24 }
-    requires aligned { All HasAlignment (key_types specs.now) }
-    requires aligned_more { All HasAlignment (more_types more.now) }
     requires live { is_half_dead (opaque_of (page_bytes page)) ≡ false }
-    requires before { IsCarried specs.now more.now (page_bytes page) (at.number - 1) before.now }
-    ensures plain { is_without_fault specs.now more.now (page_bytes page.entry) at.number ≡ is_some result }
-    ensures low { IfSome result (λ low. low ≡ breaks_order specs.now more.now (page_bytes page.entry) at.number) }
+    requires before { IsCarried columns.now.specs.now columns.now.more.now (page_bytes page)
+        (at.number - 1) before.now }
+    ensures plain { is_without_fault columns.now.specs.now columns.now.more.now (page_bytes page.entry) at.number
+        ≡ is_some result }
+    ensures low { IfSome result (λ low. low
+        ≡ breaks_order columns.now.specs.now columns.now.more.now (page_bytes page.entry) at.number) }
     ensures last { IfSome result (λ low.
-        IsCarried specs.now more.now (page_bytes page.entry) at.number keys.new.first) }
+        IsCarried columns.now.specs.now columns.now.more.now (page_bytes page.entry) at.number keys.new.first) }
 {
-    match keys.read(page, at.number, specs, more, at.spot) {
+    match keys.read(page, at.number, columns, at.spot) {
         Err(_) => None,
         Ok(()) => {
-            let is_low = breaks_order(at, specs, before, keys);
+            let is_low = breaks_order(at, columns.specs, before, keys);
             keys.keep_last();
             Some(is_low)
         }
@@ -92,33 +89,27 @@ impl<'p> Turns<'p> {
 
     // Reads the next item, item i, where it is plain, and tells whether it isn't above the one before.
     #[inline]
-    pub fn read(
-        &mut self,
-        page: PageView<'p>,
-        i: u16,
-        specs: &[KeySpec],
-        more: &[MoreSpec],
-    ) -> Option<bool>
+    pub fn read(&mut self, page: PageView<'p>, i: u16, columns: &IndexColumns<'_>) -> Option<bool>
         requires page { page_rule_of PageKind.Tree (page_bytes page) ≡ None }
         requires places { self.old.places ≡ places_of (page_bytes page) }
         requires first { 1 ≤ i }
         requires last { i ≤ count_of (page_bytes page) }
-        requires few { length specs.now ≤ 8 }
-        requires few_more { length more.now ≤ 24 }
-        requires aligned { All HasAlignment (key_types specs.now) }
-        requires aligned_more { All HasAlignment (more_types more.now) }
         requires live { is_half_dead (opaque_of (page_bytes page)) ≡ false }
-        requires before { IsCarried specs.now more.now (page_bytes page) (i - 1) (held self.old) }
+        requires before { IsCarried columns.now.specs.now columns.now.more.now (page_bytes page) (i - 1)
+            (held self.old) }
         ensures places { self.new.places ≡ self.old.places }
-        ensures plain { is_without_fault specs.now more.now (page_bytes page.entry) i ≡ is_some result }
-        ensures low { IfSome result (λ low. low ≡ breaks_order specs.now more.now (page_bytes page.entry) i) }
-        ensures last { IfSome result (λ low. IsCarried specs.now more.now (page_bytes page.entry) i (held self.new)) }
+        ensures plain { is_without_fault columns.now.specs.now columns.now.more.now (page_bytes page.entry) i
+            ≡ is_some result }
+        ensures low { IfSome result (λ low. low
+            ≡ breaks_order columns.now.specs.now columns.now.more.now (page_bytes page.entry) i) }
+        ensures last { IfSome result (λ low. IsCarried columns.now.specs.now columns.now.more.now
+            (page_bytes page.entry) i (held self.new)) }
     {
         let at = self.places.at(i);
         let is_low = if self.is_right {
-            read_item(page, at, specs, more, &self.right.first, &mut self.left)
+            read_item(page, at, columns, &self.right.first, &mut self.left)
         } else {
-            read_item(page, at, specs, more, &self.left.first, &mut self.right)
+            read_item(page, at, columns, &self.left.first, &mut self.right)
         };
         self.is_right = !self.is_right;
         is_low

@@ -10,16 +10,16 @@ use Rattle.tree_search.specs.Search.{Answers, At, Ended, IsWanted, State, Stuck,
 use Rattle.tree_search.specs.Spots.{Stands, VisitsOn, from_place, left_of, rest_of, visits_made, yielded_of}
 use Rattle.tree_search.specs.Tree.{Index}
 use Rattle.tree_search.proofs.Whole.{after_ended}
-use Rattle.key_orders.specs.declared.columns.KeySpec.{KeySpec}
 use Rattle.key_orders.specs.declared.columns.Value.{Value}
 use Rattle.key_orders.specs.declared.Tid.{Tid}
 use Rattle.key_orders.specs.Scans.{Bounds, order_of}
+use Rattle.varlena_attrs.specs.Columns.{TreeColumns}
 use Rattle.bt_meta.specs.Flags.{is_half_dead, is_leaf}
 use Rattle.bt_meta.specs.Pages.{opaque_of}
 use Rattle.tree_image.specs.Image.{TreePage, first_data, has_high_key, page_image}
 use Rattle.tree_image.specs.Pages.{breaks_items}
 use Rattle.bt_levels.specs.declared.sound.SoundTree.{SoundTree}
-use Rattle.bt_levels.specs.Sound.{HoldsTree, block_count, fastroot_of, held_block, image_of, specs_of}
+use Rattle.bt_levels.specs.Sound.{HoldsTree, block_count, fastroot_of, held_block, image_of, index_columns, specs_of}
 use Rattle.bt_steps.specs.declared.inner.Step.{Step}
 use Rattle.bt_steps.specs.declared.inner.Step.TheVariants.{To, Read, Lost}
 use Rattle.bt_search.specs.declared.spot.Spot.{Spot}
@@ -175,23 +175,23 @@ module _ (names : Names) (sound : SoundTree) (bounds : Bounds) (holds : HoldsTre
   pub not-over : (now limit : ℕ) → now + left_from names sound bounds (At b []) ≤ limit → limit ≤ now → ⊥
   not-over now limit enough over = let more = v.left in omega (arith, more, enough, over)
 
-  readable-in : (page : List ℕ) → page ≡ held_block names sound b → IsReadable (specs_of sound) page
-  readable-in page is = subst (IsReadable (specs_of sound)) (sym is) (readable-at names sound bounds holds steps b comes)
+  readable-in : (page : List ℕ) → page ≡ held_block names sound b → IsReadable (index_columns sound) page
+  readable-in page is = subst (IsReadable (index_columns sound)) (sym is) (readable-at names sound bounds holds steps b comes)
 
-  pub step-lost : (page : List ℕ) → page ≡ held_block names sound b → (IsReadable (specs_of sound) page → Leads (specs_of sound) (scan_goes (specs_of sound) bounds) page Lost) → ⊥
+  pub step-lost : (page : List ℕ) → page ≡ held_block names sound b → (IsReadable (index_columns sound) page → Leads (index_columns sound) (scan_goes (specs_of sound) bounds) page Lost) → ⊥
   step-lost page is leads = leads (readable-in page is)
 
   -- to another page
-  goes-by : (next : ℕ) (page : List ℕ) → page ≡ held_block names sound b → (IsReadable (specs_of sound) page → Leads (specs_of sound) (scan_goes (specs_of sound) bounds) page (To next)) → visit is_killed (image_of names sound) (scan_on sound bounds) b [] ≡ At next []
+  goes-by : (next : ℕ) (page : List ℕ) → page ≡ held_block names sound b → (IsReadable (index_columns sound) page → Leads (index_columns sound) (scan_goes (specs_of sound) bounds) page (To next)) → visit is_killed (image_of names sound) (scan_on sound bounds) b [] ≡ At next []
   goes-by next page is leads =
       visit-is is_killed (image_of names sound) (scan_on sound bounds) b v
-      ∙ subst (λ (p : List ℕ). visit_page is_killed (scan_on sound bounds) (page_image (specs_of sound) [] p) [] ≡ At next []) is
-      (scan-goes is_killed (scan_on sound bounds) (page_image (specs_of sound) [] page) next (leads (readable-in page is)))
+      ∙ subst (λ (p : List ℕ). visit_page is_killed (scan_on sound bounds) (page_image (index_columns sound).specs (index_columns sound).more p) [] ≡ At next []) is
+      (scan-goes is_killed (scan_on sound bounds) (page_image (index_columns sound).specs (index_columns sound).more page) next (leads (readable-in page is)))
 
-  pub step-comes : (next : ℕ) (page : List ℕ) → page ≡ held_block names sound b → (IsReadable (specs_of sound) page → Leads (specs_of sound) (scan_goes (specs_of sound) bounds) page (To next)) → ComesTo names sound bounds next
+  pub step-comes : (next : ℕ) (page : List ℕ) → page ≡ held_block names sound b → (IsReadable (index_columns sound) page → Leads (index_columns sound) (scan_goes (specs_of sound) bounds) page (To next)) → ComesTo names sound bounds next
   step-comes next page is leads = v.goes_on next [] (goes-by next page is leads)
 
-  pub step-goes : (next : ℕ) (page : List ℕ) → page ≡ held_block names sound b → (IsReadable (specs_of sound) page → Leads (specs_of sound) (scan_goes (specs_of sound) bounds) page (To next))
+  pub step-goes : (next : ℕ) (page : List ℕ) → page ≡ held_block names sound b → (IsReadable (index_columns sound) page → Leads (index_columns sound) (scan_goes (specs_of sound) bounds) page (To next))
       → (first : State (Entry Value Tid)) (before now : ℕ) → GoesOn names sound bounds first (At b []) before now → GoesOn names sound bounds first (At next []) before (now + 1)
   step-goes next page is leads first before now goes =
       let to = goes-by next page is leads in
@@ -200,15 +200,15 @@ module _ (names : Names) (sound : SoundTree) (bounds : Bounds) (holds : HoldsTre
       record { rest = goes.rest ∙ (v.rest ∙ ap (rest_from names sound bounds) to); left = omega (arith, left, so_far) }
 
   -- and to a leaf that is read
-  module _ (page : List ℕ) (is : page ≡ held_block names sound b) (leads : IsReadable (specs_of sound) page → Leads (specs_of sound) (scan_goes (specs_of sound) bounds) page Read) (spot : Spot) (block : spot.block ≡ b) (item : spot.item ≡ first_data page) (nth : spot.nth ≡ 0) where
+  module _ (page : List ℕ) (is : page ≡ held_block names sound b) (leads : IsReadable (index_columns sound) page → Leads (index_columns sound) (scan_goes (specs_of sound) bounds) page Read) (spot : Spot) (block : spot.block ≡ b) (item : spot.item ≡ first_data page) (nth : spot.nth ≡ 0) where
     abbrev held : List ℕ
     held = held_block names sound b
 
-    readable : IsReadable (specs_of sound) held
+    readable : IsReadable (index_columns sound) held
     readable = readable-at names sound bounds holds steps b comes
 
-    stays : is_left_behind (specs_of sound) (scan_goes (specs_of sound) bounds) held ≡ false
-    stays = subst (λ (p : List ℕ). is_left_behind (specs_of sound) (scan_goes (specs_of sound) bounds) p ≡ false) is (leads (readable-in page is)).0
+    stays : is_left_behind (index_columns sound) (scan_goes (specs_of sound) bounds) held ≡ false
+    stays = subst (λ (p : List ℕ). is_left_behind (index_columns sound) (scan_goes (specs_of sound) bounds) p ≡ false) is (leads (readable-in page is)).0
 
     leaf : is_leaf (opaque_of held) ≡ true
     leaf = subst (λ (p : List ℕ). is_leaf (opaque_of p) ≡ true) is (leads (readable-in page is)).1
@@ -219,20 +219,20 @@ module _ (names : Names) (sound : SoundTree) (bounds : Bounds) (holds : HoldsTre
     first : spot.item ≡ first_data held
     first = item ∙ ap first_data is
 
-    begin : place_of (specs_of sound) held spot.item spot.nth ≡ 0
+    begin : place_of (index_columns sound) held spot.item spot.nth ≡ 0
     begin =
-        let none = before-first (specs_of sound) held in
-        let here : entries_before (specs_of sound) held spot.item ≡ entries_before (specs_of sound) held (first_data held) = ap (entries_before (specs_of sound) held) first in
+        let none = before-first (index_columns sound) held in
+        let here : entries_before (index_columns sound) held spot.item ≡ entries_before (index_columns sound) held (first_data held) = ap (entries_before (index_columns sound) held) first in
         omega (arith, none, here, nth)
 
-    on : IsPlaceOn (specs_of sound) held spot.item spot.nth
+    on : IsPlaceOn (index_columns sound) held spot.item spot.nth
     on =
         let most = first-within held readable.some_items in
         record {
           from = omega (arith, first);
           to = omega (arith, first, most);
           inside = λ within.
-              let some = keys-some (specs_of sound) held readable leaf alive spot.item (omega (arith, first)) within in
+              let some = keys-some (index_columns sound) held readable leaf alive spot.item (omega (arith, first)) within in
               omega (arith, some, nth);
           behind = λ e. nth;
         }
@@ -251,9 +251,9 @@ module _ (names : Names) (sound : SoundTree) (bounds : Bounds) (holds : HoldsTre
         record { rest = goes.rest ∙ (v.rest ∙ ap (rest_from names sound bounds) there); left = omega (arith, left, so_far) }
 
 -- what is told of a page holds of the same bytes and columns
-pub leads-there : (s t : List KeySpec) (bounds : Bounds) (p q : List ℕ) (step : Step) → s ≡ t → p ≡ q → (IsReadable s p → Leads s (scan_goes s bounds) p step) → IsReadable t q → Leads t (scan_goes t bounds) q step
+pub leads-there : (s t : TreeColumns) (bounds : Bounds) (p q : List ℕ) (step : Step) → s ≡ t → p ≡ q → (IsReadable s p → Leads s (scan_goes s.specs bounds) p step) → IsReadable t q → Leads t (scan_goes t.specs bounds) q step
 leads-there s t bounds p q step a b leads =
-    subst (λ (k : List KeySpec). IsReadable k q → Leads k (scan_goes k bounds) q step) a (subst (λ (l : List ℕ). IsReadable s l → Leads s (scan_goes s bounds) l step) b leads)
+    subst (λ (k : TreeColumns). IsReadable k q → Leads k (scan_goes k.specs bounds) q step) a (subst (λ (l : List ℕ). IsReadable s l → Leads s (scan_goes s.specs bounds) l step) b leads)
 
 -- an answer that has one property has another
 pub ok-then : {T E : Type 0} {P Q : T → Type 0} (r : Result T E) → ((x : T) → P x → Q x) → IfOk r P → IfOk r Q

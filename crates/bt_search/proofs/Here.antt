@@ -3,9 +3,9 @@ use Rattle.std.proofs.Common.{◌≡◌, ◌≤◌, ℕ, List, [], ◌∷◌, Bo
 use Rattle.std.specs.Prelude.{Some, Ok, slice_get}
 use Rattle.page_layout.specs.Page.{count_of, item_of}
 use Rattle.tree_search.specs.Keys.{Entry, Separator}
-use Rattle.key_orders.specs.declared.columns.KeySpec.{KeySpec}
 use Rattle.key_orders.specs.declared.columns.Value.{Value}
 use Rattle.key_orders.specs.declared.Tid.{Tid}
+use Rattle.varlena_attrs.specs.Columns.{TreeColumns}
 use Rattle.bt_meta.specs.declared.records.HeadKind.{HeadKind}
 use Rattle.bt_meta.specs.declared.records.HeadKind.TheVariants as head
 use Rattle.bt_meta.specs.Heads.{tree_head_of}
@@ -32,14 +32,14 @@ alive-by head.Pivot columns tuple values = refl
 alive-by head.Plain columns tuple values = refl
 alive-by head.Posting columns tuple values = refl
 
-alive : (specs : List KeySpec) (tuple : List ℕ) (killed : Bool) → killed ≡ false → is-killed (meaning_of specs [] tuple killed) ≡ false
+alive : (columns : TreeColumns) (tuple : List ℕ) (killed : Bool) → killed ≡ false → is-killed (meaning_of columns.specs columns.more tuple killed) ≡ false
 unfolding meaning_of
-alive specs tuple killed is =
-    subst (λ (k : Bool). is-killed (meaning_of specs [] tuple k) ≡ false) (sym is)
-    (alive-by (tree_head_of tuple).kind _ tuple (values_or_none (values_in specs [] tuple)))
+alive columns tuple killed is =
+    subst (λ (k : Bool). is-killed (meaning_of columns.specs columns.more tuple k) ≡ false) (sym is)
+    (alive-by (tree_head_of tuple).kind _ tuple (values_or_none (values_in columns.specs columns.more tuple)))
 
-module _ (specs : List KeySpec) (page : List ℕ) (i : ℕ) (from : first_data page ≤ i) (last : i ≤ count_of page) (key : List Value) (tid : Tid) where
-  here : (item : Item) → IsGood item → IsRead specs page i → keys_at specs page i ≡ keys_in item → is-killed item ≡ false → key_with key tid ≡ first_key item → HasSought specs page key tid i 0
+module _ (columns : TreeColumns) (page : List ℕ) (i : ℕ) (from : first_data page ≤ i) (last : i ≤ count_of page) (key : List Value) (tid : Tid) where
+  here : (item : Item) → IsGood item → IsRead columns page i → keys_at columns page i ≡ keys_in item → is-killed item ≡ false → key_with key tid ≡ first_key item → HasSought columns page key tid i 0
   here (Pivot sep down) good read keys alive is = absurd good
   here (Plain k more t killed) good read keys alive is = record {
     from = from;
@@ -74,9 +74,9 @@ module _ (specs : List KeySpec) (page : List ℕ) (i : ℕ) (from : first_data p
           inner h = cc
 
   -- an item that was read, whose first key is the one that is sought, and whose line pointer isn't dead
-  pub first-here : (item : Item) → item_outcome specs [] LeafItem page i ≡ Ok item → is_dead (item_of page i).flag ≡ false → key_with key tid ≡ first_key item → HasSought specs page key tid i 0
+  pub first-here : (item : Item) → item_outcome columns.specs columns.more LeafItem page i ≡ Ok item → is_dead (item_of page i).flag ≡ false → key_with key tid ≡ first_key item → HasSought columns page key tid i 0
   first-here item outcome flag is =
-      let ok : ◌≡◌ {A = ItemOutcome} (Ok item) (item_outcome specs [] LeafItem page i) = sym outcome in
-      here item (item-good specs page i item ok) (item-reads specs page i item ok) (keys-are specs page i item ok)
-      (subst (λ (it : Item). is-killed it ≡ false) (sym (read_means specs [] LeafItem page i item outcome).2) (alive specs (tuple_of page i) (is_dead (item_of page i).flag) flag))
+      let ok : ◌≡◌ {A = ItemOutcome} (Ok item) (item_outcome columns.specs columns.more LeafItem page i) = sym outcome in
+      here item (item-good columns page i item ok) (item-reads columns page i item ok) (keys-are columns page i item ok)
+      (subst (λ (it : Item). is-killed it ≡ false) (sym (read_means columns.specs columns.more LeafItem page i item outcome).2) (alive columns (tuple_of page i) (is_dead (item_of page i).flag) flag))
       is

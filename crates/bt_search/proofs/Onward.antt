@@ -6,13 +6,13 @@ use Rattle.outside.specs.Outside.{Names}
 use Rattle.tree_search.specs.Keys.{Entry}
 use Rattle.tree_search.specs.Probe.{child_for, leaf_after}
 use Rattle.tree_search.specs.Search.{entries_of, right_of}
-use Rattle.key_orders.specs.declared.columns.KeySpec.{KeySpec}
 use Rattle.key_orders.specs.declared.columns.Value.{Value}
 use Rattle.key_orders.specs.declared.Tid.{Tid}
+use Rattle.varlena_attrs.specs.Columns.{TreeColumns}
 use Rattle.bt_meta.specs.Flags.{is_half_dead, is_leaf}
 use Rattle.bt_meta.specs.Pages.{is_idle, opaque_of}
 use Rattle.bt_levels.specs.declared.sound.SoundTree.{SoundTree}
-use Rattle.bt_levels.specs.Sound.{HoldsTree, block_count, fastroot_of, held_block, image_of, specs_of}
+use Rattle.bt_levels.specs.Sound.{HoldsTree, block_count, fastroot_of, held_block, image_of, index_columns, specs_of}
 use Rattle.tree_image.specs.Image.{TreeIndex, page_image, page_keys}
 use Rattle.bt_steps.specs.Pages.{IsReadable}
 use Rattle.bt_steps.specs.Sought.{HasSought, IsSought, is_below}
@@ -138,7 +138,7 @@ module _ (names : Names) (sound : SoundTree) (key : List Value) (tid : Tid) wher
       (omega (arith, most, wide_is), omega (arith, more, short_is), w.not_meta, w.inside, w.used)
 
   -- one visit
-  pub goes-to : (made b next : ℕ) → IsUnderWay made b → next_of (is_below (specs_of sound) key tid) (page_image (specs_of sound) [] (held_block names sound b)) ≡ Some next → IsUnderWay (made + 1) next
+  pub goes-to : (made b next : ℕ) → IsUnderWay made b → next_of (is_below (specs_of sound) key tid) (page_image (index_columns sound).specs (index_columns sound).more (held_block names sound b)) ≡ Some next → IsUnderWay (made + 1) next
   goes-to made b next u to =
       let x = image_of names sound in
       let goes = is_below (specs_of sound) key tid in
@@ -160,7 +160,7 @@ module _ (names : Names) (sound : SoundTree) (key : List Value) (tid : Tid) wher
       }
 
   -- the leaf is read
-  pub is-leaf-of : (made b : ℕ) → IsUnderWay made b → is_left_behind (specs_of sound) (is_below (specs_of sound) key tid) (held_block names sound b) ≡ false → is_leaf (opaque_of (held_block names sound b)) ≡ true → (u : IsUnderWay made b) → b ≡ u.leaf
+  pub is-leaf-of : (made b : ℕ) → IsUnderWay made b → is_left_behind (index_columns sound) (is_below (specs_of sound) key tid) (held_block names sound b) ≡ false → is_leaf (opaque_of (held_block names sound b)) ≡ true → (u : IsUnderWay made b) → b ≡ u.leaf
   is-leaf-of made b v stays leaf u =
       let x = image_of names sound in
       let goes = is_below (specs_of sound) key tid in
@@ -168,31 +168,31 @@ module _ (names : Names) (sound : SoundTree) (key : List Value) (tid : Tid) wher
       ends-here x goes s.left b u.leaf (subst (λ (n : ℕ). way n b u.leaf) s.more u.soon) stays leaf
 
   -- the pages on the way can be read
-  pub readable-on : HoldsTree names sound → (made b : ℕ) → IsUnderWay made b → IsReadable (specs_of sound) (held_block names sound b)
+  pub readable-on : HoldsTree names sound → (made b : ℕ) → IsUnderWay made b → IsReadable (index_columns sound) (held_block names sound b)
   readable-on holds made b u =
       let open-way = is-open made b u in
-      page-readable (specs_of sound) (block_count sound) (held_block names sound) b (holds.pages.pages b open-way.2 open-way.3 open-way.4)
+      page-readable (index_columns sound) (block_count sound) (held_block names sound) b (holds.pages.pages b open-way.2 open-way.3 open-way.4)
 
   abbrev goes-below : Goes
   goes-below = is_below (specs_of sound) key tid
 
   -- where a visit leads, by what is in hand
-  pub led : HoldsTree names sound → (made b : ℕ) → IsUnderWay made b → (specs : List KeySpec) (page : List ℕ) (step : Step)
-      → specs ≡ specs_of sound → page ≡ held_block names sound b
-      → (IsReadable specs page → Leads specs (is_below specs key tid) page step) → Leads (specs_of sound) goes-below (held_block names sound b) step
-  led holds made b u specs page step same-specs same-page leads =
-      let with-specs : IsReadable (specs_of sound) page → Leads (specs_of sound) goes-below page step =
-      subst (λ (s : List KeySpec). IsReadable s page → Leads s (is_below s key tid) page step) same-specs leads in
-      subst (λ (p : List ℕ). IsReadable (specs_of sound) p → Leads (specs_of sound) goes-below p step) same-page with-specs
+  pub led : HoldsTree names sound → (made b : ℕ) → IsUnderWay made b → (columns : TreeColumns) (page : List ℕ) (step : Step)
+      → columns ≡ index_columns sound → page ≡ held_block names sound b
+      → (IsReadable columns page → Leads columns (is_below columns.specs key tid) page step) → Leads (index_columns sound) goes-below (held_block names sound b) step
+  led holds made b u columns page step same-specs same-page leads =
+      let with-specs : IsReadable (index_columns sound) page → Leads (index_columns sound) goes-below page step =
+      subst (λ (s : TreeColumns). IsReadable s page → Leads s (is_below s.specs key tid) page step) same-specs leads in
+      subst (λ (p : List ℕ). IsReadable (index_columns sound) p → Leads (index_columns sound) goes-below p step) same-page with-specs
       (readable-on holds made b u)
 
   -- what is found on the leaf
-  pub found-on : HoldsTree names sound → (made b : ℕ) → IsUnderWay made b → Leads (specs_of sound) goes-below (held_block names sound b) Read
+  pub found-on : HoldsTree names sound → (made b : ℕ) → IsUnderWay made b → Leads (index_columns sound) goes-below (held_block names sound b) Read
       → (at : Option Place)
-      → IfSome at (λ place. HasSought (specs_of sound) (held_block names sound b) key tid place.item place.nth)
-      → (at ≡ None → IsReadable (specs_of sound) (held_block names sound b) → is_leaf (opaque_of (held_block names sound b)) ≡ true
+      → IfSome at (λ place. HasSought (index_columns sound) (held_block names sound b) key tid place.item place.nth)
+      → (at ≡ None → IsReadable (index_columns sound) (held_block names sound b) → is_leaf (opaque_of (held_block names sound b)) ≡ true
       → is_half_dead (opaque_of (held_block names sound b)) ≡ false
-      → (e : Entry Value Tid) → Contains (page_keys (specs_of sound) [] (held_block names sound b)) e → IsSought key tid e → e.killed ≡ true)
+      → (e : Entry Value Tid) → Contains (page_keys (index_columns sound).specs (index_columns sound).more (held_block names sound b)) e → IsSought key tid e → e.killed ≡ true)
       → IsLookedUp names sound key tid (option_map (λ place. record { block = b; item = place.item; nth = place.nth }) at)
   found-on holds made b u read (Some place) there none =
       let open-way = is-open made b u in
@@ -209,24 +209,24 @@ module _ (names : Names) (sound : SoundTree) (key : List Value) (tid : Tid) wher
       let alive = (or_parts _ _ read.0).1 in
       let is : u.leaf ≡ b = sym (is-leaf-of made b u read.0 read.1 u) in
       let here : Contains ((image_of names sound).page b).entries e = subst (λ (k : ℕ). Contains ((image_of names sound).page k).entries e) is (u.only e among sought) in
-      let keys : Contains (page_keys (specs_of sound) [] page) e =
-      subst (λ (shown : Bool). Contains (if shown then page_keys (specs_of sound) [] page else []) e) (and_from _ _ read.1 (not_from_false _ alive)) here in
+      let keys : Contains (page_keys (index_columns sound).specs (index_columns sound).more page) e =
+      subst (λ (shown : Bool). Contains (if shown then page_keys (index_columns sound).specs (index_columns sound).more page else []) e) (and_from _ _ read.1 (not_from_false _ alive)) here in
       none refl (readable-on holds made b u) read.1 alive e keys sought
 
 -- what was found on a page, which is known by another name
 
-pub there-on : (s t : List KeySpec) (p q : List ℕ) (key : List Value) (tid : Tid) (at : Option Place) → s ≡ t → p ≡ q
+pub there-on : (s t : TreeColumns) (p q : List ℕ) (key : List Value) (tid : Tid) (at : Option Place) → s ≡ t → p ≡ q
     → IfSome at (λ place. HasSought s p key tid place.item place.nth) → IfSome at (λ place. HasSought t q key tid place.item place.nth)
 there-on s t p q key tid at same-specs same-page h =
     subst (λ (x : List ℕ). IfSome at (λ place. HasSought t x key tid place.item place.nth)) same-page
-    (subst (λ (x : List KeySpec). IfSome at (λ place. HasSought x p key tid place.item place.nth)) same-specs h)
+    (subst (λ (x : TreeColumns). IfSome at (λ place. HasSought x p key tid place.item place.nth)) same-specs h)
 
-abbrev pub NoneOn : List KeySpec → List ℕ → List Value → Tid → Option Place → Type 0
+abbrev pub NoneOn : TreeColumns → List ℕ → List Value → Tid → Option Place → Type 0
 NoneOn s p key tid at =
     at ≡ None → IsReadable s p → is_leaf (opaque_of p) ≡ true → is_half_dead (opaque_of p) ≡ false
-    → (e : Entry Value Tid) → Contains (page_keys s [] p) e → IsSought key tid e → e.killed ≡ true
+    → (e : Entry Value Tid) → Contains (page_keys s.specs s.more p) e → IsSought key tid e → e.killed ≡ true
 
-pub none-on : (s t : List KeySpec) (p q : List ℕ) (key : List Value) (tid : Tid) (at : Option Place) → s ≡ t → p ≡ q
+pub none-on : (s t : TreeColumns) (p q : List ℕ) (key : List Value) (tid : Tid) (at : Option Place) → s ≡ t → p ≡ q
     → NoneOn s p key tid at → NoneOn t q key tid at
 none-on s t p q key tid at same-specs same-page h =
-    subst (λ (x : List ℕ). NoneOn t x key tid at) same-page (subst (λ (x : List KeySpec). NoneOn x p key tid at) same-specs h)
+    subst (λ (x : List ℕ). NoneOn t x key tid at) same-page (subst (λ (x : TreeColumns). NoneOn x p key tid at) same-specs h)

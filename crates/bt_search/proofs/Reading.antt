@@ -9,10 +9,10 @@ use Rattle.page_layout.specs.Page.{count_of}
 use Rattle.tree_search.specs.Keys.{Entry}
 use Rattle.tree_search.specs.Search.{State, right_of}
 use Rattle.tree_search.specs.Spots.{Stands, from_place}
-use Rattle.key_orders.specs.declared.columns.KeySpec.{KeySpec}
 use Rattle.key_orders.specs.declared.columns.Value.{Value}
 use Rattle.key_orders.specs.declared.Tid.{Tid}
 use Rattle.key_orders.specs.Scans.{Bounds, scan_of}
+use Rattle.varlena_attrs.specs.Columns.{TreeColumns}
 use Rattle.bt_meta.specs.Flags.{is_half_dead, is_leaf}
 use Rattle.bt_meta.specs.Pages.{opaque_of}
 use Rattle.bt_tuples.specs.Items.{Item, Pivot, Plain, Posting}
@@ -20,7 +20,7 @@ use Rattle.tree_image.specs.Image.{first_data, item_at, keys_in, page_image, pag
 use Rattle.tree_image.proofs.PageFields.{first_cases, leaf_item_good, leaf_spot}
 use Rattle.tree_image.proofs.Rises.{IsGood}
 use Rattle.bt_levels.specs.declared.sound.SoundTree.{SoundTree}
-use Rattle.bt_levels.specs.Sound.{HoldsTree, block_count, held_block, image_of, specs_of}
+use Rattle.bt_levels.specs.Sound.{HoldsTree, block_count, held_block, image_of, index_columns}
 use Rattle.bt_search.specs.declared.leaf.Fate.{Fate}
 use Rattle.bt_search.specs.declared.leaf.Fate.TheVariants.{Past, Wanted, Other}
 use Rattle.bt_search.specs.declared.spot.Spot.{Spot}
@@ -46,28 +46,28 @@ good-some (Posting key [] killed) good = absurd (good.1 refl)
 good-some (Posting key (t ∷ ts) killed) good = omega arith
 
 -- a leaf's items
-module _ (specs : List KeySpec) (page : List ℕ) (readable : IsReadable specs page) (leaf : is_leaf (opaque_of page) ≡ true) (alive : is_half_dead (opaque_of page) ≡ false) where
-  pub keys-some : (i : ℕ) → first_data page ≤ i → i ≤ count_of page → 0 < length (keys_at specs page i)
+module _ (columns : TreeColumns) (page : List ℕ) (readable : IsReadable columns page) (leaf : is_leaf (opaque_of page) ≡ true) (alive : is_half_dead (opaque_of page) ≡ false) where
+  pub keys-some : (i : ℕ) → first_data page ≤ i → i ≤ count_of page → 0 < length (keys_at columns page i)
   unfolding keys_at
   keys-some i from to =
       let one = first_cases page in
       let plain = readable.items alive i (omega (arith, one, from)) to in
-      good-some (item_at specs [] page i) (leaf_item_good specs [] page i (spot_of page i) (leaf_spot page i leaf from) plain.rules)
+      good-some (item_at columns.specs columns.more page i) (leaf_item_good columns.specs columns.more page i (spot_of page i) (leaf_spot page i leaf from) plain.rules)
 
 -- what is known of an item that was read
-pub record IsSeen (specs : List KeySpec) (bounds : Bounds) (page : List ℕ) (spot : Spot) (fate : Fate) (count : ℕ) : Type 0 where
+pub record IsSeen (columns : TreeColumns) (bounds : Bounds) (page : List ℕ) (spot : Spot) (fate : Fate) (count : ℕ) : Type 0 where
   pub first : 1 ≤ spot.item
   pub last : spot.item ≤ count_of page
-  pub count_is : count ≡ length (keys_at specs page spot.item)
+  pub count_is : count ≡ length (keys_at columns page spot.item)
   pub inside : spot.nth < count
-  pub fates : (k : ℕ) (e : Entry Value Tid) → slice_get (keys_at specs page spot.item) k ≡ Some e → HasFate (scan_of specs bounds) fate e
+  pub fates : (k : ℕ) (e : Entry Value Tid) → slice_get (keys_at columns page spot.item) k ≡ Some e → HasFate (scan_of columns.specs bounds) fate e
 
-pub seen-there : (s t : List KeySpec) (bounds : Bounds) (p q : List ℕ) (spot : Spot) (f f' : Fate) (n : ℕ) → s ≡ t → p ≡ q → f ≡ f' → IsSeen s bounds p spot f n → IsSeen t bounds q spot f' n
+pub seen-there : (s t : TreeColumns) (bounds : Bounds) (p q : List ℕ) (spot : Spot) (f f' : Fate) (n : ℕ) → s ≡ t → p ≡ q → f ≡ f' → IsSeen s bounds p spot f n → IsSeen t bounds q spot f' n
 seen-there s t bounds p q spot f f' n a b d seen =
-    subst (λ (k : List KeySpec). IsSeen k bounds q spot f' n) a (subst (λ (l : List ℕ). IsSeen s bounds l spot f' n) b (subst (λ (g : Fate). IsSeen s bounds p spot g n) d seen))
+    subst (λ (k : TreeColumns). IsSeen k bounds q spot f' n) a (subst (λ (l : List ℕ). IsSeen s bounds l spot f' n) b (subst (λ (g : Fate). IsSeen s bounds p spot g n) d seen))
 
-pub read-there : (s t : List KeySpec) (p q : List ℕ) (i : ℕ) → s ≡ t → p ≡ q → IsRead t q i → IsRead s p i
-read-there s t p q i a b read = subst (λ (k : List KeySpec). IsRead k p i) (sym a) (subst (λ (l : List ℕ). IsRead t l i) (sym b) read)
+pub read-there : (s t : TreeColumns) (p q : List ℕ) (i : ℕ) → s ≡ t → p ≡ q → IsRead t q i → IsRead s p i
+read-there s t p q i a b read = subst (λ (k : TreeColumns). IsRead k p i) (sym a) (subst (λ (l : List ℕ). IsRead t l i) (sym b) read)
 
 -- ALONG ONE LEAF
 
@@ -79,18 +79,18 @@ module _ (names : Names) (sound : SoundTree) (bounds : Bounds) (holds : HoldsTre
   from_there b j = from_place is_killed (image_of names sound) (scan_on sound bounds) b j
 
   abbrev entries_on : ℕ → List (Entry Value Tid)
-  entries_on b = (page_image (specs_of sound) [] (held_block names sound b)).entries
+  entries_on b = (page_image (index_columns sound).specs (index_columns sound).more (held_block names sound b)).entries
 
   pub comes-by : (b j : ℕ) → Standing b j → ComesTo names sound bounds b
   comes-by b j st = record { visits = st.visits; so_far = st.so_far; comes = st.comes }
 
-  pub readable-at : (b : ℕ) → ComesTo names sound bounds b → IsReadable (specs_of sound) (held_block names sound b)
+  pub readable-at : (b : ℕ) → ComesTo names sound bounds b → IsReadable (index_columns sound) (held_block names sound b)
   readable-at b comes =
       let v = steps.visits b comes in
-      page-readable (specs_of sound) (block_count sound) (held_block names sound) b (holds.pages.pages b v.not_meta v.inside v.used)
+      page-readable (index_columns sound) (block_count sound) (held_block names sound) b (holds.pages.pages b v.not_meta v.inside v.used)
 
   pub alive-by : (b j : ℕ) → Standing b j → is_half_dead (opaque_of (held_block names sound b)) ≡ false
-  alive-by b j st = (or_parts (right_of (scan_on sound bounds).goes_right (page_image (specs_of sound) [] (held_block names sound b)).high_key) _ st.reads).1
+  alive-by b j st = (or_parts (right_of (scan_on sound bounds).goes_right (page_image (index_columns sound).specs (index_columns sound).more (held_block names sound b)).high_key) _ st.reads).1
 
   -- one place leads to another of the page
   record Went (b i j : ℕ) : Type 0 where
@@ -118,21 +118,21 @@ module _ (names : Names) (sound : SoundTree) (bounds : Bounds) (holds : HoldsTre
 
   -- SPOTS
 
-  pub state-there : (spot : Spot) (b : ℕ) → spot.block ≡ b → b ≢ 0 → state_at names sound bounds spot ≡ from_there b (place_of (specs_of sound) (held_block names sound b) spot.item spot.nth)
+  pub state-there : (spot : Spot) (b : ℕ) → spot.block ≡ b → b ≢ 0 → state_at names sound bounds spot ≡ from_there b (place_of (index_columns sound) (held_block names sound b) spot.item spot.nth)
   unfolding state_at
   state-there spot b is some =
       cond-false (spot.block == 0) _ _ (ne_eqb spot.block 0 (λ e. some (sym is ∙ e)))
-      ∙ ap (λ (c : ℕ). from_there c (place_of (specs_of sound) (held_block names sound c) spot.item spot.nth)) is
+      ∙ ap (λ (c : ℕ). from_there c (place_of (index_columns sound) (held_block names sound c) spot.item spot.nth)) is
 
   pub stands-there : (spot : Spot) (b : ℕ) (page : List ℕ) → spot.block ≡ b → b ≢ 0 → page ≡ held_block names sound b
-      → IsPlaceOn (specs_of sound) (held_block names sound b) spot.item spot.nth
-      → Standing b (place_of (specs_of sound) (held_block names sound b) spot.item spot.nth)
+      → IsPlaceOn (index_columns sound) (held_block names sound b) spot.item spot.nth
+      → Standing b (place_of (index_columns sound) (held_block names sound b) spot.item spot.nth)
       → StandsAt names sound bounds spot page
   stands-there spot b page is some hand place stands = record {
     nowhere = λ none. absurd (some (sym is ∙ none));
     in_hand = λ other. hand ∙ ap (held_block names sound) (sym is);
-    place = λ other. subst (λ (c : ℕ). IsPlaceOn (specs_of sound) (held_block names sound c) spot.item spot.nth) (sym is) place;
-    comes = λ other. subst (λ (c : ℕ). Standing c (place_of (specs_of sound) (held_block names sound c) spot.item spot.nth)) (sym is) stands;
+    place = λ other. subst (λ (c : ℕ). IsPlaceOn (index_columns sound) (held_block names sound c) spot.item spot.nth) (sym is) place;
+    comes = λ other. subst (λ (c : ℕ). Standing c (place_of (index_columns sound) (held_block names sound c) spot.item spot.nth)) (sym is) stands;
   }
 
   -- one spot of a leaf after another
@@ -141,15 +141,15 @@ module _ (names : Names) (sound : SoundTree) (bounds : Bounds) (holds : HoldsTre
     held = held_block names sound old.block
 
     abbrev place : ℕ
-    place = place_of (specs_of sound) held old.item old.nth
+    place = place_of (index_columns sound) held old.item old.nth
 
     st : Standing old.block place
     st = at.comes some
 
-    on : IsPlaceOn (specs_of sound) held old.item old.nth
+    on : IsPlaceOn (index_columns sound) held old.item old.nth
     on = at.place some
 
-    pub readable : IsReadable (specs_of sound) held
+    pub readable : IsReadable (index_columns sound) held
     readable = readable-at old.block (comes-by old.block place st)
 
     pub is-leaf : is_leaf (opaque_of held) ≡ true
@@ -162,51 +162,51 @@ module _ (names : Names) (sound : SoundTree) (bounds : Bounds) (holds : HoldsTre
     old-state = state-there old old.block refl some
 
     -- what an entry of the spot's item is
-    there : old.item ≤ count_of held → (k : ℕ) (e : Entry Value Tid) → slice_get (keys_at (specs_of sound) held old.item) k ≡ Some e → k < length (keys_at (specs_of sound) held old.item)
-        → slice_get (entries_on old.block) (place_of (specs_of sound) held old.item k) ≡ Some e
+    there : old.item ≤ count_of held → (k : ℕ) (e : Entry Value Tid) → slice_get (keys_at (index_columns sound) held old.item) k ≡ Some e → k < length (keys_at (index_columns sound) held old.item)
+        → slice_get (entries_on old.block) (place_of (index_columns sound) held old.item k) ≡ Some e
     there to k e get lt =
-        ap (λ (es : List (Entry Value Tid)). slice_get es (place_of (specs_of sound) held old.item k)) (image-entries (specs_of sound) held is-leaf is-alive)
-        ∙ (entry-there (specs_of sound) held old.item k on.from to lt ∙ get)
+        ap (λ (es : List (Entry Value Tid)). slice_get es (place_of (index_columns sound) held old.item k)) (image-entries (index_columns sound) held is-leaf is-alive)
+        ∙ (entry-there (index_columns sound) held old.item k on.from to lt ∙ get)
 
     -- a spot of the page at a later place
     module _ (new : Spot) (same : new.block ≡ old.block) where
-      pub stays : (j : ℕ) → place_of (specs_of sound) held new.item new.nth ≡ j → IsPlaceOn (specs_of sound) held new.item new.nth → Standing old.block j → StandsAt names sound bounds new page
+      pub stays : (j : ℕ) → place_of (index_columns sound) held new.item new.nth ≡ j → IsPlaceOn (index_columns sound) held new.item new.nth → Standing old.block j → StandsAt names sound bounds new page
       stays j is next stands =
           stands-there new old.block page same some (at.in_hand some) next (subst (λ (i : ℕ). Standing old.block i) (sym is) stands)
 
-      pub new-state : (j : ℕ) → place_of (specs_of sound) held new.item new.nth ≡ j → state_at names sound bounds new ≡ from_there old.block j
+      pub new-state : (j : ℕ) → place_of (index_columns sound) held new.item new.nth ≡ j → state_at names sound bounds new ≡ from_there old.block j
       new-state j is = state-there new old.block same some ∙ ap (from_there old.block) is
 
       -- behind the item
-      pub behind-place : new.item ≡ old.item + 1 → new.nth ≡ 0 → old.item ≤ count_of held → IsPlaceOn (specs_of sound) held new.item new.nth
+      pub behind-place : new.item ≡ old.item + 1 → new.nth ≡ 0 → old.item ≤ count_of held → IsPlaceOn (index_columns sound) held new.item new.nth
       behind-place item nth to = record {
         from = omega (arith, item, on.from);
         to = omega (arith, item, to);
         inside = λ within.
-            let more = keys-some (specs_of sound) held readable is-leaf is-alive new.item (omega (arith, item, on.from)) within in
+            let more = keys-some (index_columns sound) held readable is-leaf is-alive new.item (omega (arith, item, on.from)) within in
             omega (arith, nth, more);
         behind = λ e. nth;
       }
 
-      behind-is : new.item ≡ old.item + 1 → new.nth ≡ 0 → place_of (specs_of sound) held new.item new.nth ≡ entries_before (specs_of sound) held old.item + length (keys_at (specs_of sound) held old.item)
+      behind-is : new.item ≡ old.item + 1 → new.nth ≡ 0 → place_of (index_columns sound) held new.item new.nth ≡ entries_before (index_columns sound) held old.item + length (keys_at (index_columns sound) held old.item)
       behind-is item nth =
-          let next = before-next (specs_of sound) held old.item on.from in
-          let here : entries_before (specs_of sound) held new.item ≡ entries_before (specs_of sound) held (old.item + 1) = ap (entries_before (specs_of sound) held) item in
+          let next = before-next (index_columns sound) held old.item on.from in
+          let here : entries_before (index_columns sound) held new.item ≡ entries_before (index_columns sound) held (old.item + 1) = ap (entries_before (index_columns sound) held) item in
           omega (arith, next, here, nth)
 
       -- the entries of the item are passed over
-      pub passes : new.item ≡ old.item + 1 → new.nth ≡ 0 → (count : ℕ) → IsSeen (specs_of sound) bounds held old Other count → Passes names sound bounds old new page
+      pub passes : new.item ≡ old.item + 1 → new.nth ≡ 0 → (count : ℕ) → IsSeen (index_columns sound) bounds held old Other count → Passes names sound bounds old new page
       passes item nth count seen =
           let to = seen.last in
-          let n = length (keys_at (specs_of sound) held old.item) in
+          let n = length (keys_at (index_columns sound) held old.item) in
           let inside : old.nth < n = omega (arith, seen.inside, seen.count_is) in
           let fates = seen.fates in
           let m = n - old.nth in
-          let far : place_of (specs_of sound) held new.item new.nth ≡ place + m = behind-is item nth ∙ omega (arith, inside) in
+          let far : place_of (index_columns sound) held new.item new.nth ≡ place + m = behind-is item nth ∙ omega (arith, inside) in
           let went = skips m old.block place st (λ k lt.
           let within : old.nth + k < n = omega (arith, lt) in
-          let it = get-some (keys_at (specs_of sound) held old.item) (old.nth + k) within in
-          let e : entries_before (specs_of sound) held old.item + (old.nth + k) ≡ place + k = omega arith in
+          let it = get-some (keys_at (index_columns sound) held old.item) (old.nth + k) within in
+          let e : entries_before (index_columns sound) held old.item + (old.nth + k) ≡ place + k = omega arith in
           record { entry = it.0; there = subst (λ (i : ℕ). slice_get (entries_on old.block) i ≡ Some it.0) e (there to (old.nth + k) it.0 it.1 within); fate = fates (old.nth + k) it.0 it.1 }) in
           record {
             stands = stays (place + m) far (behind-place item nth to) went.stands;
@@ -215,31 +215,31 @@ module _ (names : Names) (sound : SoundTree) (bounds : Bounds) (holds : HoldsTre
           }
 
       -- the entry at the spot is taken
-      pub yields : (place_of (specs_of sound) held new.item new.nth ≡ place + 1) → IsPlaceOn (specs_of sound) held new.item new.nth
-          → (count : ℕ) → IsSeen (specs_of sound) bounds held old Wanted count → Yields names sound bounds old new old page
+      pub yields : (place_of (index_columns sound) held new.item new.nth ≡ place + 1) → IsPlaceOn (index_columns sound) held new.item new.nth
+          → (count : ℕ) → IsSeen (index_columns sound) bounds held old Wanted count → Yields names sound bounds old new old page
       yields far next count seen =
-          let inside : old.nth < length (keys_at (specs_of sound) held old.item) = omega (arith, seen.inside, seen.count_is) in
+          let inside : old.nth < length (keys_at (index_columns sound) held old.item) = omega (arith, seen.inside, seen.count_is) in
           let to = seen.last in
           let fates = seen.fates in
-          let it = get-some (keys_at (specs_of sound) held old.item) old.nth inside in
+          let it = get-some (keys_at (index_columns sound) held old.item) old.nth inside in
           let fate = fates old.nth it.0 it.1 in
           let one = (steps.reads old.block place st).wanted it.0 (there to old.nth it.0 it.1 inside) fate.0 fate.1 in
           record {
             stands = stays (place + 1) far next one.2;
             entry = it.0;
-            is = subst (λ (p : List ℕ). entry_on (specs_of sound) p old ≡ Some it.0) (sym (at.in_hand some)) it.1;
+            is = subst (λ (p : List ℕ). entry_on (index_columns sound) p old ≡ Some it.0) (sym (at.in_hand some)) it.1;
             rest = ap (rest_from names sound bounds) old-state ∙ one.0 ∙ sym (ap (λ (s : State (Entry Value Tid)). it.0 ∷ rest_from names sound bounds s) (new-state (place + 1) far));
             left = ap (left_from names sound bounds) old-state ∙ one.1 ∙ sym (ap (left_from names sound bounds) (new-state (place + 1) far));
           }
 
     -- the place behind the entry at the spot
-    pub next-inside : (new : Spot) → new.item ≡ old.item → new.nth ≡ old.nth + 1 → place_of (specs_of sound) held new.item new.nth ≡ place + 1
+    pub next-inside : (new : Spot) → new.item ≡ old.item → new.nth ≡ old.nth + 1 → place_of (index_columns sound) held new.item new.nth ≡ place + 1
     next-inside new item nth =
-        let here : entries_before (specs_of sound) held new.item ≡ entries_before (specs_of sound) held old.item = ap (entries_before (specs_of sound) held) item in
+        let here : entries_before (index_columns sound) held new.item ≡ entries_before (index_columns sound) held old.item = ap (entries_before (index_columns sound) held) item in
         omega (arith, here, nth)
 
     -- the spot behind the entry, as the reader moves it
-    pub takes : (new : Spot) (count : ℕ) → new.block ≡ old.block → IsSeen (specs_of sound) bounds held old Wanted count
+    pub takes : (new : Spot) (count : ℕ) → new.block ≡ old.block → IsSeen (index_columns sound) bounds held old Wanted count
         → (old.nth + 1 < count → (new.item ≡ old.item) × (new.nth ≡ old.nth + 1)) → (old.nth + 1 ≡ count → (new.item ≡ old.item + 1) × (new.nth ≡ 0))
         → Yields names sound bounds old new old page
     takes new count same seen within next = elim (cases_lt (old.nth + 1) count) [
@@ -250,7 +250,7 @@ module _ (names : Names) (sound : SoundTree) (bounds : Bounds) (holds : HoldsTre
             from = omega (arith, to.0, on.from);
             to = omega (arith, to.0, on.to);
             inside = λ low.
-                let same_item : length (keys_at (specs_of sound) held new.item) ≡ length (keys_at (specs_of sound) held old.item) = ap (λ (i : ℕ). length (keys_at (specs_of sound) held i)) to.0 in
+                let same_item : length (keys_at (index_columns sound) held new.item) ≡ length (keys_at (index_columns sound) held old.item) = ap (λ (i : ℕ). length (keys_at (index_columns sound) held i)) to.0 in
                 omega (arith, same_item, less, to.1, seen.count_is);
             behind = λ e. absurd (omega (arith, e, to.0, seen.last));
           })
@@ -268,12 +268,12 @@ module _ (names : Names) (sound : SoundTree) (bounds : Bounds) (holds : HoldsTre
         let l = ap (left_from names sound bounds) old-state ∙ left in
         record { stands = at; rest = r; left = l; new_rest = r; new_left = l }
 
-    pub ends-past : (count : ℕ) → IsSeen (specs_of sound) bounds held old Past count → Finishes names sound bounds old old page
+    pub ends-past : (count : ℕ) → IsSeen (index_columns sound) bounds held old Past count → Finishes names sound bounds old old page
     ends-past count seen =
-        let inside : old.nth < length (keys_at (specs_of sound) held old.item) = omega (arith, seen.inside, seen.count_is) in
+        let inside : old.nth < length (keys_at (index_columns sound) held old.item) = omega (arith, seen.inside, seen.count_is) in
         let to = seen.last in
         let fates = seen.fates in
-        let it = get-some (keys_at (specs_of sound) held old.item) old.nth inside in
+        let it = get-some (keys_at (index_columns sound) held old.item) old.nth inside in
         let one = (steps.reads old.block place st).past it.0 (there to old.nth it.0 it.1 inside) (fates old.nth it.0 it.1) in
         finish one.0 one.1
 
@@ -285,9 +285,9 @@ module _ (names : Names) (sound : SoundTree) (bounds : Bounds) (holds : HoldsTre
       at-end : place ≡ length (entries_on old.block)
       at-end =
           let none = on.behind last-item in
-          let all = before-all (specs_of sound) held in
-          let here : entries_before (specs_of sound) held old.item ≡ entries_before (specs_of sound) held (count_of held + 1) = ap (entries_before (specs_of sound) held) last-item in
-          let entries : length (entries_on old.block) ≡ length (page_keys (specs_of sound) [] held) = ap length (image-entries (specs_of sound) held is-leaf is-alive) in
+          let all = before-all (index_columns sound) held in
+          let here : entries_before (index_columns sound) held old.item ≡ entries_before (index_columns sound) held (count_of held + 1) = ap (entries_before (index_columns sound) held) last-item in
+          let entries : length (entries_on old.block) ≡ length (page_keys (index_columns sound).specs (index_columns sound).more held) = ap length (image-entries (index_columns sound) held is-leaf is-alive) in
           omega (arith, none, all, here, entries)
 
       pub ends-last : (opaque_of held).next ≡ 0 → Finishes names sound bounds old old page

@@ -3,24 +3,24 @@ use Rattle.std.specs.Prelude.{◌≡◌, ℕ, ◌<◌, ◌≤◌, List, length, 
 use Rattle.page_layout.specs.Page.{count_of, page_rule_of}
 use Rattle.page_layout.specs.declared.page.PageKind.TheVariants.{Tree}
 use Rattle.tree_search.specs.Keys.{Entry}
-use Rattle.key_orders.specs.declared.columns.KeySpec.{KeySpec}
 use Rattle.key_orders.specs.declared.columns.Value.{Value}
 use Rattle.key_orders.specs.declared.Tid.{Tid}
+use Rattle.varlena_attrs.specs.Columns.{TreeColumns}
 use Rattle.bt_search.specs.declared.spot.EntryRef.{EntryRef}
 use Rattle.bt_search.specs.declared.spot.Spot.{Spot}
 use Rattle.bt_steps.specs.Entries.{IsRead, keys_at}
 
 -- there is an entry at this place of the page
-pub record IsEntryAt (specs : List KeySpec) (page : List ℕ) (at : Spot) : Type 0 where
+pub record IsEntryAt (columns : TreeColumns) (page : List ℕ) (at : Spot) : Type 0 where
   pub laid_out : page_rule_of Tree page ≡ None
   pub first : 1 ≤ at.item
   pub last : at.item ≤ count_of page
-  pub read : IsRead specs page at.item
-  pub inside : at.nth < length (keys_at specs page at.item)
+  pub read : IsRead columns page at.item
+  pub inside : at.nth < length (keys_at columns page at.item)
 
 -- it is this one
-abbrev pub entry_on : List KeySpec → List ℕ → Spot → Option (Entry Value Tid)
-entry_on specs page at = slice_get (keys_at specs page at.item) at.nth
+abbrev pub entry_on : TreeColumns → List ℕ → Spot → Option (Entry Value Tid)
+entry_on columns page at = slice_get (keys_at columns page at.item) at.nth
 
 -- an entry as it lies on a page
 pub record Shows (shown : EntryRef) (e : Entry Value Tid) : Type 0 where

@@ -7,7 +7,7 @@ use Rattle.key_orders.specs.declared.columns.Value.{Value}
 use Rattle.key_orders.specs.declared.Tid.{Tid}
 use Rattle.key_orders.specs.Scans.{Bounds}
 use Rattle.bt_levels.specs.declared.sound.SoundTree.{SoundTree}
-use Rattle.bt_levels.specs.Sound.{specs_of}
+use Rattle.bt_levels.specs.Sound.{index_columns}
 use Rattle.bt_search.specs.declared.leaf.Fate.{Fate}
 use Rattle.bt_search.specs.declared.leaf.Fate.TheVariants.{Past, Wanted, Other}
 use Rattle.bt_search.specs.declared.leaf.OnLeaf.{OnLeaf}
@@ -37,7 +37,7 @@ pub record Yields (names : Names) (sound : SoundTree) (bounds : Bounds) (old new
     : Type 0 where
   pub stands : StandsAt names sound bounds new page
   pub entry : Entry Value Tid
-  pub is : entry_on (specs_of sound) page at ≡ Some entry
+  pub is : entry_on (index_columns sound) page at ≡ Some entry
   pub rest : rest_at names sound bounds old ≡ entry ∷ rest_at names sound bounds new
   pub left : left_at names sound bounds old ≡ left_at names sound bounds new
 

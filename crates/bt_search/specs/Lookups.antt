@@ -10,7 +10,7 @@ use Rattle.bt_meta.specs.Flags.{is_half_dead, is_leaf}
 use Rattle.bt_meta.specs.Pages.{is_idle, opaque_of}
 use Rattle.bt_levels.specs.declared.sound.SoundTree.{SoundTree}
 use Rattle.bt_levels.specs.Sound.{block_count, fastlevel_of, fastroot_of, half_dead_of, held_block, image_of}
-use Rattle.bt_levels.specs.Sound.{right_halves_of, specs_of}
+use Rattle.bt_levels.specs.Sound.{index_columns, right_halves_of, specs_of}
 use Rattle.bt_steps.specs.Sought.{HasSought, IsSought, is_below}
 use Rattle.bt_search.specs.declared.spot.Spot.{Spot}
 
@@ -48,7 +48,7 @@ pub record IsAtSpot (names : Names) (sound : SoundTree) (key : List Value) (tid 
   pub used : is_idle (held_block names sound at.block) ≡ false
   pub leaf : is_leaf (opaque_of (held_block names sound at.block)) ≡ true
   pub alive : is_half_dead (opaque_of (held_block names sound at.block)) ≡ false
-  pub there : HasSought (specs_of sound) (held_block names sound at.block) key tid at.item at.nth
+  pub there : HasSought (index_columns sound) (held_block names sound at.block) key tid at.item at.nth
 
 -- what is told of an entry that is looked up: where it stands, or that each one of its key and its TID is killed
 abbrev pub IsLookedUp : Names → SoundTree → List Value → Tid → Option Spot → Type 0

@@ -8,7 +8,7 @@ use Rattle.key_orders.specs.declared.columns.Value.{Value}
 use Rattle.key_orders.specs.declared.Tid.{Tid}
 use Rattle.key_orders.specs.Scans.{Bounds, scan_of}
 use Rattle.bt_levels.specs.declared.sound.SoundTree.{SoundTree}
-use Rattle.bt_levels.specs.Sound.{fastroot_of, held_block, image_of, specs_of}
+use Rattle.bt_levels.specs.Sound.{fastroot_of, held_block, image_of, index_columns, specs_of}
 use Rattle.bt_search.specs.declared.spot.Spot.{Spot}
 use Rattle.bt_steps.specs.Entries.{IsPlaceOn, place_of}
 use Rattle.bt_search.specs.Entries.{IsEntryAt, entry_on}
@@ -20,7 +20,7 @@ scan_on sound bounds = scan_of (specs_of sound) bounds
 
 -- the place of a spot among the entries of its page
 abbrev pub place_in : Names → SoundTree → Spot → ℕ
-place_in names sound spot = place_of (specs_of sound) (held_block names sound spot.block) spot.item spot.nth
+place_in names sound spot = place_of (index_columns sound) (held_block names sound spot.block) spot.item spot.nth
 
 -- The spot stands at the scan. One of block 0 does where the tree is empty. Any other does where the searcher comes to
 -- its page and reads it, the spot is a place on it, and no entry before that is past the high bound; and the page in
@@ -28,7 +28,7 @@ place_in names sound spot = place_of (specs_of sound) (held_block names sound sp
 pub record StandsAt (names : Names) (sound : SoundTree) (bounds : Bounds) (spot : Spot) (page : List ℕ) : Type 0 where
   pub nowhere : spot.block ≡ 0 → fastroot_of sound ≡ 0
   pub in_hand : spot.block ≢ 0 → page ≡ held_block names sound spot.block
-  pub place : spot.block ≢ 0 → IsPlaceOn (specs_of sound) (held_block names sound spot.block) spot.item spot.nth
+  pub place : spot.block ≢ 0 → IsPlaceOn (index_columns sound) (held_block names sound spot.block) spot.item spot.nth
   pub comes : spot.block ≢ 0
       → Stands is_killed (image_of names sound) (scan_on sound bounds) spot.block (place_in names sound spot)
 
@@ -56,8 +56,8 @@ left_at names sound bounds spot = left_from names sound bounds (state_at names s
 pub record Takes (names : Names) (sound : SoundTree) (bounds : Bounds) (old new at : Spot) (page : List ℕ)
     : Type 0 where
   pub entry : Entry Value Tid
-  pub read : IsEntryAt (specs_of sound) page at
-  pub is : entry_on (specs_of sound) page at ≡ Some entry
+  pub read : IsEntryAt (index_columns sound) page at
+  pub is : entry_on (index_columns sound) page at ≡ Some entry
   pub in_hand : page ≡ held_block names sound at.block
   pub first : rest_at names sound bounds old ≡ entry ∷ rest_at names sound bounds new
 

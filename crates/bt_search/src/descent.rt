@@ -89,14 +89,14 @@ pub fn arrive<F: Files>(
     ensures asked { AskedAtMost (visits.new.count - visits.old.count) F.seen files.old files.new result read_fault }
 {
     searches_go_in_steps();
-    search.tree.keyed();
+    let columns = search.tree.columns();
     let mut block = first;
     while visits.count < search.limit {
         if block == 0 || block >= search.tree.blocks() {
             return Ok(NOWHERE);
         }
         look_at(search.tree, files, block, page, visits)?;
-        match step_on(PageView::new(page), search.tree.specs(), search.scan) {
+        match step_on(PageView::new(page), &columns, search.scan) {
             Step::To(next) => block = next,
             Step::Read => return Ok(first_spot(block, PageView::new(page))),
             Step::Lost => return Ok(NOWHERE),

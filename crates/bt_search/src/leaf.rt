@@ -1,5 +1,5 @@
 //! The entries of a leaf, one after another.
-ghost use Rattle.std.specs.Prelude.{◌≡◌, ◌≢◌, ◌<◌, ◌≤◌, ◌+◌, ◌↔◌, ℕ, [], None, Some, All, IfSome, IsSome};
+ghost use Rattle.std.specs.Prelude.{◌≡◌, ◌≢◌, ◌<◌, ◌≤◌, ◌+◌, ◌↔◌, ℕ, None, Some, IfSome, IsSome};
 ghost use Rattle.std.specs.Prelude.{length, slice_get};
 ghost use Rattle.outside.specs.Outside.{Names as Held};
 ghost use Rattle.page_layout.specs.Page.{count_of, page_rule_of};
@@ -9,9 +9,8 @@ ghost use Rattle.key_orders.specs.declared.columns.Value.{Value};
 ghost use Rattle.key_orders.specs.declared.Tid.{Tid as Place};
 ghost use Rattle.key_orders.specs.Keys.{IsKey};
 ghost use Rattle.key_orders.specs.Scans.{FitsKey, scan_of};
-ghost use Rattle.key_orders.specs.Types.{HasAlignment};
-ghost use Rattle.varlena_attrs.specs.Keyed.{key_types};
-ghost use Rattle.bt_levels.specs.Sound.{HoldsTree, specs_of};
+ghost use Rattle.varlena_attrs.specs.Columns.{tree_columns};
+ghost use Rattle.bt_levels.specs.Sound.{HoldsTree, index_columns, specs_of};
 ghost use Rattle.bt_steps.specs.Entries.{IsRead, keys_at};
 ghost use Rattle.bt_search.specs.Entries.{IsEntryAt};
 ghost use Rattle.bt_search.specs.Leaves.{HasFate, TellsItem, TellsLeaf};
@@ -25,6 +24,7 @@ use bt_meta::opaque;
 use bt_tuples::{Spot3, TreeItem, tree_item};
 use key_orders::{KeyRefs, KeySpec, Scan, matches, past_high};
 use page_layout::{PageKind, PageView};
+use varlena_attrs::IndexColumns;
 
 /// What a scan does with an entry.
 #[derive(Clone, Copy, Debug, PartialEq, Eq)]
@@ -85,26 +85,25 @@ fn fate_of(specs: &[KeySpec], scan: &Scan, key: &KeyRefs<'_>, killed: bool) -> F
 }
 
 // What a scan does with the entries of item i, if it can be read.
-fn fate_at(page: PageView<'_>, i: u16, specs: &[KeySpec], scan: &Scan) -> Option<ItemFate>
+fn fate_at(page: PageView<'_>, i: u16, columns: &IndexColumns<'_>, scan: &Scan) -> Option<ItemFate>
     requires page { page_rule_of PageKind.Tree (page_bytes page) ≡ None }
     requires first { 1 ≤ i }
     requires last { i ≤ count_of (page_bytes page) }
-    requires few { length specs.now ≤ 8 }
-    requires aligned { All HasAlignment (key_types specs.now) }
-    requires fits { FitsKey specs.now scan.now }
-    ensures read { IsSome result ↔ IsRead specs.now (page_bytes page.entry) i }
-    ensures count { IfSome result (λ it. it.count ≡ length (keys_at specs.now (page_bytes page.entry) i)) }
+    requires fits { FitsKey columns.now.specs.now scan.now }
+    ensures read { IsSome result ↔ IsRead (tree_columns columns.now) (page_bytes page.entry) i }
+    ensures count { IfSome result (λ it. it.count
+        ≡ length (keys_at (tree_columns columns.now) (page_bytes page.entry) i)) }
     ensures fate { IfSome result (λ it. (k : ℕ) (e : Given Value Place)
-        → slice_get (keys_at specs.now (page_bytes page.entry) i) k ≡ Some e
-        → HasFate (scan_of specs.now scan.now) it.fate e) }
+        → slice_get (keys_at (tree_columns columns.now) (page_bytes page.entry) i) k ≡ Some e
+        → HasFate (scan_of columns.now.specs.now scan.now) it.fate e) }
 {
-    match tree_item(page, i, specs, &[], Spot3::LeafItem) {
+    match tree_item(page, i, columns, Spot3::LeafItem) {
         Ok(TreeItem::Plain { key, killed, .. }) => Some(ItemFate {
-            fate: fate_of(specs, scan, &key, killed),
+            fate: fate_of(columns.specs, scan, &key, killed),
             count: 1,
         }),
         Ok(TreeItem::Posting { key, tids, killed }) => Some(ItemFate {
-            fate: fate_of(specs, scan, &key, killed),
+            fate: fate_of(columns.specs, scan, &key, killed),
             count: tids.len(),
         }),
         Ok(TreeItem::Pivot { .. }) => None,
@@ -157,12 +156,12 @@ fn read_item(search: &Search<'_>, page: PageView<'_>, spot: &mut Spot) -> OnItem
         → TellsItem names search.now.tree.now search.now.scan.now spot.old spot.new (page_bytes page.entry) result }
     ensures block { spot.new.block ≡ spot.old.block }
     ensures entry { (at : Reached) → result ≡ OnItem.Entry at
-        → (at.block ≡ spot.old.block) × IsEntryAt (specs_of search.now.tree.now) (page_bytes page.entry) at }
+        → (at.block ≡ spot.old.block) × IsEntryAt (index_columns search.now.tree.now) (page_bytes page.entry) at }
     ensures passed { result ≡ OnItem.Passed → spot.new.item ≡ spot.old.item + 1 }
 {
     searches_go_in_steps();
-    search.tree.keyed();
-    let Some(found) = fate_at(page, spot.item, search.tree.specs(), search.scan) else {
+    let columns = search.tree.columns();
+    let Some(found) = fate_at(page, spot.item, &columns, search.scan) else {
         return OnItem::Lost;
     };
     if found.count <= spot.nth {
@@ -190,7 +189,7 @@ pub fn read_leaf(search: &Search<'_>, page: PageView<'_>, spot: &mut Spot) -> On
         → TellsLeaf names search.now.tree.now search.now.scan.now spot.old spot.new (page_bytes page.entry) result }
     ensures block { spot.new.block ≡ spot.old.block }
     ensures entry { (at : Reached) → result ≡ OnLeaf.Entry at
-        → (at.block ≡ spot.old.block) × IsEntryAt (specs_of search.now.tree.now) (page_bytes page.entry) at }
+        → (at.block ≡ spot.old.block) × IsEntryAt (index_columns search.now.tree.now) (page_bytes page.entry) at }
 {
     searches_go_in_steps();
     if page.page_rule(PageKind::Tree).is_some() || spot.item == 0 {

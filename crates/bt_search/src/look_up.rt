@@ -81,7 +81,7 @@ pub fn find<F: Files>(
 {
     entries_have_a_leaf();
     ways_are_short();
-    tree.keyed();
+    let columns = tree.columns();
     let limit = visits.count + u64::from(tree.blocks());
     let mut block = tree.fastroot();
     while visits.count < limit {
@@ -90,9 +90,9 @@ pub fn find<F: Files>(
         }
         visits.count += 1;
         let page = PageView::new(cache.page(tree, files, block)?);
-        match step_on(page, tree.specs(), &sought) {
+        match step_on(page, &columns, &sought) {
             Step::To(next) => block = next,
-            Step::Read => return Ok(spot_of(block, find_on(page, tree.specs(), sought))),
+            Step::Read => return Ok(spot_of(block, find_on(page, &columns, sought))),
             Step::Lost => return Ok(None),
         }
     }

@@ -3,7 +3,7 @@ ghost use Rattle.std.specs.Prelude.{◌≡◌, ◌≢◌, ◌≤◌, ◌<◌, �
 ghost use Rattle.outside.specs.Outside.{AskedAtMost, IfTold, Tells};
 ghost use Rattle.rel_files.specs.Faults.{read_fault};
 ghost use Rattle.key_orders.specs.Scans.{FitsKey};
-ghost use Rattle.bt_levels.specs.Sound.{HoldsTree, block_count, specs_of};
+ghost use Rattle.bt_levels.specs.Sound.{HoldsTree, block_count, index_columns, specs_of};
 ghost use Rattle.bt_search.specs.Entries.{IsEntryAt};
 ghost use Rattle.bt_search.specs.Spots.{IsNext, StandsAt, left_at};
 
@@ -48,7 +48,7 @@ pub fn next_entry<F: Files>(
     ensures visits { OnOk result (IfTold F.seen files.old (λ names.
         visits.new.count + left_at names tree.now scan.now spot.new
         ≡ visits.old.count + left_at names tree.now scan.now spot.old)) }
-    ensures entry { IfOk result (λ at. IfSome at (IsEntryAt (specs_of tree.now) page.new)) }
+    ensures entry { IfOk result (λ at. IfSome at (IsEntryAt (index_columns tree.now) page.new)) }
     ensures nowhere { spot.old.block ≡ 0 → (result ≡ Ok None) × (spot.new ≡ spot.old) × (page.new ≡ page.old)
         × (visits.new ≡ visits.old) }
     ensures onward { visits.old.count ≤ visits.new.count }

@@ -5,10 +5,10 @@ use Rattle.std.proofs.lemmas.Bool.{cases_Bool, cases_lt, cond-false, cond-true, 
 use Rattle.tree_search.specs.Keys.{IsSeparatorOf, Separator}
 use Rattle.tree_search.specs.Search.{last_or}
 use Rattle.page_layout.specs.Page.{count_of}
-use Rattle.key_orders.specs.declared.columns.KeySpec.{KeySpec}
 use Rattle.key_orders.specs.declared.columns.Value.{Value}
 use Rattle.key_orders.specs.declared.Tid.{Tid}
 use Rattle.key_orders.specs.Scans.{order_of}
+use Rattle.varlena_attrs.specs.Columns.{TreeColumns}
 use Rattle.bt_meta.specs.Flags.{is_half_dead, is_leaf}
 use Rattle.bt_meta.specs.Pages.{opaque_of}
 use Rattle.bt_tuples.specs.declared.items.Spot3.TheVariants.{Inner, LeafItem}
@@ -45,41 +45,41 @@ module _ {X : Type 0} (g : ℕ → X) (p : X → Bool) where
 
 -- The first keys of a page's items
 
-module _ (specs : List KeySpec) (page : List ℕ) where
+module _ (columns : TreeColumns) (page : List ℕ) where
   abbrev pub key : ℕ → Separator Value Tid
-  key j = first_key (item_at specs [] page j)
+  key j = first_key (item_at columns.specs columns.more page j)
 
   -- they are keys of the index, and rise, past the first data item
   pub record Rises : Type 0 where
-    pub are_keys : (j : ℕ) → first_data page < j → j ≤ count_of page → IsSeparatorOf (length specs) (key j)
-    pub rise : (j : ℕ) → first_data page < j → j + 1 ≤ count_of page → (order_of specs).under (key j) (key (j + 1)) ≡ true
+    pub are_keys : (j : ℕ) → first_data page < j → j ≤ count_of page → IsSeparatorOf (length columns.specs) (key j)
+    pub rise : (j : ℕ) → first_data page < j → j + 1 ≤ count_of page → (order_of columns.specs).under (key j) (key (j + 1)) ≡ true
 
   -- so those that a way goes right of come first
-  module _ (goes : Goes) (laws : GoesLower specs goes) (rises : Rises) where
-    one-down : (j : ℕ) → first_data page < j → j + 1 ≤ count_of page → is_passed specs goes page (j + 1) ≡ true → is_passed specs goes page j ≡ true
+  module _ (goes : Goes) (laws : GoesLower columns.specs goes) (rises : Rises) where
+    one-down : (j : ℕ) → first_data page < j → j + 1 ≤ count_of page → is_passed columns goes page (j + 1) ≡ true → is_passed columns goes page j ≡ true
     one-down j past to passed =
         laws.lower (key j) (key (j + 1)) (rises.are_keys j past (omega (arith, to))) (rises.are_keys (j + 1) (omega (arith, past)) to) (rises.rise j past to) passed
 
-    down : (d j : ℕ) → first_data page < j → j + d ≤ count_of page → is_passed specs goes page (j + d) ≡ true → is_passed specs goes page j ≡ true
-    down zero j past to passed = subst (λ (k : ℕ). is_passed specs goes page k ≡ true) (let e : j + 0 ≡ j = omega arith in e) passed
+    down : (d j : ℕ) → first_data page < j → j + d ≤ count_of page → is_passed columns goes page (j + d) ≡ true → is_passed columns goes page j ≡ true
+    down zero j past to passed = subst (λ (k : ℕ). is_passed columns goes page k ≡ true) (let e : j + 0 ≡ j = omega arith in e) passed
     down (suc d) j past to passed =
         let e : j + suc d ≡ j + d + 1 = omega arith in
-        down d j past (omega (arith, to)) (one-down (j + d) (omega (arith, past)) (omega (arith, to)) (subst (λ (k : ℕ). is_passed specs goes page k ≡ true) e passed))
+        down d j past (omega (arith, to)) (one-down (j + d) (omega (arith, past)) (omega (arith, to)) (subst (λ (k : ℕ). is_passed columns goes page k ≡ true) e passed))
 
-    pub passed-down : (j k : ℕ) → first_data page < j → j ≤ k → k ≤ count_of page → is_passed specs goes page k ≡ true → is_passed specs goes page j ≡ true
+    pub passed-down : (j k : ℕ) → first_data page < j → j ≤ k → k ≤ count_of page → is_passed columns goes page k ≡ true → is_passed columns goes page j ≡ true
     passed-down j k past le to passed =
         let e : k ≡ j + (k - j) = omega (arith, le) in
-        down (k - j) j past (omega (arith, le, to)) (subst (λ (m : ℕ). is_passed specs goes page m ≡ true) e passed)
+        down (k - j) j past (omega (arith, le, to)) (subst (λ (m : ℕ). is_passed columns goes page m ≡ true) e passed)
 
-    pub stopped-up : (j k : ℕ) → first_data page < j → j ≤ k → k ≤ count_of page → is_passed specs goes page j ≡ false → is_passed specs goes page k ≡ false
-    stopped-up j k past le to stopped = elim (cases_Bool (is_passed specs goes page k)) [
+    pub stopped-up : (j k : ℕ) → first_data page < j → j ≤ k → k ≤ count_of page → is_passed columns goes page j ≡ false → is_passed columns goes page k ≡ false
+    stopped-up j k past le to stopped = elim (cases_Bool (is_passed columns goes page k)) [
       | inl e ↦ absurd (let both : true ≡ false = sym (passed-down j k past le to e) ∙ stopped in cc)
       | inr e ↦ e
     ]
 
 -- The items of an internal page
 
-module _ (specs : List KeySpec) (page : List ℕ) (readable : IsReadable specs page) (inner : is_leaf (opaque_of page) ≡ false) (alive : is_half_dead (opaque_of page) ≡ false) where
+module _ (columns : TreeColumns) (page : List ℕ) (readable : IsReadable columns page) (inner : is_leaf (opaque_of page) ≡ false) (alive : is_half_dead (opaque_of page) ≡ false) where
   inner-spot : (j : ℕ) → first_data page < j → spot_of page j ≡ Inner
   inner-spot j past =
       cond-false _ _ _ (le-ltb j (first_data page) (omega (arith, past))) ∙ (cond-false (is_leaf (opaque_of page)) _ _ inner ∙ cond-false _ _ _ (ne_eqb j (first_data page) (λ e. omega (arith, e, past))))
@@ -90,23 +90,23 @@ module _ (specs : List KeySpec) (page : List ℕ) (readable : IsReadable specs p
       clash : Inner ≡ LeafItem → ⊥
       clash h = cc
 
-  plain-there : (j : ℕ) → first_data page < j → j ≤ count_of page → IsPlainItem specs [] page j
+  plain-there : (j : ℕ) → first_data page < j → j ≤ count_of page → IsPlainItem columns.specs columns.more page j
   plain-there j past to = let one = first_cases page in readable.items alive j (omega (arith, one, past)) to
 
-  inner-rises-at : (j : ℕ) → first_data page < j → j + 1 ≤ count_of page → (order_of specs).under (key specs page j) (key specs page (j + 1)) ≡ true
+  inner-rises-at : (j : ℕ) → first_data page < j → j + 1 ≤ count_of page → (order_of columns.specs).under (key columns page j) (key columns page (j + 1)) ≡ true
   inner-rises-at j past to =
       let least : first_compared page ≡ first_data page + 2 = cond-false {A = ℕ} (is_leaf (opaque_of page)) _ _ inner in
       let back : j + 1 - 1 ≡ j = omega arith in
-      let here = order_kept specs [] page (j + 1) (readable.order alive (j + 1) (record { from = omega (arith, past); to = to })) (omega (arith, least, past)) in
+      let here = order_kept columns.specs columns.more page (j + 1) (readable.order alive (j + 1) (record { from = omega (arith, past); to = to })) (omega (arith, least, past)) in
       let plain = plain-there j past (omega (arith, to)) in
-      let last = last-is specs page j plain (other-spot j past) ∙ sym (first-is specs page j plain (other-spot j past)) in
-      subst (λ (s : Separator Value Tid). is_key_below specs s (key specs page (j + 1)) ≡ true) last
-      (subst (λ (k : ℕ). is_key_below specs (last_key (item_at specs [] page k)) (key specs page (j + 1)) ≡ true) back here)
+      let last = last-is columns page j plain (other-spot j past) ∙ sym (first-is columns page j plain (other-spot j past)) in
+      subst (λ (s : Separator Value Tid). is_key_below columns.specs s (key columns page (j + 1)) ≡ true) last
+      (subst (λ (k : ℕ). is_key_below columns.specs (last_key (item_at columns.specs columns.more page k)) (key columns page (j + 1)) ≡ true) back here)
 
-  pub inner-rises : Rises specs page
+  pub inner-rises : Rises columns page
   inner-rises = record {
     are_keys = λ j past to.
         let plain = plain-there j past to in
-        subst (IsSeparatorOf (length specs)) (sym (first-is specs page j plain (other-spot j past))) (is-separator specs page j plain (inner-spot j past));
+        subst (IsSeparatorOf (length columns.specs)) (sym (first-is columns page j plain (other-spot j past))) (is-separator columns page j plain (inner-spot j past));
     rise = inner-rises-at;
   }

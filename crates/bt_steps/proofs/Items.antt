@@ -2,9 +2,9 @@
 use Rattle.std.proofs.Common.{◌≡◌, ℕ, zero, suc, Bool, false, List, [], ◌∷◌, length, refl, ap, sym, subst, ◌∙◌}
 use Rattle.std.specs.Prelude.{Option, Some, Ok, Err, slice_get}
 use Rattle.tree_search.specs.Keys.{Entry}
-use Rattle.key_orders.specs.declared.columns.KeySpec.{KeySpec}
 use Rattle.key_orders.specs.declared.columns.Value.{Value}
 use Rattle.key_orders.specs.declared.Tid.{Tid}
+use Rattle.varlena_attrs.specs.Columns.{TreeColumns}
 use Rattle.bt_tuples.specs.declared.items.ItemFault.{ItemFault}
 use Rattle.bt_tuples.specs.declared.items.Spot3.{Spot3}
 use Rattle.bt_tuples.specs.declared.items.Spot3.TheVariants.{LeafItem}
@@ -19,27 +19,27 @@ use Rattle.bt_steps.specs.Entries.{IsRead, keys_at}
 abbrev pub entry_with : List Value → Bool → Tid → Entry Value Tid
 entry_with key killed t = record { values = key; tid = t; killed = killed }
 
-pub item-is : (specs : List KeySpec) (page : List ℕ) (i : ℕ) (item : Item) → ◌≡◌ {A = ItemOutcome} (Ok item) (item_outcome specs [] LeafItem page i) → item ≡ item_at specs [] page i
+pub item-is : (columns : TreeColumns) (page : List ℕ) (i : ℕ) (item : Item) → ◌≡◌ {A = ItemOutcome} (Ok item) (item_outcome columns.specs columns.more LeafItem page i) → item ≡ item_at columns.specs columns.more page i
 unfolding item_at
-item-is specs page i item is = (read_means specs [] LeafItem page i item (sym is)).2
+item-is columns page i item is = (read_means columns.specs columns.more LeafItem page i item (sym is)).2
 
-pub item-reads : (specs : List KeySpec) (page : List ℕ) (i : ℕ) (item : Item) → ◌≡◌ {A = ItemOutcome} (Ok item) (item_outcome specs [] LeafItem page i) → IsRead specs page i
-item-reads specs page i item is = let r = read_means specs [] LeafItem page i item (sym is) in record { rules = r.0; plain = r.1 }
+pub item-reads : (columns : TreeColumns) (page : List ℕ) (i : ℕ) (item : Item) → ◌≡◌ {A = ItemOutcome} (Ok item) (item_outcome columns.specs columns.more LeafItem page i) → IsRead columns page i
+item-reads columns page i item is = let r = read_means columns.specs columns.more LeafItem page i item (sym is) in record { rules = r.0; plain = r.1 }
 
-pub item-unread : (specs : List KeySpec) (page : List ℕ) (i : ℕ) (fault : ItemFault) → ◌≡◌ {A = ItemOutcome} (Err fault) (item_outcome specs [] LeafItem page i) → IsRead specs page i → ⊥
-item-unread specs page i fault is read = clash _ (is ∙ kept_means specs [] LeafItem page i false read.rules read.plain)
+pub item-unread : (columns : TreeColumns) (page : List ℕ) (i : ℕ) (fault : ItemFault) → ◌≡◌ {A = ItemOutcome} (Err fault) (item_outcome columns.specs columns.more LeafItem page i) → IsRead columns page i → ⊥
+item-unread columns page i fault is read = clash _ (is ∙ kept_means columns.specs columns.more LeafItem page i false read.rules read.plain)
   where
     clash : (item : Item) → ◌≡◌ {A = ItemOutcome} (Err fault) (Ok item) → ⊥
     clash item h = cc
 
 -- a leaf has no separators among its data items
-pub item-good : (specs : List KeySpec) (page : List ℕ) (i : ℕ) (item : Item) → ◌≡◌ {A = ItemOutcome} (Ok item) (item_outcome specs [] LeafItem page i) → IsGood item
-item-good specs page i item is =
-    subst IsGood (sym (item-is specs page i item is)) (leaf_item_good specs [] page i LeafItem refl (item-reads specs page i item is).rules)
+pub item-good : (columns : TreeColumns) (page : List ℕ) (i : ℕ) (item : Item) → ◌≡◌ {A = ItemOutcome} (Ok item) (item_outcome columns.specs columns.more LeafItem page i) → IsGood item
+item-good columns page i item is =
+    subst IsGood (sym (item-is columns page i item is)) (leaf_item_good columns.specs columns.more page i LeafItem refl (item-reads columns page i item is).rules)
 
-pub keys-are : (specs : List KeySpec) (page : List ℕ) (i : ℕ) (item : Item) → ◌≡◌ {A = ItemOutcome} (Ok item) (item_outcome specs [] LeafItem page i) → keys_at specs page i ≡ keys_in item
+pub keys-are : (columns : TreeColumns) (page : List ℕ) (i : ℕ) (item : Item) → ◌≡◌ {A = ItemOutcome} (Ok item) (item_outcome columns.specs columns.more LeafItem page i) → keys_at columns page i ≡ keys_in item
 unfolding keys_at
-keys-are specs page i item is = ap keys_in (sym (item-is specs page i item is))
+keys-are columns page i item is = ap keys_in (sym (item-is columns page i item is))
 
 -- The entries of a list
 
@@ -76,12 +76,12 @@ one-each key more tid killed (suc k) e is = absurd cc
 
 -- The same of any item, at its place
 
-pub at-spot : (specs : List KeySpec) (page : List ℕ) (i : ℕ) (spot : Spot3) (item : Item) → item_outcome specs [] spot page i ≡ Ok item → item ≡ item_at specs [] page i
+pub at-spot : (columns : TreeColumns) (page : List ℕ) (i : ℕ) (spot : Spot3) (item : Item) → item_outcome columns.specs columns.more spot page i ≡ Ok item → item ≡ item_at columns.specs columns.more page i
 unfolding item_at
-at-spot specs page i spot item is = (read_means specs [] spot page i item is).2
+at-spot columns page i spot item is = (read_means columns.specs columns.more spot page i item is).2
 
-pub no-fault : (specs : List KeySpec) (page : List ℕ) (i : ℕ) (spot : Spot3) (fault : ItemFault) → IsPlainItem specs [] page i → spot ≡ spot_of page i → item_outcome specs [] spot page i ≡ Err fault → ⊥
-no-fault specs page i spot fault plain at is = clash _ (sym is ∙ ap (λ (s : Spot3). item_outcome specs [] s page i) at ∙ kept_means specs [] (spot_of page i) page i false plain.rules plain.read)
+pub no-fault : (columns : TreeColumns) (page : List ℕ) (i : ℕ) (spot : Spot3) (fault : ItemFault) → IsPlainItem columns.specs columns.more page i → spot ≡ spot_of page i → item_outcome columns.specs columns.more spot page i ≡ Err fault → ⊥
+no-fault columns page i spot fault plain at is = clash _ (sym is ∙ ap (λ (s : Spot3). item_outcome columns.specs columns.more s page i) at ∙ kept_means columns.specs columns.more (spot_of page i) page i false plain.rules plain.read)
   where
     clash : (item : Item) → ◌≡◌ {A = ItemOutcome} (Err fault) (Ok item) → ⊥
     clash item h = cc

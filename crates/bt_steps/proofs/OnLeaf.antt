@@ -11,11 +11,11 @@ use Rattle.tree_search.specs.Order.{Order}
 use Rattle.tree_search.proofs.Gather.{In-from_Contains}
 use Rattle.tree_search.proofs.Lists.{Each-front, Each-in, In, In-cases, In-left, In-right}
 use Rattle.tree_search.proofs.Rising.{Rising, rising_across, rising_from_adjacent}
-use Rattle.key_orders.specs.declared.columns.KeySpec.{KeySpec}
 use Rattle.key_orders.specs.declared.columns.Value.{Value}
 use Rattle.key_orders.specs.declared.Tid.{Tid}
 use Rattle.key_orders.specs.Keys.{columns_of, entry_of, tid_order}
 use Rattle.key_orders.specs.Scans.{order_of}
+use Rattle.varlena_attrs.specs.Columns.{TreeColumns}
 use Rattle.bt_meta.specs.Flags.{is_half_dead, is_leaf}
 use Rattle.bt_meta.specs.Pages.{is_idle, opaque_of}
 use Rattle.bt_tuples.specs.declared.items.Spot3.{Spot3}
@@ -35,8 +35,8 @@ use Rattle.bt_steps.specs.Ways.{is_passed}
 
 -- What the rules leave of a page
 
-pub page-readable : (specs : List KeySpec) (blocks : ℕ) (block : ℕ → List ℕ) (b : ℕ) → KeepsPage specs [] blocks block b → IsReadable specs (block b)
-page-readable specs blocks block b kept = record { laid_out = kept.laid_out; some_items = kept.some_items; items = kept.items; order = kept.order }
+pub page-readable : (columns : TreeColumns) (blocks : ℕ) (block : ℕ → List ℕ) (b : ℕ) → KeepsPage columns.specs columns.more blocks block b → IsReadable columns (block b)
+page-readable columns blocks block b kept = record { laid_out = kept.laid_out; some_items = kept.some_items; items = kept.items; order = kept.order }
 
 -- what is known of a leaf in use that isn't half-dead
 pub live-parts : (page : List ℕ) → is_live_leaf page ≡ true → (is_leaf (opaque_of page) ≡ true) × (is_idle page ≡ false) × (is_half_dead (opaque_of page) ≡ false)
@@ -113,9 +113,9 @@ first-or_above o d x rest r (inr k) = inr (Each-in (λ y. o.precedes d y ≡ tru
 
 -- The entries of a leaf
 
-module _ (specs : List KeySpec) (page : List ℕ) (readable : IsReadable specs page) (leaf : is_leaf (opaque_of page) ≡ true) (alive : is_half_dead (opaque_of page) ≡ false) where
+module _ (columns : TreeColumns) (page : List ℕ) (readable : IsReadable columns page) (leaf : is_leaf (opaque_of page) ≡ true) (alive : is_half_dead (opaque_of page) ≡ false) where
   abbrev item : ℕ → Item
-  item j = item_at specs [] page j
+  item j = item_at columns.specs columns.more page j
 
   abbrev keys : ℕ → List (Entry Value Tid)
   keys j = keys_in (item j)
@@ -126,33 +126,33 @@ module _ (specs : List KeySpec) (page : List ℕ) (readable : IsReadable specs p
   good : (j : ℕ) → first_data page ≤ j → j ≤ count_of page → IsGood (item j)
   good j from to =
       let one = first_cases page in
-      leaf_item_good specs [] page j _ (leaf_spot page j leaf from) (readable.items alive j (omega (arith, one, from)) to).rules
+      leaf_item_good columns.specs columns.more page j _ (leaf_spot page j leaf from) (readable.items alive j (omega (arith, one, from)) to).rules
 
-  same : AreSame specs
-  same = same_values specs (tied_itself (total specs))
+  same : AreSame columns.specs
+  same = same_values columns.specs (tied_itself (total columns.specs))
 
-  step : (j : ℕ) → first_data page ≤ j → j + 1 ≤ count_of page → is_key_below specs (last_key (item j)) (first_key (item (j + 1))) ≡ true
+  step : (j : ℕ) → first_data page ≤ j → j + 1 ≤ count_of page → is_key_below columns.specs (last_key (item j)) (first_key (item (j + 1))) ≡ true
   step j from to =
       let least : first_compared page ≡ first_data page + 1 = cond-true {A = ℕ} (is_leaf (opaque_of page)) _ _ leaf in
       let back : j + 1 - 1 ≡ j = omega arith in
-      subst (λ (k : ℕ). is_key_below specs (last_key (item k)) (first_key (item (j + 1))) ≡ true) back
-      (order_kept specs [] page (j + 1) (readable.order alive (j + 1) (record { from = omega (arith, from); to = to })) (omega (arith, least, from)))
+      subst (λ (k : ℕ). is_key_below columns.specs (last_key (item k)) (first_key (item (j + 1))) ≡ true) back
+      (order_kept columns.specs columns.more page (j + 1) (readable.order alive (j + 1) (record { from = omega (arith, from); to = to })) (omega (arith, least, from)))
 
-  pub rising : Rising (order_of specs) (page_keys specs [] page)
+  pub rising : Rising (order_of columns.specs) (page_keys columns.specs columns.more page)
   rising =
-      rising_from_adjacent (order_of specs) (ordered specs) (page_keys specs [] page)
-      (adjacent_from specs None (page_keys specs [] page)
-      (items_rise specs item (first_data page) number None same
+      rising_from_adjacent (order_of columns.specs) (ordered columns.specs) (page_keys columns.specs columns.more page)
+      (adjacent_from columns.specs None (page_keys columns.specs columns.more page)
+      (items_rise columns.specs item (first_data page) number None same
       (λ j from to. good j from (omega (arith, to)))
       (λ some. tt)
       (λ j from to. step j from (omega (arith, to)))))
 
   -- an entry that is sought is in the item where it is looked for
   module _ (key : List Value) (tid : Tid) (r : ℕ) (from : first_data page ≤ r) (to : r ≤ count_of page)
-      (passed : first_data page < r → is_passed specs (is_within specs key tid) page r ≡ true)
-      (next : r < count_of page → is_passed specs (is_within specs key tid) page (r + 1) ≡ false) where
+      (passed : first_data page < r → is_passed columns (is_within columns.specs key tid) page r ≡ true)
+      (next : r < count_of page → is_passed columns (is_within columns.specs key tid) page (r + 1) ≡ false) where
     abbrev o : Order (Separator Value Tid) (Entry Value Tid)
-    o = order_of specs
+    o = order_of columns.specs
 
     as-sought : (e : Entry Value Tid) → IsSought key tid e → as_separator e ≡ as_separator (entry_of key tid)
     as-sought e s = λ i. record { kept = s.values i; tid = Some (s.tid_is i) }
@@ -162,20 +162,20 @@ module _ (specs : List KeySpec) (page : List ℕ) (readable : IsReadable specs p
     not-before j e s low less there =
         let f = first-of (item r) (good r from to) in
         let below : o.precedes e f.entry ≡ true = across o keys (first_data page) number j r e f.entry rising low less (omega (arith, from, to)) there (subst (In f.entry) (sym f.are) (inl refl)) in
-        let at : is_lt (compare_keys (columns_of specs) tid_order (as_separator (entry_of key tid)) (first_key (item r))) ≡ true =
-        (λ i. is_lt (compare_keys (columns_of specs) tid_order (sym (as-sought e s) i) (sym f.key i))) ∙ below in
-        both_ways (is_lt (compare_keys (columns_of specs) tid_order (as_separator (entry_of key tid)) (first_key (item r)))) (not-true _ (passed (omega (arith, low, less)))) at
+        let at : is_lt (compare_keys (columns_of columns.specs) tid_order (as_separator (entry_of key tid)) (first_key (item r))) ≡ true =
+        (λ i. is_lt (compare_keys (columns_of columns.specs) tid_order (sym (as-sought e s) i) (sym f.key i))) ∙ below in
+        both_ways (is_lt (compare_keys (columns_of columns.specs) tid_order (as_separator (entry_of key tid)) (first_key (item r)))) (not-true _ (passed (omega (arith, low, less)))) at
 
     -- nor above it
     not-after : (j : ℕ) (e : Entry Value Tid) → IsSought key tid e → r < j → j ≤ count_of page → In e (keys j) → ⊥
     not-after j e s less high there =
         let f = first-of (item (r + 1)) (good (r + 1) (omega (arith, from)) (omega (arith, less, high))) in
         let below : o.precedes e f.entry ≡ true =
-        (λ i. is_lt (compare_keys (columns_of specs) tid_order (as-sought e s i) (f.key i))) ∙ not-false _ (next (omega (arith, less, high))) in
+        (λ i. is_lt (compare_keys (columns_of columns.specs) tid_order (as-sought e s i) (f.key i))) ∙ not-false _ (next (omega (arith, less, high))) in
         let first-in : In f.entry (keys (r + 1)) = subst (In f.entry) (sym f.are) (inl refl) in
         elim (at-or_above j e less high there f first-in) [
-          | inl is ↦ both_ways (o.precedes e e) ((ordered specs).strict e) (subst (λ (x : Entry Value Tid). o.precedes e x ≡ true) (sym is) below)
-          | inr above ↦ both_ways (o.precedes e e) ((ordered specs).strict e) ((ordered specs).chained e f.entry e below above)
+          | inl is ↦ both_ways (o.precedes e e) ((ordered columns.specs).strict e) (subst (λ (x : Entry Value Tid). o.precedes e x ≡ true) (sym is) below)
+          | inr above ↦ both_ways (o.precedes e e) ((ordered columns.specs).strict e) ((ordered columns.specs).chained e f.entry e below above)
         ]
       where
         at-or_above : (j : ℕ) (e : Entry Value Tid) → r < j → j ≤ count_of page → In e (keys j) → (f : First (item (r + 1))) → In f.entry (keys (r + 1)) → (e ≡ f.entry) ⊎ (o.precedes f.entry e ≡ true)
@@ -189,7 +189,7 @@ module _ (specs : List KeySpec) (page : List ℕ) (readable : IsReadable specs p
               (subst (In e) f.are here)
         ]
 
-    pub only-there : (e : Entry Value Tid) → IsSought key tid e → In e (page_keys specs [] page) → In e (keys r)
+    pub only-there : (e : Entry Value Tid) → IsSought key tid e → In e (page_keys columns.specs columns.more page) → In e (keys r)
     only-there e s there =
         let at = in-item o keys (first_data page) number e there in
         elim (cases_lt at.0 r) [
@@ -201,11 +201,11 @@ module _ (specs : List KeySpec) (page : List ℕ) (readable : IsReadable specs p
         ]
 
   -- each data item of a leaf can be read
-  pub item-read : (i : ℕ) → first_data page ≤ i → i ≤ count_of page → IsRead specs page i
+  pub item-read : (i : ℕ) → first_data page ≤ i → i ≤ count_of page → IsRead columns page i
   item-read i from to =
       let one = first_cases page in
       let plain = readable.items alive i (omega (arith, one, from)) to in
-      record { rules = subst (λ (s : Spot3). KeepsItemRules specs [] s page i) (leaf_spot page i leaf from) plain.rules; plain = plain.read }
+      record { rules = subst (λ (s : Spot3). KeepsItemRules columns.specs columns.more s page i) (leaf_spot page i leaf from) plain.rules; plain = plain.read }
 
 -- where a member of a list stands
 pub in-get : {X : Type 0} (x : X) (xs : List X) → In x xs → (k : ℕ) × (slice_get xs k ≡ Some x)
@@ -214,7 +214,7 @@ in-get x (y ∷ ys) (inl e) = (0, ap Some (sym e))
 in-get x (y ∷ ys) (inr k) = let r = in-get x ys k in (suc r.0, r.1)
 
 -- a page without data items has no entries
-pub none-there : (specs : List KeySpec) (page : List ℕ) (e : Entry Value Tid) → count_of page < first_data page → Contains (page_keys specs [] page) e → ⊥
-none-there specs page e none there =
+pub none-there : (columns : TreeColumns) (page : List ℕ) (e : Entry Value Tid) → count_of page < first_data page → Contains (page_keys columns.specs columns.more page) e → ⊥
+none-there columns page e none there =
     let zero-left : count_of page + 1 - first_data page ≡ 0 = omega (arith, none) in
-    In-from_Contains {X = Entry Value Tid} [] e (subst (λ (n : ℕ). Contains (flat_map (λ j. keys_in (item_at specs [] page j)) (numbers_from (first_data page) n)) e) zero-left there)
+    In-from_Contains {X = Entry Value Tid} [] e (subst (λ (n : ℕ). Contains (flat_map (λ j. keys_in (item_at columns.specs columns.more page j)) (numbers_from (first_data page) n)) e) zero-left there)

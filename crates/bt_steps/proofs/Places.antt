@@ -6,9 +6,9 @@ use Rattle.std.proofs.lemmas.Bool.{and_from, cond-true, not_from_false}
 use Rattle.std.proofs.lemmas.Grind.{flat_map-append}
 use Rattle.tree_search.specs.Keys.{Entry}
 use Rattle.page_layout.specs.Page.{count_of}
-use Rattle.key_orders.specs.declared.columns.KeySpec.{KeySpec}
 use Rattle.key_orders.specs.declared.columns.Value.{Value}
 use Rattle.key_orders.specs.declared.Tid.{Tid}
+use Rattle.varlena_attrs.specs.Columns.{TreeColumns}
 use Rattle.bt_meta.specs.Flags.{is_half_dead, is_leaf}
 use Rattle.bt_meta.specs.Pages.{opaque_of}
 use Rattle.tree_image.specs.Image.{first_data, item_at, keys_in, numbers_from, page_image, page_keys}
@@ -57,15 +57,15 @@ module _ {X : Type 0} (g : ℕ → List X) (f : ℕ) where
 
 -- The entries of a page
 
-module _ (specs : List KeySpec) (page : List ℕ) where
+module _ (columns : TreeColumns) (page : List ℕ) where
   abbrev g : ℕ → List (Entry Value Tid)
-  g i = keys_in (item_at specs [] page i)
+  g i = keys_in (item_at columns.specs columns.more page i)
 
-  pub before-first : entries_before specs page (first_data page) ≡ 0
+  pub before-first : entries_before columns page (first_data page) ≡ 0
   unfolding entries_before
   before-first = let e : first_data page - first_data page ≡ 0 = omega arith in ap (λ (n : ℕ). length (flat_map g (numbers_from (first_data page) n))) e
 
-  pub before-next : (i : ℕ) → first_data page ≤ i → entries_before specs page (i + 1) ≡ entries_before specs page i + length (keys_at specs page i)
+  pub before-next : (i : ℕ) → first_data page ≤ i → entries_before columns page (i + 1) ≡ entries_before columns page i + length (keys_at columns page i)
   unfolding entries_before keys_at
   before-next i from =
       let e : i + 1 - first_data page ≡ i - first_data page + 1 = omega arith in
@@ -74,12 +74,12 @@ module _ (specs : List KeySpec) (page : List ℕ) where
       ∙ (upto-next g (first_data page) (i - first_data page)
       ∙ ap (λ (j : ℕ). length (flat_map g (numbers_from (first_data page) (i - first_data page))) + length (g j)) at)
 
-  pub before-all : entries_before specs page (count_of page + 1) ≡ length (page_keys specs [] page)
+  pub before-all : entries_before columns page (count_of page + 1) ≡ length (page_keys columns.specs columns.more page)
   unfolding entries_before
   before-all = refl
 
-  pub entry-there : (i k : ℕ) → first_data page ≤ i → i ≤ count_of page → k < length (keys_at specs page i)
-      → slice_get (page_keys specs [] page) (place_of specs page i k) ≡ slice_get (keys_at specs page i) k
+  pub entry-there : (i k : ℕ) → first_data page ≤ i → i ≤ count_of page → k < length (keys_at columns page i)
+      → slice_get (page_keys columns.specs columns.more page) (place_of columns page i k) ≡ slice_get (keys_at columns page i) k
   unfolding entries_before keys_at
   entry-there i k from to within =
       let at : first_data page + (i - first_data page) ≡ i = omega arith in
@@ -89,5 +89,5 @@ module _ (specs : List KeySpec) (page : List ℕ) where
       ∙ ap (λ (j : ℕ). slice_get (g j) k) at
 
   -- as a search sees it
-  pub image-entries : is_leaf (opaque_of page) ≡ true → is_half_dead (opaque_of page) ≡ false → (page_image specs [] page).entries ≡ page_keys specs [] page
+  pub image-entries : is_leaf (opaque_of page) ≡ true → is_half_dead (opaque_of page) ≡ false → (page_image columns.specs columns.more page).entries ≡ page_keys columns.specs columns.more page
   image-entries leaf alive = cond-true _ _ _ (and_from (is_leaf (opaque_of page)) _ leaf (not_from_false _ alive))

@@ -1,12 +1,12 @@
 -- A page of an index, as a search reads it.
-use Rattle.std.specs.Prelude.{◌≡◌, ℕ, ◌≤◌, Bool, false, not, ◌&&◌, List, [], None}
+use Rattle.std.specs.Prelude.{◌≡◌, ℕ, ◌≤◌, Bool, false, not, ◌&&◌, List, None}
 use Rattle.page_layout.specs.Page.{count_of, page_rule_of}
 use Rattle.page_layout.specs.declared.page.PageKind.TheVariants.{Tree}
 use Rattle.tree_search.specs.Keys.{Entry, Separator}
 use Rattle.tree_search.specs.Order.{Scan}
-use Rattle.key_orders.specs.declared.columns.KeySpec.{KeySpec}
 use Rattle.key_orders.specs.declared.columns.Value.{Value}
 use Rattle.key_orders.specs.declared.Tid.{Tid}
+use Rattle.varlena_attrs.specs.Columns.{TreeColumns}
 use Rattle.bt_meta.specs.Flags.{is_half_dead, is_leaf}
 use Rattle.bt_meta.specs.Pages.{is_idle, opaque_of}
 use Rattle.tree_image.specs.Pages.{IsDataItem, IsPlainItem, breaks_items, breaks_order}
@@ -24,9 +24,10 @@ abbrev pub KeyScan : Type 0
 KeyScan = Scan (Separator Value Tid) (Entry Value Tid)
 
 -- what the rules leave of a page in use, as far as a search reads it. A half-dead leaf's items aren't read
-pub record IsReadable (specs : List KeySpec) (page : List ℕ) : Type 0 where
+pub record IsReadable (columns : TreeColumns) (page : List ℕ) : Type 0 where
   pub laid_out : page_rule_of Tree page ≡ None
   pub some_items : breaks_items page ≡ false
-  pub items : is_half_dead (opaque_of page) ≡ false → (i : ℕ) → 1 ≤ i → i ≤ count_of page → IsPlainItem specs [] page i
+  pub items : is_half_dead (opaque_of page) ≡ false
+      → (i : ℕ) → 1 ≤ i → i ≤ count_of page → IsPlainItem columns.specs columns.more page i
   pub order : is_half_dead (opaque_of page) ≡ false
-      → (i : ℕ) → IsDataItem page i → breaks_order specs [] page i ≡ false
+      → (i : ℕ) → IsDataItem page i → breaks_order columns.specs columns.more page i ≡ false

@@ -9,6 +9,7 @@ use Rattle.key_orders.specs.declared.columns.Value.{Value}
 use Rattle.key_orders.specs.declared.Tid.{Tid}
 use Rattle.key_orders.specs.Keys.{columns_of, entry_of, tid_order}
 use Rattle.key_orders.specs.Scans.{order_of}
+use Rattle.varlena_attrs.specs.Columns.{TreeColumns}
 use Rattle.tree_image.specs.Image.{TreeIndex, first_data}
 use Rattle.bt_steps.specs.Entries.{IsRead, keys_at}
 use Rattle.bt_steps.specs.Ways.{Goes}
@@ -26,12 +27,13 @@ pub record IsSought (key : List Value) (tid : Tid) (e : Entry Value Tid) : Type 
   pub tid_is : e.tid ≡ tid
 
 -- there is one at this place of a page, that of a data item's TID, and it isn't killed
-pub record HasSought (specs : List KeySpec) (page : List ℕ) (key : List Value) (tid : Tid) (item nth : ℕ) : Type 0 where
+pub record HasSought (columns : TreeColumns) (page : List ℕ) (key : List Value) (tid : Tid)
+    (item nth : ℕ) : Type 0 where
   pub from : first_data page ≤ item
   pub last : item ≤ count_of page
-  pub read : IsRead specs page item
+  pub read : IsRead columns page item
   pub entry : Entry Value Tid
-  pub is : slice_get (keys_at specs page item) nth ≡ Some entry
+  pub is : slice_get (keys_at columns page item) nth ≡ Some entry
   pub sought : IsSought key tid entry
   pub alive : entry.killed ≡ false
 

@@ -7,6 +7,7 @@ use Rattle.key_orders.specs.declared.columns.KeySpec.{KeySpec}
 use Rattle.key_orders.specs.declared.columns.Value.{Value}
 use Rattle.key_orders.specs.declared.Tid.{Tid}
 use Rattle.key_orders.specs.Scans.{order_of}
+use Rattle.varlena_attrs.specs.Columns.{TreeColumns}
 use Rattle.bt_meta.specs.Flags.{is_half_dead, is_leaf}
 use Rattle.bt_meta.specs.Pages.{opaque_of}
 use Rattle.bt_tuples.specs.Keys.{first_key}
@@ -27,12 +28,13 @@ pub record GoesLower (specs : List KeySpec) (goes : Goes) : Type 0 where
       → (order_of specs).under s t ≡ true → goes t ≡ true → goes s ≡ true
 
 -- it goes right of the first key of item i
-abbrev pub is_passed : List KeySpec → Goes → List ℕ → ℕ → Bool
-is_passed specs goes page i = goes (first_key (item_at specs [] page i))
+abbrev pub is_passed : TreeColumns → Goes → List ℕ → ℕ → Bool
+is_passed columns goes page i = goes (first_key (item_at columns.specs columns.more page i))
 
 -- it leaves the page for its right sibling: it goes right of the high key, or the page is half-dead
-abbrev pub is_left_behind : List KeySpec → Goes → List ℕ → Bool
-is_left_behind specs goes page = right_of goes (page_image specs [] page).high_key || is_half_dead (opaque_of page)
+abbrev pub is_left_behind : TreeColumns → Goes → List ℕ → Bool
+is_left_behind columns goes page =
+    right_of goes (page_image columns.specs columns.more page).high_key || is_half_dead (opaque_of page)
 
 -- the child that it goes down to, if the page has one
 abbrev pub down_to : Goes → List (Key × ℕ) → Option ℕ
@@ -45,7 +47,7 @@ next_of goes p =
     cond (right_of goes p.high_key || p.half_dead) (Some p.next) (cond p.leaf None (down_to goes p.children))
 
 -- a visit to the page leads to another block, or the page is a leaf that is read
-abbrev pub Leads : List KeySpec → Goes → List ℕ → Step → Type 0
-Leads specs goes page (To next) = next_of goes (page_image specs [] page) ≡ Some next
-Leads specs goes page Read = (is_left_behind specs goes page ≡ false) × (is_leaf (opaque_of page) ≡ true)
-Leads specs goes page Lost = ⊥
+abbrev pub Leads : TreeColumns → Goes → List ℕ → Step → Type 0
+Leads columns goes page (To next) = next_of goes (page_image columns.specs columns.more page) ≡ Some next
+Leads columns goes page Read = (is_left_behind columns goes page ≡ false) × (is_leaf (opaque_of page) ≡ true)
+Leads columns goes page Lost = ⊥

@@ -1,10 +1,8 @@
 //! What a visit to a page of an index leads to.
-ghost use Rattle.std.specs.Prelude.{◌≡◌, ◌≢◌, ◌<◌, ◌≤◌, ◌+◌, List, [], None, All, length, true, false};
+ghost use Rattle.std.specs.Prelude.{◌≡◌, ◌≢◌, ◌<◌, ◌≤◌, ◌+◌, List, None, true, false};
 ghost use Rattle.page_layout.specs.Page.{count_of, page_rule_of};
 ghost use Rattle.page_layout.specs.View.{page_bytes};
-ghost use Rattle.key_orders.specs.declared.columns.KeySpec.{KeySpec as Spec};
-ghost use Rattle.key_orders.specs.Types.{HasAlignment};
-ghost use Rattle.varlena_attrs.specs.Keyed.{key_types};
+ghost use Rattle.varlena_attrs.specs.Columns.{TreeColumns as Columns, tree_columns};
 ghost use Rattle.bt_meta.specs.Flags.{is_half_dead, is_leaf};
 ghost use Rattle.bt_meta.specs.Pages.{opaque_of};
 ghost use Rattle.bt_tuples.specs.declared.items.Spot3.{Spot3 as Place};
@@ -16,9 +14,9 @@ ghost use Rattle.bt_steps.specs.Ways.{Leads, is_left_behind, is_passed};
 use crate::way::Way;
 use bt_meta::{opaque, tree_head};
 use bt_tuples::{ItemKeys, Spot3};
-use key_orders::KeySpec;
 use page_layout::{PageKind, PageView};
 use tree_image::{first_data, has_high_key, spot_of};
+use varlena_attrs::IndexColumns;
 
 /// What a visit to a page leads to.
 #[derive(Clone, Copy, Debug, PartialEq, Eq)]
@@ -36,22 +34,21 @@ pub enum Step {
 fn goes_right_of<'p, W: Way>(
     page: PageView<'p>,
     i: u16,
-    specs: &[KeySpec],
+    columns: &IndexColumns<'_>,
     way: &W,
     keys: &mut ItemKeys<'p>,
 ) -> bool
     requires page { page_rule_of PageKind.Tree (page_bytes page) ≡ None }
     requires first { 1 ≤ i }
     requires last { i ≤ count_of (page_bytes page) }
-    requires few { length specs.now ≤ 8 }
-    requires aligned { All HasAlignment (key_types specs.now) }
-    requires fits { W.fits way.now specs.now }
-    ensures { IsPlainItem specs.now [] (page_bytes page.entry) i
-        → result ≡ is_passed specs.now (W.goes way.now specs.now) (page_bytes page.entry) i }
+    requires fits { W.fits way.now columns.now.specs.now }
+    ensures { IsPlainItem columns.now.specs.now columns.now.more.now (page_bytes page.entry) i
+        → result ≡ is_passed (tree_columns columns.now) (W.goes way.now columns.now.specs.now)
+        (page_bytes page.entry) i }
 {
-    match keys.read(page, i, specs, &[], spot_of(page, i)) {
+    match keys.read(page, i, columns, spot_of(page, i)) {
         Err(_) => false,
-        Ok(()) => way.goes_right(specs, &keys.first),
+        Ok(()) => way.goes_right(columns.specs, &keys.first),
     }
 }
 
@@ -59,16 +56,15 @@ fn goes_right_of<'p, W: Way>(
 // half-dead, and then its high key isn't looked at.
 fn is_left_behind<'p, W: Way>(
     page: PageView<'p>,
-    specs: &[KeySpec],
+    columns: &IndexColumns<'_>,
     way: &W,
     keys: &mut ItemKeys<'p>,
 ) -> bool
     requires page { page_rule_of PageKind.Tree (page_bytes page) ≡ None }
-    requires few { length specs.now ≤ 8 }
-    requires aligned { All HasAlignment (key_types specs.now) }
-    requires fits { W.fits way.now specs.now }
-    ensures { IsReadable specs.now (page_bytes page.entry)
-        → result ≡ is_left_behind specs.now (W.goes way.now specs.now) (page_bytes page.entry) }
+    requires fits { W.fits way.now columns.now.specs.now }
+    ensures { IsReadable (tree_columns columns.now) (page_bytes page.entry)
+        → result ≡ is_left_behind (tree_columns columns.now) (W.goes way.now columns.now.specs.now)
+        (page_bytes page.entry) }
 {
     if opaque(page).is_half_dead() {
         return true;
@@ -76,38 +72,38 @@ fn is_left_behind<'p, W: Way>(
     if !has_high_key(page) || page.item_count() == 0 {
         return false;
     }
-    goes_right_of(page, 1, specs, way, keys)
+    goes_right_of(page, 1, columns, way, keys)
 }
 
 // Looks by halves for the last data item of a page that a search goes right of, by its first key, or the
 // first data item where it goes right of none but that.
 pub(crate) fn last_passed<'p, W: Way>(
     page: PageView<'p>,
-    specs: &[KeySpec],
+    columns: &IndexColumns<'_>,
     way: &W,
     keys: &mut ItemKeys<'p>,
 ) -> u16
     requires page { page_rule_of PageKind.Tree (page_bytes page) ≡ None }
     requires some { first_data (page_bytes page) ≤ count_of (page_bytes page) }
-    requires few { length specs.now ≤ 8 }
-    requires aligned { All HasAlignment (key_types specs.now) }
-    requires fits { W.fits way.now specs.now }
+    requires fits { W.fits way.now columns.now.specs.now }
     ensures from { first_data (page_bytes page.entry) ≤ result }
     ensures to { result ≤ count_of (page_bytes page.entry) }
-    ensures passed { IsReadable specs.now (page_bytes page.entry)
+    ensures passed { IsReadable (tree_columns columns.now) (page_bytes page.entry)
         → is_half_dead (opaque_of (page_bytes page.entry)) ≡ false
         → first_data (page_bytes page.entry) < result
-        → is_passed specs.now (W.goes way.now specs.now) (page_bytes page.entry) result ≡ true }
-    ensures next { IsReadable specs.now (page_bytes page.entry)
+        → is_passed (tree_columns columns.now) (W.goes way.now columns.now.specs.now) (page_bytes page.entry) result
+        ≡ true }
+    ensures next { IsReadable (tree_columns columns.now) (page_bytes page.entry)
         → is_half_dead (opaque_of (page_bytes page.entry)) ≡ false
         → result < count_of (page_bytes page.entry)
-        → is_passed specs.now (W.goes way.now specs.now) (page_bytes page.entry) (result + 1) ≡ false }
+        → is_passed (tree_columns columns.now) (W.goes way.now columns.now.specs.now) (page_bytes page.entry)
+        (result + 1) ≡ false }
 {
     let mut low = first_data(page);
     let mut high = page.item_count() + 1;
     while high - low > 1 {
         let middle = low + (high - low) / 2;
-        if goes_right_of(page, middle, specs, way, keys) {
+        if goes_right_of(page, middle, columns, way, keys) {
             low = middle;
         } else {
             high = middle;
@@ -121,9 +117,9 @@ fn downlink_at(page: PageView<'_>, i: u16) -> u32
     requires page { page_rule_of PageKind.Tree (page_bytes page) ≡ None }
     requires first { 1 ≤ i }
     requires last { i ≤ count_of (page_bytes page) }
-    ensures { (specs : List Spec) → IsPlainItem specs [] (page_bytes page.entry) i
+    ensures { (columns : Columns) → IsPlainItem columns.specs columns.more (page_bytes page.entry) i
         → spot_of (page_bytes page.entry) i ≢ Spot3.LeafItem
-        → result ≡ downlink_in (item_at specs [] (page_bytes page.entry) i) }
+        → result ≡ downlink_in (item_at columns.specs columns.more (page_bytes page.entry) i) }
 {
     let item = page.item(i);
     if item.is_misplaced_tree_item(page.upper()) {
@@ -133,12 +129,10 @@ fn downlink_at(page: PageView<'_>, i: u16) -> u32
 }
 
 /// What a visit of a search to a page leads to.
-pub fn step_on<W: Way>(page: PageView<'_>, specs: &[KeySpec], way: &W) -> Step
-    requires few { length specs.now ≤ 8 }
-    requires aligned { All HasAlignment (key_types specs.now) }
-    requires fits { W.fits way.now specs.now }
-    ensures leads { IsReadable specs.now (page_bytes page.entry)
-        → Leads specs.now (W.goes way.now specs.now) (page_bytes page.entry) result }
+pub fn step_on<W: Way>(page: PageView<'_>, columns: &IndexColumns<'_>, way: &W) -> Step
+    requires fits { W.fits way.now columns.now.specs.now }
+    ensures leads { IsReadable (tree_columns columns.now) (page_bytes page.entry)
+        → Leads (tree_columns columns.now) (W.goes way.now columns.now.specs.now) (page_bytes page.entry) result }
     ensures page { result ≡ Step.Read → page_rule_of PageKind.Tree (page_bytes page.entry) ≡ None }
 {
     if page.page_rule(PageKind::Tree).is_some() {
@@ -146,7 +140,7 @@ pub fn step_on<W: Way>(page: PageView<'_>, specs: &[KeySpec], way: &W) -> Step
     }
     let special = opaque(page);
     let mut keys = ItemKeys::new();
-    if is_left_behind(page, specs, way, &mut keys) {
+    if is_left_behind(page, columns, way, &mut keys) {
         return Step::To(special.next);
     }
     if special.is_leaf() {
@@ -155,5 +149,5 @@ pub fn step_on<W: Way>(page: PageView<'_>, specs: &[KeySpec], way: &W) -> Step
     if page.item_count() < first_data(page) {
         return Step::Lost;
     }
-    Step::To(downlink_at(page, last_passed(page, specs, way, &mut keys)))
+    Step::To(downlink_at(page, last_passed(page, columns, way, &mut keys)))
 }

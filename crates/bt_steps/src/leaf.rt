@@ -1,5 +1,5 @@
 //! Looks for an entry on a leaf.
-ghost use Rattle.std.specs.Prelude.{◌≡◌, ◌≤◌, ◌↔◌, ℕ, [], None, Some, All, IfSome, length, slice_get};
+ghost use Rattle.std.specs.Prelude.{◌≡◌, ◌≤◌, ◌↔◌, ℕ, None, Some, IfSome, slice_get};
 ghost use Rattle.std.specs.Prelude.{Contains, true, false};
 ghost use Rattle.std.specs.declared.cmp.Ordering.TheVariants.{Equal};
 ghost use Rattle.page_layout.specs.Page.{count_of, page_rule_of};
@@ -8,8 +8,7 @@ ghost use Rattle.tree_search.specs.Keys.{Entry as Given};
 ghost use Rattle.key_orders.specs.declared.columns.Value.{Value};
 ghost use Rattle.key_orders.specs.declared.Tid.{Tid as At};
 ghost use Rattle.key_orders.specs.Keys.{IsKey, tid_order};
-ghost use Rattle.key_orders.specs.Types.{HasAlignment};
-ghost use Rattle.varlena_attrs.specs.Keyed.{key_types};
+ghost use Rattle.varlena_attrs.specs.Columns.{tree_columns};
 ghost use Rattle.bt_meta.specs.Flags.{is_half_dead, is_leaf};
 ghost use Rattle.bt_meta.specs.Pages.{opaque_of};
 ghost use Rattle.bt_tuples.specs.Rules.{are_not_rising};
@@ -22,10 +21,11 @@ use crate::inner::last_passed;
 use crate::way::{Sought, UpTo};
 use bt_meta::{is_idle, opaque};
 use bt_tuples::{ItemKeys, Spot3, TidList, TreeItem, tree_item};
-use key_orders::{KeySpec, Tid, cmp_values, key_orders_are_total};
+use key_orders::{Tid, cmp_values, key_orders_are_total};
 use page_layout::{PageKind, PageView};
 use std::cmp::Ordering;
 use tree_image::first_data;
+use varlena_attrs::IndexColumns;
 
 /// A place on a leaf: an item, counted from 1, and a TID of the item, counted from 0.
 #[derive(Clone, Copy, Debug, PartialEq, Eq)]
@@ -68,24 +68,22 @@ fn nth_of(tids: &TidList<'_>, tid: Tid) -> Option<u16>
 pub fn find_in_item(
     page: PageView<'_>,
     i: u16,
-    specs: &[KeySpec],
+    columns: &IndexColumns<'_>,
     sought: Sought<'_>,
 ) -> Option<u16>
     requires page { page_rule_of PageKind.Tree (page_bytes page) ≡ None }
     requires first { 1 ≤ i }
     requires from { first_data (page_bytes page) ≤ i }
     requires last { i ≤ count_of (page_bytes page) }
-    requires few { length specs.now ≤ 8 }
-    requires aligned { All HasAlignment (key_types specs.now) }
-    requires key { IsKey specs.now sought.key.now }
+    requires key { IsKey columns.now.specs.now sought.key.now }
     ensures some { IfSome result (λ nth.
-        HasSought specs.now (page_bytes page.entry) sought.entry.key.now sought.entry.tid i nth) }
+        HasSought (tree_columns columns.now) (page_bytes page.entry) sought.entry.key.now sought.entry.tid i nth) }
     ensures none { result ≡ None → (k : ℕ) (e : Given Value At)
-        → slice_get (keys_at specs.now (page_bytes page.entry) i) k ≡ Some e
-        → IsSought sought.entry.key.now sought.entry.tid e → IsRead specs.now (page_bytes page.entry) i
+        → slice_get (keys_at (tree_columns columns.now) (page_bytes page.entry) i) k ≡ Some e
+        → IsSought sought.entry.key.now sought.entry.tid e → IsRead (tree_columns columns.now) (page_bytes page.entry) i
         → e.killed ≡ true }
 {
-    match tree_item(page, i, specs, &[], Spot3::LeafItem) {
+    match tree_item(page, i, columns, Spot3::LeafItem) {
         Ok(
             TreeItem::Plain {
                 key,
@@ -96,14 +94,14 @@ pub fn find_in_item(
         ) => {
             if killed
                 || cmp_tids(tid, sought.tid).is_ne()
-                || cmp_values(specs, &key, sought.key).is_ne()
+                || cmp_values(columns.specs, &key, sought.key).is_ne()
             {
                 return None;
             }
             Some(0)
         }
         Ok(TreeItem::Posting { key, tids, killed }) => {
-            if killed || cmp_values(specs, &key, sought.key).is_ne() {
+            if killed || cmp_values(columns.specs, &key, sought.key).is_ne() {
                 return None;
             }
             nth_of(&tids, sought.tid)
@@ -122,23 +120,23 @@ pub fn is_live_leaf(page: PageView<'_>) -> bool
 }
 
 /// Where an entry stands on a leaf, if it is there and isn't killed. Its item is found by halves.
-pub fn find_on(page: PageView<'_>, specs: &[KeySpec], sought: Sought<'_>) -> Option<Place>
+pub fn find_on(page: PageView<'_>, columns: &IndexColumns<'_>, sought: Sought<'_>) -> Option<Place>
     requires page { page_rule_of PageKind.Tree (page_bytes page) ≡ None }
-    requires few { length specs.now ≤ 8 }
-    requires aligned { All HasAlignment (key_types specs.now) }
-    requires key { IsKey specs.now sought.key.now }
+    requires key { IsKey columns.now.specs.now sought.key.now }
     ensures some { IfSome result (λ at.
-        HasSought specs.now (page_bytes page.entry) sought.entry.key.now sought.entry.tid at.item at.nth) }
-    ensures none { result ≡ None → IsReadable specs.now (page_bytes page.entry)
+        HasSought (tree_columns columns.now) (page_bytes page.entry)
+        sought.entry.key.now sought.entry.tid at.item at.nth) }
+    ensures none { result ≡ None → IsReadable (tree_columns columns.now) (page_bytes page.entry)
         → is_leaf (opaque_of (page_bytes page.entry)) ≡ true
         → is_half_dead (opaque_of (page_bytes page.entry)) ≡ false
-        → (e : Given Value At) → Contains (page_keys specs.now [] (page_bytes page.entry)) e
+        → (e : Given Value At)
+        → Contains (page_keys columns.now.specs.now columns.now.more.now (page_bytes page.entry)) e
         → IsSought sought.entry.key.now sought.entry.tid e → e.killed ≡ true }
 {
     if page.item_count() < first_data(page) {
         return None;
     }
-    let item = last_passed(page, specs, &UpTo { sought }, &mut ItemKeys::new());
-    let nth = find_in_item(page, item, specs, sought)?;
+    let item = last_passed(page, columns, &UpTo { sought }, &mut ItemKeys::new());
+    let nth = find_in_item(page, item, columns, sought)?;
     Some(Place { item, nth })
 }

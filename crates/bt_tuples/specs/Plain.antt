@@ -1,20 +1,21 @@
 -- A plain tuple of a leaf without null bits, as nearly all are.
-use Rattle.std.specs.Prelude.{◌≡◌, ◌≢◌, ◌<◌, ℕ, Bool, true, false, List, [], ◌∷◌, length, None, Ok}
+use Rattle.std.specs.Prelude.{◌≡◌, ◌≢◌, ◌<◌, ℕ, Bool, true, false, List, [], ◌∷◌, ◌++◌, length, None, Ok}
 use Rattle.std.specs.declared.cmp.Ordering.TheVariants.{Less}
 use Rattle.page_layout.specs.Page.{item_of}
 use Rattle.key_orders.specs.declared.columns.KeySpec.{KeySpec}
 use Rattle.key_orders.specs.declared.columns.Value.{Value}
+use Rattle.key_orders.specs.declared.more.MoreSpec.{MoreSpec}
 use Rattle.key_orders.specs.declared.Tid.{Tid}
 use Rattle.key_orders.specs.Keys.{columns_of, fits_columns}
 use Rattle.key_orders.specs.Prefixes.{IsPrefix}
-use Rattle.varlena_attrs.specs.Keyed.{key_types, key_values}
+use Rattle.varlena_attrs.specs.Keyed.{key_types, key_values, more_types}
 use Rattle.bt_meta.specs.declared.records.HeadKind.TheVariants as kinds
 use Rattle.bt_meta.specs.declared.records.TreeHead.{TreeHead}
 use Rattle.bt_meta.specs.Heads.{tree_head_of}
 use Rattle.bt_tuples.specs.declared.items.Spot3.TheVariants.{LeafItem}
 use Rattle.bt_tuples.specs.Items.{ItemOutcome, Plain, is_dead, item_outcome, tuple_outcome}
 use Rattle.bt_tuples.specs.Rules.{breaks_place, tuple_of}
-use Rattle.bt_tuples.specs.Tuples.{has_null_bits, plain_tid, size_of}
+use Rattle.bt_tuples.specs.Tuples.{has_null_bits, plain_tid, size_of, values_in}
 
 -- this is its head: its size is that of its bytes, and its TID has an item number
 pub record IsPlainHead (tuple : List ℕ) (head : TreeHead) : Type 0 where
@@ -24,13 +25,16 @@ pub record IsPlainHead (tuple : List ℕ) (head : TreeHead) : Type 0 where
   pub some : head.item ≢ 0
   pub size : size_of head ≡ length tuple
 
--- the tuple is a plain one with this TID, and the values that its body tells are its key
+-- The tuple is a plain one with this TID, whose values are those that its body tells without null bits. Where the body
+-- tells a value for each column of the key, and others behind them, these are its key and its included values.
 pub record IsPlainTuple (tuple : List ℕ) (tid : Tid) (body : List ℕ) : Type 0 where
   pub kind : (tree_head_of tuple).kind ≡ kinds.Plain
   pub tid_is : tid ≡ plain_tid (tree_head_of tuple)
-  pub told : (specs : List KeySpec) (key : List Value) (killed : Bool)
-      → key_values (key_types specs) body None ≡ Ok key → length key ≡ length specs
-      → tuple_outcome specs [] LeafItem tuple killed ≡ Ok (Plain key [] tid killed)
+  pub values : (specs : List KeySpec) (more : List MoreSpec)
+      → values_in specs more tuple ≡ key_values (key_types specs ++ more_types more) body None
+  pub told : (specs : List KeySpec) (more : List MoreSpec) (key rest : List Value) (killed : Bool)
+      → key_values (key_types specs ++ more_types more) body None ≡ Ok (key ++ rest) → length key ≡ length specs
+      → tuple_outcome specs more LeafItem tuple killed ≡ Ok (Plain key rest tid killed)
 
 -- so it is of item i of a page
 pub record LiesPlain (page : List ℕ) (i : ℕ) (tid : Tid) (body : List ℕ) : Type 0 where

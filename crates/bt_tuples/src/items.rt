@@ -1,10 +1,8 @@
 //! An item of a tree page, read where it lies.
-ghost use Rattle.std.specs.Prelude.{◌≡◌, ◌≤◌, ◌++◌, List, [], length, true, false, All, IfOk, None, Ok};
+ghost use Rattle.std.specs.Prelude.{◌≡◌, ◌≤◌, ◌++◌, List, [], length, true, false, IfOk, None, Ok};
 ghost use Rattle.key_orders.specs.declared.columns.Value.{Value};
-ghost use Rattle.key_orders.specs.Types.{HasAlignment};
 ghost use Rattle.page_layout.specs.Page.{count_of, page_rule_of};
 ghost use Rattle.page_layout.specs.View.{page_bytes};
-ghost use Rattle.varlena_attrs.specs.Keyed.{key_types, more_types};
 ghost use Rattle.bt_meta.specs.Heads.{tree_head_of};
 ghost use Rattle.bt_tuples.specs.Items.{ItemFits, item_outcome, tuple_outcome};
 ghost use Rattle.bt_tuples.specs.Rules.{is_pivot};
@@ -15,8 +13,9 @@ use crate::heads::number_of;
 use crate::tids::TidList;
 use crate::tuples::{kept_tid, read_covering, read_tuple};
 use bt_meta::{HeadKind, TreeHead};
-use key_orders::{KeyRefs, KeySpec, MoreRefs, MoreSpec, SepRef, Tid};
+use key_orders::{KeyRefs, MoreRefs, SepRef, Tid};
 use page_layout::{LineFlag, PageKind, PageView, Rule};
+use varlena_attrs::IndexColumns;
 
 /// The place of an item on its page, which says what form it has to have. The data items of a page
 /// are all but its high key.
@@ -78,27 +77,19 @@ pub(crate) fn plain_tid(head: TreeHead) -> Tid
 }
 
 // The values of the columns that an index includes, in a leaf's tuple whose values can be told.
-fn included<'p>(
-    specs: &[KeySpec],
-    more: &[MoreSpec],
-    tuple: &'p [u8],
-    head: TreeHead,
-) -> MoreRefs<'p>
-    requires few { length specs.now ≤ 8 }
-    requires few_more { length more.now ≤ 24 }
-    requires aligned { All HasAlignment (key_types specs.now) }
-    requires aligned_more { All HasAlignment (more_types more.now) }
+fn included<'p>(columns: &IndexColumns<'_>, tuple: &'p [u8], head: TreeHead) -> MoreRefs<'p>
     requires long { 8 ≤ length tuple.now }
     requires head { head ≡ tree_head_of tuple.now }
     requires kind { is_pivot head.kind ≡ false }
     requires begins { body_begin head ≤ body_end head (length tuple.now) }
-    ensures { (key rest : List Value) → values_in specs.now more.now tuple.now ≡ Ok (key ++ rest)
-        → length key ≡ length specs.now → (more.now ≡ [] → rest ≡ []) → result ≡ rest }
+    ensures { (key rest : List Value) → values_in columns.now.specs.now columns.now.more.now tuple.now
+        ≡ Ok (key ++ rest)
+        → length key ≡ length columns.now.specs.now → (columns.now.more.now ≡ [] → rest ≡ []) → result ≡ rest }
 {
-    if more.is_empty() {
+    if columns.more.is_empty() {
         return MoreRefs::new();
     }
-    match read_covering(specs, more, tuple, head, &mut KeyRefs::new()) {
+    match read_covering(columns, tuple, head, &mut KeyRefs::new()) {
         Ok(rest) => rest,
         Err(_) => MoreRefs::new(),
     }
@@ -106,22 +97,18 @@ fn included<'p>(
 
 // The item in these bytes, at a place of this kind.
 fn tuple_item<'p>(
-    specs: &[KeySpec],
-    more: &[MoreSpec],
+    columns: &IndexColumns<'_>,
     spot: Spot3,
     tuple: &'p [u8],
     killed: bool,
 ) -> Result<TreeItem<'p>, ItemFault>
-    requires few { length specs.now ≤ 8 }
-    requires few_more { length more.now ≤ 24 }
-    requires aligned { All HasAlignment (key_types specs.now) }
-    requires aligned_more { All HasAlignment (more_types more.now) }
     requires long { 8 ≤ length tuple.now }
-    ensures fits { IfOk result (λ item. ItemFits specs.now (item_shown item)) }
-    ensures outcome { outcome_shown result ≡ tuple_outcome specs.now more.now spot tuple.now killed }
+    ensures fits { IfOk result (λ item. ItemFits columns.now.specs.now (item_shown item)) }
+    ensures outcome { outcome_shown result
+        ≡ tuple_outcome columns.now.specs.now columns.now.more.now spot tuple.now killed }
 {
     let mut key = KeyRefs::new();
-    match read_tuple(specs, more, spot, tuple, &mut key) {
+    match read_tuple(columns, spot, tuple, &mut key) {
         Err(fault) => Err(fault),
         Ok(head) => Ok(match head.kind {
             HeadKind::Pivot => TreeItem::Pivot {
@@ -133,7 +120,7 @@ fn tuple_item<'p>(
             },
             HeadKind::Plain => TreeItem::Plain {
                 key,
-                more: included(specs, more, tuple, head),
+                more: included(columns, tuple, head),
                 tid: plain_tid(head),
                 killed,
             },
@@ -155,24 +142,20 @@ fn tuple_item<'p>(
 pub fn tree_item<'p>(
     page: PageView<'p>,
     i: u16,
-    specs: &[KeySpec],
-    more: &[MoreSpec],
+    columns: &IndexColumns<'_>,
     spot: Spot3,
 ) -> Result<TreeItem<'p>, ItemFault>
     requires page { page_rule_of PageKind.Tree (page_bytes page) ≡ None }
     requires first { 1 ≤ i }
     requires last { i ≤ count_of (page_bytes page) }
-    requires few { length specs.now ≤ 8 }
-    requires few_more { length more.now ≤ 24 }
-    requires aligned { All HasAlignment (key_types specs.now) }
-    requires aligned_more { All HasAlignment (more_types more.now) }
-    ensures fits { IfOk result (λ item. ItemFits specs.now (item_shown item)) }
-    ensures outcome { outcome_shown result ≡ item_outcome specs.now more.now spot (page_bytes page.entry) i }
+    ensures fits { IfOk result (λ item. ItemFits columns.now.specs.now (item_shown item)) }
+    ensures outcome { outcome_shown result
+        ≡ item_outcome columns.now.specs.now columns.now.more.now spot (page_bytes page.entry) i }
 {
     let at = page.item(i);
     if at.is_misplaced_tree_item(page.upper()) {
         return Err(ItemFault::Broken(Rule::B5));
     }
     let killed = matches!(at.flag, LineFlag::Dead);
-    tuple_item(specs, more, spot, page.piece(at.off, at.len), killed)
+    tuple_item(columns, spot, page.piece(at.off, at.len), killed)
 }

@@ -1,11 +1,9 @@
 //! The keys of an item, read into a place that is at hand: what a loop over the items of a page asks of
 //! each.
-ghost use Rattle.std.specs.Prelude.{◌≡◌, ◌≤◌, ◌+◌, ◌*◌, [], Bool, length, None, All, IfErr, IfOk, Err};
+ghost use Rattle.std.specs.Prelude.{◌≡◌, ◌≤◌, ◌+◌, ◌*◌, [], Bool, length, None, IfErr, IfOk, Err};
 ghost use Rattle.page_layout.specs.Page.{count_of, page_rule_of};
 ghost use Rattle.page_layout.specs.View.{page_bytes};
 ghost use Rattle.key_orders.specs.Separators.{separator_of};
-ghost use Rattle.key_orders.specs.Types.{HasAlignment};
-ghost use Rattle.varlena_attrs.specs.Keyed.{key_types, more_types};
 ghost use Rattle.bt_meta.specs.Heads.{tree_head_of};
 ghost use Rattle.bt_tuples.specs.Items.{item_outcome, tuple_outcome};
 ghost use Rattle.bt_tuples.specs.Keys.{HasKeys, first_tid_in, last_tid_in};
@@ -16,8 +14,9 @@ use crate::items::{ItemFault, Spot3, plain_tid};
 use crate::tids::TidList;
 use crate::tuples::{kept_tid, read_tuple};
 use bt_meta::{HeadKind, TreeHead};
-use key_orders::{KeySpec, MoreSpec, SepRef, Tid};
+use key_orders::{SepRef, Tid};
 use page_layout::{PageKind, PageView, Rule};
+use varlena_attrs::IndexColumns;
 
 /// The keys of an item's first entry and of its last one, which differ in their TIDs alone; of a
 /// pivot both are what it keeps.
@@ -66,23 +65,19 @@ fn last_tid(tuple: &[u8], head: TreeHead) -> Option<Tid>
 // Reads the keys of the item in these bytes, at a place of this kind.
 #[inline(always)]
 fn read_tuple_keys<'p>(
-    specs: &[KeySpec],
-    more: &[MoreSpec],
+    columns: &IndexColumns<'_>,
     spot: Spot3,
     tuple: &'p [u8],
     keys: &mut ItemKeys<'p>,
 ) -> Result<(), ItemFault>
-    requires few { length specs.now ≤ 8 }
-    requires few_more { length more.now ≤ 24 }
-    requires aligned { All HasAlignment (key_types specs.now) }
-    requires aligned_more { All HasAlignment (more_types more.now) }
     requires long { 8 ≤ length tuple.now }
     ensures keys { IfOk result (λ u. (killed : Bool)
-        → HasKeys specs.now (tuple_outcome specs.now more.now spot tuple.now killed) keys.new) }
+        → HasKeys columns.now.specs.now
+        (tuple_outcome columns.now.specs.now columns.now.more.now spot tuple.now killed) keys.new) }
     ensures fault { IfErr result (λ e. (killed : Bool)
-        → tuple_outcome specs.now more.now spot tuple.now killed ≡ Err e) }
+        → tuple_outcome columns.now.specs.now columns.now.more.now spot tuple.now killed ≡ Err e) }
 {
-    match read_tuple(specs, more, spot, tuple, &mut keys.first.kept) {
+    match read_tuple(columns, spot, tuple, &mut keys.first.kept) {
         Err(fault) => Err(fault),
         Ok(head) => {
             keys.first.tid = first_tid(tuple, head);
@@ -115,27 +110,23 @@ impl<'p> ItemKeys<'p> {
         &mut self,
         page: PageView<'p>,
         i: u16,
-        specs: &[KeySpec],
-        more: &[MoreSpec],
+        columns: &IndexColumns<'_>,
         spot: Spot3,
     ) -> Result<(), ItemFault>
         requires page { page_rule_of PageKind.Tree (page_bytes page) ≡ None }
         requires first { 1 ≤ i }
         requires last { i ≤ count_of (page_bytes page) }
-        requires few { length specs.now ≤ 8 }
-        requires few_more { length more.now ≤ 24 }
-        requires aligned { All HasAlignment (key_types specs.now) }
-        requires aligned_more { All HasAlignment (more_types more.now) }
         ensures keys { IfOk result (λ u.
-            HasKeys specs.now (item_outcome specs.now more.now spot (page_bytes page.entry) i) self.new) }
+            HasKeys columns.now.specs.now (item_outcome columns.now.specs.now columns.now.more.now spot
+            (page_bytes page.entry) i) self.new) }
         ensures fault { IfErr result (λ e.
-            item_outcome specs.now more.now spot (page_bytes page.entry) i ≡ Err e) }
+            item_outcome columns.now.specs.now columns.now.more.now spot (page_bytes page.entry) i ≡ Err e) }
     {
         let at = page.item(i);
         if at.is_misplaced_tree_item(page.upper()) {
             return Err(ItemFault::Broken(Rule::B5));
         }
-        read_tuple_keys(specs, more, spot, page.piece(at.off, at.len), self)
+        read_tuple_keys(columns, spot, page.piece(at.off, at.len), self)
     }
 
     /// Makes the key of the last entry that of the first, to compare the next item with.

@@ -14,7 +14,7 @@ mod laws;
 mod tids;
 mod tuples;
 
-pub use entries::{PlainEntry, is_plain_entry, plain_entry, plain_entry_prefix};
+pub use entries::{PlainEntry, plain_entry, plain_entry_prefix};
 pub use items::{ItemFault, Spot3, TreeItem, tree_item};
 pub use keys::ItemKeys;
 pub use laws::item_rules_are_exact;

@@ -1,10 +1,8 @@
 //! The bytes of an index tuple: which of the rules B6 to B9 they break, and the values of its key.
 ghost use Rattle.std.specs.Prelude.{◌≡◌, ◌≢◌, ◌<◌, ◌≤◌, ◌+◌, ◌*◌, ◌++◌, [], Bool};
-ghost use Rattle.std.specs.Prelude.{List, length, true, false, All, IfErr, IfOk, IfSome, Ok, Err};
+ghost use Rattle.std.specs.Prelude.{List, length, true, false, IfErr, IfOk, IfSome, Ok, Err};
 ghost use Rattle.key_orders.specs.declared.more.MoreSpec.{MoreSpec as More};
 ghost use Rattle.key_orders.specs.Keys.{fits_columns};
-ghost use Rattle.key_orders.specs.Types.{HasAlignment};
-ghost use Rattle.varlena_attrs.specs.Keyed.{key_types, more_types};
 ghost use Rattle.bt_meta.specs.Heads.{tree_head_of};
 ghost use Rattle.bt_tuples.specs.Items.{Item, meaning_of, outcome_by, tuple_outcome};
 ghost use Rattle.bt_tuples.specs.Keys.{BeginsWithKey, key_count};
@@ -21,9 +19,9 @@ use crate::heads::{
 use crate::items::{ItemFault, Spot3};
 use crate::tids::{are_not_rising, tid_at};
 use bt_meta::{HeadKind, TreeHead, tree_head};
-use key_orders::{KeyRefs, KeySpec, MoreRefs, MoreSpec, Tid};
+use key_orders::{KeyRefs, MoreRefs, Tid};
 use page_layout::Rule;
-use varlena_attrs::{KeyFault, read_entry_attributes, read_key_attributes};
+use varlena_attrs::{IndexColumns, KeyFault, read_entry_attributes, read_key_attributes};
 
 // Why a tuple whose values can't be told has no meaning.
 #[inline]
@@ -96,25 +94,24 @@ fn breaks_tids(tuple: &[u8], head: TreeHead) -> bool
 #[inline(always)]
 #[tactic(auto, unfolding(crate::specs::Tuples::values_in))]
 fn read_pivot_key<'p>(
-    specs: &[KeySpec],
+    columns: &IndexColumns<'_>,
     tuple: &'p [u8],
     head: TreeHead,
     key: &mut KeyRefs<'p>,
 ) -> Result<(), KeyFault>
-    requires few { length specs.now ≤ 8 }
-    requires aligned { All HasAlignment (key_types specs.now) }
     requires long { 8 ≤ length tuple.now }
     requires head { head ≡ tree_head_of tuple.now }
     requires kind { head.kind ≡ HeadKind.Pivot }
     requires begins { body_begin head ≤ body_end head (length tuple.now) }
-    requires kept { number_of head ≤ length specs.now }
-    ensures value { IfOk result (λ u. (more : List More) → values_in specs.now more tuple.now ≡ Ok key.new) }
-    ensures fault { IfErr result (λ e. (more : List More) → values_in specs.now more tuple.now ≡ Err e) }
+    requires kept { number_of head ≤ length columns.now.specs.now }
+    ensures value { IfOk result (λ u. (more : List More) → values_in columns.now.specs.now more tuple.now
+        ≡ Ok key.new) }
+    ensures fault { IfErr result (λ e. (more : List More) → values_in columns.now.specs.now more tuple.now ≡ Err e) }
     ensures count { IfOk result (λ u. length key.new ≡ number_of head) }
-    ensures fits { IfOk result (λ u. fits_columns specs.now key.new ≡ true) }
+    ensures fits { IfOk result (λ u. fits_columns columns.now.specs.now key.new ≡ true) }
 {
     read_key_attributes(
-        specs,
+        columns,
         body_of(tuple, head),
         null_bits_of(tuple, head),
         number_of(head),
@@ -126,25 +123,23 @@ fn read_pivot_key<'p>(
 #[inline(always)]
 #[tactic(auto, unfolding(crate::specs::Tuples::values_in))]
 fn read_whole_key<'p>(
-    specs: &[KeySpec],
+    columns: &IndexColumns<'_>,
     tuple: &'p [u8],
     head: TreeHead,
     key: &mut KeyRefs<'p>,
 ) -> Result<(), KeyFault>
-    requires few { length specs.now ≤ 8 }
-    requires aligned { All HasAlignment (key_types specs.now) }
     requires long { 8 ≤ length tuple.now }
     requires head { head ≡ tree_head_of tuple.now }
     requires kind { is_pivot head.kind ≡ false }
     requires begins { body_begin head ≤ body_end head (length tuple.now) }
-    ensures value { IfOk result (λ u. values_in specs.now [] tuple.now ≡ Ok key.new) }
-    ensures fault { IfErr result (λ e. values_in specs.now [] tuple.now ≡ Err e) }
-    ensures count { IfOk result (λ u. length key.new ≡ length specs.now) }
-    ensures fits { IfOk result (λ u. fits_columns specs.now key.new ≡ true) }
+    ensures value { IfOk result (λ u. values_in columns.now.specs.now [] tuple.now ≡ Ok key.new) }
+    ensures fault { IfErr result (λ e. values_in columns.now.specs.now [] tuple.now ≡ Err e) }
+    ensures count { IfOk result (λ u. length key.new ≡ length columns.now.specs.now) }
+    ensures fits { IfOk result (λ u. fits_columns columns.now.specs.now key.new ≡ true) }
 {
-    let count = specs.len() as u16;
+    let count = columns.specs.len() as u16;
     read_key_attributes(
-        specs,
+        columns,
         body_of(tuple, head),
         null_bits_of(tuple, head),
         count,
@@ -155,28 +150,23 @@ fn read_whole_key<'p>(
 // Reads the values of a leaf's tuple with those of included columns.
 #[tactic(auto, unfolding(crate::specs::Tuples::values_in))]
 pub(crate) fn read_covering<'p>(
-    specs: &[KeySpec],
-    more: &[MoreSpec],
+    columns: &IndexColumns<'_>,
     tuple: &'p [u8],
     head: TreeHead,
     key: &mut KeyRefs<'p>,
 ) -> Result<MoreRefs<'p>, KeyFault>
-    requires few { length specs.now ≤ 8 }
-    requires few_more { length more.now ≤ 24 }
-    requires aligned { All HasAlignment (key_types specs.now) }
-    requires aligned_more { All HasAlignment (more_types more.now) }
     requires long { 8 ≤ length tuple.now }
     requires head { head ≡ tree_head_of tuple.now }
     requires kind { is_pivot head.kind ≡ false }
     requires begins { body_begin head ≤ body_end head (length tuple.now) }
-    ensures value { IfOk result (λ rest. values_in specs.now more.now tuple.now ≡ Ok (key.new ++ rest)) }
-    ensures fault { IfErr result (λ e. values_in specs.now more.now tuple.now ≡ Err e) }
-    ensures count { IfOk result (λ rest. length key.new ≡ length specs.now) }
-    ensures fits { IfOk result (λ rest. fits_columns specs.now key.new ≡ true) }
+    ensures value { IfOk result (λ rest. values_in columns.now.specs.now columns.now.more.now tuple.now
+        ≡ Ok (key.new ++ rest)) }
+    ensures fault { IfErr result (λ e. values_in columns.now.specs.now columns.now.more.now tuple.now ≡ Err e) }
+    ensures count { IfOk result (λ rest. length key.new ≡ length columns.now.specs.now) }
+    ensures fits { IfOk result (λ rest. fits_columns columns.now.specs.now key.new ≡ true) }
 {
     read_entry_attributes(
-        specs,
-        more,
+        columns,
         body_of(tuple, head),
         null_bits_of(tuple, head),
         key,
@@ -187,28 +177,24 @@ pub(crate) fn read_covering<'p>(
 // places of the others, 584 bytes, would be set to zero for each item of an index without included columns.
 #[inline(never)]
 fn read_covering_key<'p>(
-    specs: &[KeySpec],
-    more: &[MoreSpec],
+    columns: &IndexColumns<'_>,
     tuple: &'p [u8],
     head: TreeHead,
     key: &mut KeyRefs<'p>,
 ) -> Result<(), KeyFault>
-    requires few { length specs.now ≤ 8 }
-    requires few_more { length more.now ≤ 24 }
-    requires aligned { All HasAlignment (key_types specs.now) }
-    requires aligned_more { All HasAlignment (more_types more.now) }
     requires long { 8 ≤ length tuple.now }
     requires head { head ≡ tree_head_of tuple.now }
     requires kind { is_pivot head.kind ≡ false }
     requires begins { body_begin head ≤ body_end head (length tuple.now) }
-    requires some { more.now ≢ [] }
+    requires some { columns.now.more.now ≢ [] }
     ensures value { IfOk result (λ u.
-        BeginsWithKey more.now head.kind (values_in specs.now more.now tuple.now) key.new) }
-    ensures fault { IfErr result (λ e. values_in specs.now more.now tuple.now ≡ Err e) }
-    ensures count { IfOk result (λ u. length key.new ≡ length specs.now) }
-    ensures fits { IfOk result (λ u. fits_columns specs.now key.new ≡ true) }
+        BeginsWithKey columns.now.more.now head.kind
+        (values_in columns.now.specs.now columns.now.more.now tuple.now) key.new) }
+    ensures fault { IfErr result (λ e. values_in columns.now.specs.now columns.now.more.now tuple.now ≡ Err e) }
+    ensures count { IfOk result (λ u. length key.new ≡ length columns.now.specs.now) }
+    ensures fits { IfOk result (λ u. fits_columns columns.now.specs.now key.new ≡ true) }
 {
-    match read_covering(specs, more, tuple, head, key) {
+    match read_covering(columns, tuple, head, key) {
         Err(fault) => Err(fault),
         Ok(_) => Ok(()),
     }
@@ -217,33 +203,29 @@ fn read_covering_key<'p>(
 // Reads the values of a tuple, of which those of the key are kept.
 #[inline(always)]
 fn read_key<'p>(
-    specs: &[KeySpec],
-    more: &[MoreSpec],
+    columns: &IndexColumns<'_>,
     tuple: &'p [u8],
     head: TreeHead,
     key: &mut KeyRefs<'p>,
 ) -> Result<(), KeyFault>
-    requires few { length specs.now ≤ 8 }
-    requires few_more { length more.now ≤ 24 }
-    requires aligned { All HasAlignment (key_types specs.now) }
-    requires aligned_more { All HasAlignment (more_types more.now) }
     requires long { 8 ≤ length tuple.now }
     requires head { head ≡ tree_head_of tuple.now }
     requires begins { body_begin head ≤ body_end head (length tuple.now) }
-    requires kept { head.kind ≡ HeadKind.Pivot → number_of head ≤ length specs.now }
+    requires kept { head.kind ≡ HeadKind.Pivot → number_of head ≤ length columns.now.specs.now }
     ensures value { IfOk result (λ u.
-        BeginsWithKey more.now head.kind (values_in specs.now more.now tuple.now) key.new) }
-    ensures fault { IfErr result (λ e. values_in specs.now more.now tuple.now ≡ Err e) }
-    ensures count { IfOk result (λ u. length key.new ≡ key_count head (length specs.now)) }
-    ensures fits { IfOk result (λ u. fits_columns specs.now key.new ≡ true) }
+        BeginsWithKey columns.now.more.now head.kind
+        (values_in columns.now.specs.now columns.now.more.now tuple.now) key.new) }
+    ensures fault { IfErr result (λ e. values_in columns.now.specs.now columns.now.more.now tuple.now ≡ Err e) }
+    ensures count { IfOk result (λ u. length key.new ≡ key_count head (length columns.now.specs.now)) }
+    ensures fits { IfOk result (λ u. fits_columns columns.now.specs.now key.new ≡ true) }
 {
     match head.kind {
-        HeadKind::Pivot => read_pivot_key(specs, tuple, head, key),
+        HeadKind::Pivot => read_pivot_key(columns, tuple, head, key),
         HeadKind::Plain | HeadKind::Posting => {
-            if more.is_empty() {
-                return read_whole_key(specs, tuple, head, key);
+            if columns.more.is_empty() {
+                return read_whole_key(columns, tuple, head, key);
             }
-            read_covering_key(specs, more, tuple, head, key)
+            read_covering_key(columns, tuple, head, key)
         }
     }
 }
@@ -270,24 +252,23 @@ pub(crate) fn plain_head(tuple: &[u8]) -> Option<TreeHead>
 #[inline(always)]
 #[tactic(auto, unfolding(crate::specs::Items::tuple_outcome))]
 fn read_plain_tuple<'p>(
-    specs: &[KeySpec],
+    columns: &IndexColumns<'_>,
     tuple: &'p [u8],
     key: &mut KeyRefs<'p>,
 ) -> Option<TreeHead>
-    requires few { length specs.now ≤ 8 }
-    requires aligned { All HasAlignment (key_types specs.now) }
     requires long { 8 ≤ length tuple.now }
     ensures head { IfSome result (λ head. head ≡ tree_head_of tuple.now) }
     ensures kind { IfSome result (λ head. head.kind ≡ HeadKind.Plain) }
     ensures begins { IfSome result (λ head. body_begin head ≤ body_end head (length tuple.now)) }
     ensures outcome { IfSome result (λ head. (killed : Bool)
-        → tuple_outcome specs.now [] Spot3.LeafItem tuple.now killed ≡ Ok (meaning_of specs.now [] tuple.now killed)) }
-    ensures value { IfSome result (λ head. values_in specs.now [] tuple.now ≡ Ok key.new) }
-    ensures count { IfSome result (λ head. length key.new ≡ length specs.now) }
-    ensures fits { IfSome result (λ head. fits_columns specs.now key.new ≡ true) }
+        → tuple_outcome columns.now.specs.now [] Spot3.LeafItem tuple.now killed
+        ≡ Ok (meaning_of columns.now.specs.now [] tuple.now killed)) }
+    ensures value { IfSome result (λ head. values_in columns.now.specs.now [] tuple.now ≡ Ok key.new) }
+    ensures count { IfSome result (λ head. length key.new ≡ length columns.now.specs.now) }
+    ensures fits { IfSome result (λ head. fits_columns columns.now.specs.now key.new ≡ true) }
 {
     let head = plain_head(tuple)?;
-    match read_whole_key(specs, tuple, head, key) {
+    match read_whole_key(columns, tuple, head, key) {
         Err(_) => None,
         Ok(()) => Some(head),
     }
@@ -297,27 +278,24 @@ fn read_plain_tuple<'p>(
 #[inline(never)]
 #[tactic(auto, unfolding(crate::specs::Items::tuple_outcome))]
 fn read_any_tuple<'p>(
-    specs: &[KeySpec],
-    more: &[MoreSpec],
+    columns: &IndexColumns<'_>,
     spot: Spot3,
     tuple: &'p [u8],
     key: &mut KeyRefs<'p>,
 ) -> Result<TreeHead, ItemFault>
-    requires few { length specs.now ≤ 8 }
-    requires few_more { length more.now ≤ 24 }
-    requires aligned { All HasAlignment (key_types specs.now) }
-    requires aligned_more { All HasAlignment (more_types more.now) }
     requires long { 8 ≤ length tuple.now }
     ensures head { IfOk result (λ head. head ≡ tree_head_of tuple.now) }
     ensures begins { IfOk result (λ head. body_begin head ≤ body_end head (length tuple.now)) }
-    ensures outcome { (killed : Bool) → outcome_with result (meaning_of specs.now more.now tuple.now killed)
-        ≡ tuple_outcome specs.now more.now spot tuple.now killed }
+    ensures outcome { (killed : Bool)
+        → outcome_with result (meaning_of columns.now.specs.now columns.now.more.now tuple.now killed)
+        ≡ tuple_outcome columns.now.specs.now columns.now.more.now spot tuple.now killed }
     ensures value { IfOk result (λ head.
-        BeginsWithKey more.now head.kind (values_in specs.now more.now tuple.now) key.new) }
-    ensures count { IfOk result (λ head. length key.new ≡ key_count head (length specs.now)) }
-    ensures fits { IfOk result (λ head. fits_columns specs.now key.new ≡ true) }
+        BeginsWithKey columns.now.more.now head.kind
+        (values_in columns.now.specs.now columns.now.more.now tuple.now) key.new) }
+    ensures count { IfOk result (λ head. length key.new ≡ key_count head (length columns.now.specs.now)) }
+    ensures fits { IfOk result (λ head. fits_columns columns.now.specs.now key.new ≡ true) }
     ensures whole { IfOk result (λ head. head.kind ≡ HeadKind.Pivot → keeps_tid head ≡ true
-        → number_of head ≡ length specs.now) }
+        → number_of head ≡ length columns.now.specs.now) }
     ensures some { IfOk result (λ head. head.kind ≡ HeadKind.Posting → 0 < number_of head) }
     ensures within { IfOk result (λ head. head.kind ≡ HeadKind.Posting
         → head.block + 6 * number_of head ≤ length tuple.now) }
@@ -326,14 +304,14 @@ fn read_any_tuple<'p>(
     if usize::from(size_of(head)) != tuple.len() {
         return Err(ItemFault::Broken(Rule::B6));
     }
-    if breaks_form(spot, specs.len(), !more.is_empty(), head) {
+    if breaks_form(spot, columns.specs.len(), !columns.more.is_empty(), head) {
         return Err(ItemFault::Broken(Rule::B7));
     }
     if body_end(head, tuple.len()) < body_begin(head) {
         return Err(ItemFault::Broken(Rule::B8));
     }
     let broken = breaks_tids(tuple, head);
-    match read_key(specs, more, tuple, head, key) {
+    match read_key(columns, tuple, head, key) {
         Err(fault) => Err(without_values(fault, broken)),
         Ok(()) => {
             if broken {
@@ -348,35 +326,32 @@ fn read_any_tuple<'p>(
 // rules B6 to B9 and has no compressed value. Then it answers its head.
 #[inline(always)]
 pub(crate) fn read_tuple<'p>(
-    specs: &[KeySpec],
-    more: &[MoreSpec],
+    columns: &IndexColumns<'_>,
     spot: Spot3,
     tuple: &'p [u8],
     key: &mut KeyRefs<'p>,
 ) -> Result<TreeHead, ItemFault>
-    requires few { length specs.now ≤ 8 }
-    requires few_more { length more.now ≤ 24 }
-    requires aligned { All HasAlignment (key_types specs.now) }
-    requires aligned_more { All HasAlignment (more_types more.now) }
     requires long { 8 ≤ length tuple.now }
     ensures head { IfOk result (λ head. head ≡ tree_head_of tuple.now) }
     ensures begins { IfOk result (λ head. body_begin head ≤ body_end head (length tuple.now)) }
-    ensures outcome { (killed : Bool) → outcome_with result (meaning_of specs.now more.now tuple.now killed)
-        ≡ tuple_outcome specs.now more.now spot tuple.now killed }
+    ensures outcome { (killed : Bool)
+        → outcome_with result (meaning_of columns.now.specs.now columns.now.more.now tuple.now killed)
+        ≡ tuple_outcome columns.now.specs.now columns.now.more.now spot tuple.now killed }
     ensures value { IfOk result (λ head.
-        BeginsWithKey more.now head.kind (values_in specs.now more.now tuple.now) key.new) }
-    ensures count { IfOk result (λ head. length key.new ≡ key_count head (length specs.now)) }
-    ensures fits { IfOk result (λ head. fits_columns specs.now key.new ≡ true) }
+        BeginsWithKey columns.now.more.now head.kind
+        (values_in columns.now.specs.now columns.now.more.now tuple.now) key.new) }
+    ensures count { IfOk result (λ head. length key.new ≡ key_count head (length columns.now.specs.now)) }
+    ensures fits { IfOk result (λ head. fits_columns columns.now.specs.now key.new ≡ true) }
     ensures whole { IfOk result (λ head. head.kind ≡ HeadKind.Pivot → keeps_tid head ≡ true
-        → number_of head ≡ length specs.now) }
+        → number_of head ≡ length columns.now.specs.now) }
     ensures some { IfOk result (λ head. head.kind ≡ HeadKind.Posting → 0 < number_of head) }
     ensures within { IfOk result (λ head. head.kind ≡ HeadKind.Posting
         → head.block + 6 * number_of head ≤ length tuple.now) }
 {
-    if more.is_empty() && matches!(spot, Spot3::LeafItem) {
-        if let Some(head) = read_plain_tuple(specs, tuple, key) {
+    if columns.more.is_empty() && matches!(spot, Spot3::LeafItem) {
+        if let Some(head) = read_plain_tuple(columns, tuple, key) {
             return Ok(head);
         }
     }
-    read_any_tuple(specs, more, spot, tuple, key)
+    read_any_tuple(columns, spot, tuple, key)
 }

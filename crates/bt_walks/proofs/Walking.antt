@@ -59,7 +59,6 @@ room_read a b is walks ready =
 pub ready_read : (a b : Levels) → ChangesPage a b → b.walks_left + 1 ≡ a.walks_left → IsReady a → IsReady b
 ready_read a b is walks ready =
     subst IsReady (sym is) (record {
-      columns = ready.columns;
       upper = ready.upper;
       lower = ready.lower;
       dead = ready.dead;

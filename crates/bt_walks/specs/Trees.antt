@@ -1,5 +1,5 @@
 -- An index whose levels are walked, by what its files hold.
-use Rattle.std.specs.Prelude.{◌≤◌, Bool, All, length, Option}
+use Rattle.std.specs.Prelude.{Bool, Option}
 use Rattle.outside.specs.Outside.{Names}
 use Rattle.rel_files.specs.Relation.{IsAttached}
 use Rattle.tree_search.specs.Keys.{Entry, Separator}
@@ -11,19 +11,10 @@ use Rattle.key_orders.specs.declared.columns.Value.{Value}
 use Rattle.key_orders.specs.declared.Tid.{Tid}
 use Rattle.key_orders.specs.Keys.{columns_of, tid_order}
 use Rattle.key_orders.specs.Scans.{order_of}
-use Rattle.key_orders.specs.Types.{HasAlignment}
-use Rattle.varlena_attrs.specs.Keyed.{key_types, more_types}
 use Rattle.tree_image.specs.Image.{TreeIndex, index_image}
 use Rattle.tree_image.specs.Pages.{KeepsTreeRules}
 use Rattle.bt_pages.specs.Trees.{Tree, tree_seen}
 use Rattle.bt_pages.specs.declared.tree.TreeRules.{TreeRules}
-
--- the columns of its key and the included ones are as many as an index may have, and aligned as columns are
-pub record HasColumns (tree : TreeRules) : Type 0 where
-  pub few : length tree.specs.now ≤ 8
-  pub few_more : length tree.more.now ≤ 24
-  pub aligned : All HasAlignment (key_types tree.specs.now)
-  pub aligned_more : All HasAlignment (more_types tree.more.now)
 
 -- a tree as a search sees it, the order of its keys, and whether two separators are the same
 abbrev pub image_of : Tree → TreeIndex

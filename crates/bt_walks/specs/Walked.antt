@@ -30,7 +30,7 @@ use Rattle.bt_walks.specs.Counts.{half_dead_among, half_dead_in, one_if, right_h
 use Rattle.bt_walks.specs.Downlinks.{AreReadableDownlinks, IsSettled, Reads, TreeDownlink}
 use Rattle.bt_walks.specs.Reading.{IsOfLevel}
 use Rattle.bt_walks.specs.Sets.{is_in}
-use Rattle.bt_walks.specs.Trees.{HasColumns, first_broken_in, image_of, order_in, same_in}
+use Rattle.bt_walks.specs.Trees.{first_broken_in, image_of, order_in, same_in}
 
 -- None where the links to the left come back to the page, else the first page of its level
 abbrev pub IsFirstPage : {S E : Type 0} → Index S E → (entry : ℕ) → Option ℕ → Type 0
@@ -85,9 +85,8 @@ budget_of levels = levels.walks_left + 2 * levels.steps_left + levels.upper.turn
 
 -- what holds of it whatever the files hold
 pub record IsReady (levels : Levels) : Type 0 where
-  pub columns : HasColumns levels.tree
-  pub upper : AreReadableDownlinks levels.tree.specs.now levels.upper
-  pub lower : IsBound levels.tree.specs.now levels.lower
+  pub upper : AreReadableDownlinks levels.tree.columns.specs.now levels.upper
+  pub lower : IsBound levels.tree.columns.specs.now levels.lower
   pub dead : length levels.dead ≡ count_of levels.tree.relation.now
   pub stands : length levels.stands ≡ count_of levels.tree.relation.now
   pub steps : levels.steps_left ≤ count_of levels.tree.relation.now

@@ -18,7 +18,6 @@ ghost use Rattle.tree_image.specs.Image.{item_at, page_image, spot_of};
 ghost use Rattle.tree_image.specs.Pages.{IsPlainItem};
 ghost use Rattle.bt_walks.specs.Bounds.{IsBound};
 ghost use Rattle.bt_walks.specs.Pages.{HasPlainItems, is_low_page};
-ghost use Rattle.bt_walks.specs.Trees.{HasColumns};
 
 use bt_meta::opaque;
 use bt_pages::TreeRules;
@@ -37,39 +36,39 @@ fn compare_with_item(
     i: u16,
     separator: &SepRef<'_>,
 ) -> Option<Ordering>
-    requires columns { HasColumns tree.now }
     requires page { page_rule_of PageKind.Tree (page_bytes page) ≡ None }
     requires first { 1 ≤ i }
     requires last { i ≤ count_of (page_bytes page) }
-    requires separator { IsKeySeparator tree.now.specs.now (separator_of separator.now) }
-    ensures order { IfSome result (λ order. order ≡ compare_keys (columns_of tree.now.specs.now) tid_order
+    requires separator { IsKeySeparator tree.now.columns.specs.now (separator_of separator.now) }
+    ensures order { IfSome result (λ order. order ≡ compare_keys (columns_of tree.now.columns.specs.now) tid_order
         (separator_of separator.now)
-        (first_key (item_at tree.now.specs.now tree.now.more.now (page_bytes page.entry) i))) }
-    ensures turned { IfSome result (λ order. not (is_lt order) ≡ is_le (compare_keys (columns_of tree.now.specs.now)
-        tid_order (first_key (item_at tree.now.specs.now tree.now.more.now (page_bytes page.entry) i))
+        (first_key (item_at tree.now.columns.specs.now tree.now.columns.more.now (page_bytes page.entry) i))) }
+    ensures turned { IfSome result (λ order. not (is_lt order)
+        ≡ is_le (compare_keys (columns_of tree.now.columns.specs.now)
+        tid_order (first_key (item_at tree.now.columns.specs.now tree.now.columns.more.now (page_bytes page.entry) i))
         (separator_of separator.now))) }
-    ensures same { IfSome result (λ order. is_eq order ≡ same_keys (columns_of tree.now.specs.now) tid_order
-        (first_key (item_at tree.now.specs.now tree.now.more.now (page_bytes page.entry) i))
+    ensures same { IfSome result (λ order. is_eq order ≡ same_keys (columns_of tree.now.columns.specs.now) tid_order
+        (first_key (item_at tree.now.columns.specs.now tree.now.columns.more.now (page_bytes page.entry) i))
         (separator_of separator.now)) }
-    ensures read { IsPlainItem tree.now.specs.now tree.now.more.now (page_bytes page.entry) i → IsSome result }
+    ensures read { IsPlainItem tree.now.columns.specs.now tree.now.columns.more.now (page_bytes page.entry) i
+        → IsSome result }
 {
     key_orders_are_total();
     let mut keys = ItemKeys::new();
-    match keys.read(page, i, tree.specs, tree.more, spot_of(page, i)) {
-        Ok(()) => Some(cmp_two_seps(tree.specs, separator, &keys.first)),
+    match keys.read(page, i, &tree.columns, spot_of(page, i)) {
+        Ok(()) => Some(cmp_two_seps(tree.columns.specs, separator, &keys.first)),
         Err(_) => None,
     }
 }
 
 // Whether the high key isn't above this lower bound.
 fn has_low_high_key(tree: &TreeRules<'_>, page: PageView<'_>, lower: &SepRef<'_>) -> bool
-    requires columns { HasColumns tree.now }
     requires page { page_rule_of PageKind.Tree (page_bytes page) ≡ None }
-    requires lower { IsKeySeparator tree.now.specs.now (separator_of lower.now) }
-    ensures { HasPlainItems tree.now.specs.now tree.now.more.now (page_bytes page.entry)
+    requires lower { IsKeySeparator tree.now.columns.specs.now (separator_of lower.now) }
+    ensures { HasPlainItems tree.now.columns.specs.now tree.now.columns.more.now (page_bytes page.entry)
         → is_half_dead (opaque_of (page_bytes page.entry)) ≡ false
-        → result ≡ is_low_separator (order_of tree.now.specs.now) (Some (separator_of lower.now))
-        (page_image tree.now.specs.now tree.now.more.now (page_bytes page.entry)).high_key }
+        → result ≡ is_low_separator (order_of tree.now.columns.specs.now) (Some (separator_of lower.now))
+        (page_image tree.now.columns.specs.now tree.now.columns.more.now (page_bytes page.entry)).high_key }
 {
     if !has_high_key(page) || page.item_count() == 0 {
         return false;
@@ -82,14 +81,14 @@ fn has_low_high_key(tree: &TreeRules<'_>, page: PageView<'_>, lower: &SepRef<'_>
 
 // Whether the first entry of a leaf isn't above this lower bound.
 fn has_low_entry(tree: &TreeRules<'_>, page: PageView<'_>, lower: &SepRef<'_>) -> bool
-    requires columns { HasColumns tree.now }
     requires page { page_rule_of PageKind.Tree (page_bytes page) ≡ None }
-    requires lower { IsKeySeparator tree.now.specs.now (separator_of lower.now) }
-    ensures { HasPlainItems tree.now.specs.now tree.now.more.now (page_bytes page.entry)
+    requires lower { IsKeySeparator tree.now.columns.specs.now (separator_of lower.now) }
+    ensures { HasPlainItems tree.now.columns.specs.now tree.now.columns.more.now (page_bytes page.entry)
         → is_half_dead (opaque_of (page_bytes page.entry)) ≡ false
         → is_leaf (opaque_of (page_bytes page.entry)) ≡ true
-        → result ≡ is_low_entry (order_of tree.now.specs.now) (Some (separator_of lower.now))
-        (slice_get (page_image tree.now.specs.now tree.now.more.now (page_bytes page.entry)).entries 0) }
+        → result ≡ is_low_entry (order_of tree.now.columns.specs.now) (Some (separator_of lower.now))
+        (slice_get (page_image tree.now.columns.specs.now tree.now.columns.more.now
+        (page_bytes page.entry)).entries 0) }
 {
     let first = first_data(page);
     if page.item_count() < first {
@@ -103,14 +102,14 @@ fn has_low_entry(tree: &TreeRules<'_>, page: PageView<'_>, lower: &SepRef<'_>) -
 
 // Whether the separator of an internal page's second data item isn't above this lower bound.
 fn has_low_item(tree: &TreeRules<'_>, page: PageView<'_>, lower: &SepRef<'_>) -> bool
-    requires columns { HasColumns tree.now }
     requires page { page_rule_of PageKind.Tree (page_bytes page) ≡ None }
-    requires lower { IsKeySeparator tree.now.specs.now (separator_of lower.now) }
-    ensures { HasPlainItems tree.now.specs.now tree.now.more.now (page_bytes page.entry)
+    requires lower { IsKeySeparator tree.now.columns.specs.now (separator_of lower.now) }
+    ensures { HasPlainItems tree.now.columns.specs.now tree.now.columns.more.now (page_bytes page.entry)
         → is_half_dead (opaque_of (page_bytes page.entry)) ≡ false
         → is_leaf (opaque_of (page_bytes page.entry)) ≡ false
-        → result ≡ is_low_separator (order_of tree.now.specs.now) (Some (separator_of lower.now))
-        (second_separator (page_image tree.now.specs.now tree.now.more.now (page_bytes page.entry)).children) }
+        → result ≡ is_low_separator (order_of tree.now.columns.specs.now) (Some (separator_of lower.now))
+        (second_separator (page_image tree.now.columns.specs.now tree.now.columns.more.now
+        (page_bytes page.entry)).children) }
 {
     let second = first_data(page) + 1;
     if page.item_count() < second {
@@ -124,13 +123,12 @@ fn has_low_item(tree: &TreeRules<'_>, page: PageView<'_>, lower: &SepRef<'_>) ->
 
 // Whether a key of a live page isn't above this lower bound.
 fn is_low_above(tree: &TreeRules<'_>, page: PageView<'_>, lower: &SepRef<'_>) -> bool
-    requires columns { HasColumns tree.now }
     requires page { page_rule_of PageKind.Tree (page_bytes page) ≡ None }
-    requires lower { IsKeySeparator tree.now.specs.now (separator_of lower.now) }
-    ensures { HasPlainItems tree.now.specs.now tree.now.more.now (page_bytes page.entry)
+    requires lower { IsKeySeparator tree.now.columns.specs.now (separator_of lower.now) }
+    ensures { HasPlainItems tree.now.columns.specs.now tree.now.columns.more.now (page_bytes page.entry)
         → is_half_dead (opaque_of (page_bytes page.entry)) ≡ false
-        → result ≡ is_low_page (order_of tree.now.specs.now) (Some (separator_of lower.now))
-        (page_image tree.now.specs.now tree.now.more.now (page_bytes page.entry)) }
+        → result ≡ is_low_page (order_of tree.now.columns.specs.now) (Some (separator_of lower.now))
+        (page_image tree.now.columns.specs.now tree.now.columns.more.now (page_bytes page.entry)) }
 {
     has_low_high_key(tree, page, lower)
         || if opaque(page).is_leaf() {
@@ -143,13 +141,12 @@ fn is_low_above(tree: &TreeRules<'_>, page: PageView<'_>, lower: &SepRef<'_>) ->
 /// Whether a key of a live page isn't above its lower bound: the high key, the first entry of a leaf, or
 /// the separator of an internal page's second data item (L6).
 pub fn is_low_page(tree: &TreeRules<'_>, page: PageView<'_>, lower: &Option<Separator>) -> bool
-    requires columns { HasColumns tree.now }
     requires page { page_rule_of PageKind.Tree (page_bytes page) ≡ None }
-    requires lower { IsBound tree.now.specs.now lower.now }
-    ensures { HasPlainItems tree.now.specs.now tree.now.more.now (page_bytes page.entry)
+    requires lower { IsBound tree.now.columns.specs.now lower.now }
+    ensures { HasPlainItems tree.now.columns.specs.now tree.now.columns.more.now (page_bytes page.entry)
         → is_half_dead (opaque_of (page_bytes page.entry)) ≡ false
-        → result ≡ is_low_page (order_of tree.now.specs.now) lower.now
-        (page_image tree.now.specs.now tree.now.more.now (page_bytes page.entry)) }
+        → result ≡ is_low_page (order_of tree.now.columns.specs.now) lower.now
+        (page_image tree.now.columns.specs.now tree.now.columns.more.now (page_bytes page.entry)) }
 {
     match lower {
         None => false,
@@ -164,18 +161,18 @@ pub fn high_key_of(
     tree: &TreeRules<'_>,
     page: PageView<'_>,
 ) -> Result<Option<Separator>, NoMemory>
-    requires columns { HasColumns tree.now }
     requires page { page_rule_of PageKind.Tree (page_bytes page) ≡ None }
-    ensures bound { IfOk result (IsBound tree.now.specs.now) }
-    ensures key { IfOk result (λ key. HasPlainItems tree.now.specs.now tree.now.more.now (page_bytes page.entry)
+    ensures bound { IfOk result (IsBound tree.now.columns.specs.now) }
+    ensures key { IfOk result (λ key. HasPlainItems tree.now.columns.specs.now tree.now.columns.more.now
+        (page_bytes page.entry)
         → is_half_dead (opaque_of (page_bytes page.entry)) ≡ false
-        → key ≡ (page_image tree.now.specs.now tree.now.more.now (page_bytes page.entry)).high_key) }
+        → key ≡ (page_image tree.now.columns.specs.now tree.now.columns.more.now (page_bytes page.entry)).high_key) }
 {
     if !has_high_key(page) || page.item_count() == 0 {
         return Ok(None);
     }
     let mut keys = ItemKeys::new();
-    match keys.read(page, 1, tree.specs, tree.more, Spot3::HighKey) {
+    match keys.read(page, 1, &tree.columns, Spot3::HighKey) {
         Ok(()) => Ok(Some(Separator::from_ref(alloc, &keys.first)?)),
         Err(_) => Ok(None),
     }
@@ -189,14 +186,14 @@ pub fn is_bound_of_item(
     i: u16,
     lower: &Option<Separator>,
 ) -> bool
-    requires columns { HasColumns tree.now }
     requires page { page_rule_of PageKind.Tree (page_bytes page) ≡ None }
     requires first { 1 ≤ i }
     requires last { i ≤ count_of (page_bytes page) }
-    requires lower { IsBound tree.now.specs.now lower.now }
-    ensures { IsPlainItem tree.now.specs.now tree.now.more.now (page_bytes page.entry) i
-        → result ≡ same_bound (same_keys (columns_of tree.now.specs.now) tid_order)
-        (Some (first_key (item_at tree.now.specs.now tree.now.more.now (page_bytes page.entry) i))) lower.now }
+    requires lower { IsBound tree.now.columns.specs.now lower.now }
+    ensures { IsPlainItem tree.now.columns.specs.now tree.now.columns.more.now (page_bytes page.entry) i
+        → result ≡ same_bound (same_keys (columns_of tree.now.columns.specs.now) tid_order)
+        (Some (first_key (item_at tree.now.columns.specs.now tree.now.columns.more.now
+        (page_bytes page.entry) i))) lower.now }
 {
     match lower {
         None => false,
@@ -209,13 +206,13 @@ pub fn is_bound_of_item(
 
 /// Whether two lower bounds are the same.
 pub fn is_same_bound(tree: &TreeRules<'_>, a: &Option<Separator>, b: &Option<Separator>) -> bool
-    requires left { IsBound tree.now.specs.now a.now }
-    requires right { IsBound tree.now.specs.now b.now }
-    ensures { result ≡ same_bound (same_keys (columns_of tree.now.specs.now) tid_order) a.now b.now }
+    requires left { IsBound tree.now.columns.specs.now a.now }
+    requires right { IsBound tree.now.columns.specs.now b.now }
+    ensures { result ≡ same_bound (same_keys (columns_of tree.now.columns.specs.now) tid_order) a.now b.now }
 {
     match (a, b) {
         (None, None) => true,
-        (Some(a), Some(b)) => cmp_two_seps(tree.specs, &a.view(), &b.view()).is_eq(),
+        (Some(a), Some(b)) => cmp_two_seps(tree.columns.specs, &a.view(), &b.view()).is_eq(),
         _ => false,
     }
 }

@@ -1,5 +1,5 @@
 //! The rules L1 to L9 of an index.
-ghost use Rattle.std.specs.Prelude.{◌≡◌, ◌≢◌, ◌<◌, ◌≤◌, ◌+◌, ◌*◌, ℕ, List, [], None, length, suc, IfOk, OnOk, false};
+ghost use Rattle.std.specs.Prelude.{◌≡◌, ◌≢◌, ◌<◌, ◌+◌, ◌*◌, ℕ, List, [], None, length, suc, IfOk, OnOk, false};
 ghost use Rattle.outside.specs.Outside.{Asked, AskedAtMost, IfTold, Names, Tells};
 ghost use Rattle.rel_files.specs.Faults.{read_fault};
 ghost use Rattle.rel_files.specs.Relation.{count_of};
@@ -11,7 +11,7 @@ ghost use Rattle.bt_pages.specs.Trees.{tree_seen};
 ghost use Rattle.bt_walks.specs.Budget.{TakesReads, pages_below};
 ghost use Rattle.bt_walks.specs.Sets.{is_in};
 ghost use Rattle.bt_walks.specs.Shape.{IsShapeOf};
-ghost use Rattle.bt_walks.specs.Trees.{HasColumns, HoldsPages, first_broken_in, image_of};
+ghost use Rattle.bt_walks.specs.Trees.{HoldsPages, first_broken_in, image_of};
 ghost use Rattle.bt_walks.specs.Downlinks.{TreeDownlink, turns_of};
 ghost use Rattle.bt_walks.specs.Reading.{IsReading};
 ghost use Rattle.bt_walks.specs.Walked.{AreLevelsJudged, ChangesDownlinks, HasCountedNone, HasEnough};
@@ -126,7 +126,6 @@ fn first_outside<F: Files>(
 impl<'t> Levels<'t> {
     // Before the top level.
     fn new(alloc: Global, tree: TreeRules<'t>, meta: &Meta) -> Result<Levels<'t>, NoMemory>
-        requires columns { HasColumns tree }
         ensures ready { IfOk result IsReady }
         ensures tree { IfOk result (λ levels. tree_of levels ≡ tree.entry) }
         ensures fastroot { IfOk result (λ levels. fastroot_of levels ≡ meta.now.fastroot) }
@@ -286,7 +285,6 @@ pub fn first_broken_rule<F: Files>(
     files: &mut F,
     tree: &TreeRules<'_>,
 ) -> Result<LevelsFound, PageFault>
-    requires columns { HasColumns tree.now }
     requires some { 0 < count_of tree.now.relation.now }
     requires pages { IfTold F.seen files.old (λ names. HoldsPages names tree.now) }
     ensures told { Tells F.seen files.old result (λ found names.

@@ -20,11 +20,12 @@ ghost use Rattle.tree_image.specs.Pages.{IsPlainItem};
 ghost use Rattle.bt_pages.specs.Trees.{tree_seen};
 ghost use Rattle.bt_walks.specs.Bounds.{IsBound};
 ghost use Rattle.bt_walks.specs.Budget.{TakesReads};
-ghost use Rattle.bt_walks.specs.Downlinks.{AreReadableDownlinks, HasAdvanced, IsSafeHand, IsSettled, IsSoundHand, Reads};
-ghost use Rattle.bt_walks.specs.Downlinks.{TreeDownlink, bound_of, cursor_of, hand_after, hand_of, in_hand, is_held};
+ghost use Rattle.bt_walks.specs.Downlinks.{AreReadableDownlinks, HasAdvanced, IsSafeHand, IsSettled, IsSoundHand};
+ghost use Rattle.bt_walks.specs.Downlinks.{Reads, TreeDownlink, bound_of, cursor_of, hand_after, hand_of, in_hand};
+ghost use Rattle.bt_walks.specs.Downlinks.{is_held};
 ghost use Rattle.bt_walks.specs.Downlinks.{is_settled, next_of, page_of, turns_of};
 ghost use Rattle.bt_walks.specs.Sets.{is_in};
-ghost use Rattle.bt_walks.specs.Trees.{HasColumns, HoldsPages};
+ghost use Rattle.bt_walks.specs.Trees.{HoldsPages};
 
 use crate::block_set::BlockSet;
 use crate::bounds::{high_key_of, is_bound_of_item, is_same_bound};
@@ -170,10 +171,10 @@ impl Downlinks {
     ) -> Result<(), ReadFault>
         requires nothing { is_held (hand_of self.old) ≡ false }
         requires some { 0 < turns_of self.old }
-        requires readable { AreReadableDownlinks tree.now.specs.now self.old }
+        requires readable { AreReadableDownlinks tree.now.columns.specs.now self.old }
         requires blocks { length dead.now ≡ blocks_of tree.now.relation.now }
         requires pages { IfTold F.seen files.old (λ names. HoldsPages names tree.now) }
-        ensures readable { AreReadableDownlinks tree.now.specs.now self.new }
+        ensures readable { AreReadableDownlinks tree.now.columns.specs.now self.new }
         ensures turns { turns_of self.new + 1 ≡ turns_of self.old }
         ensures reads { OnOk result (IfTold F.seen files.old (λ names.
             (level m : ℕ) (left : List TreeDownlink) → next_of self.old ≢ 0
@@ -200,10 +201,10 @@ impl Downlinks {
         tree: &TreeRules<'_>,
         dead: &BlockSet,
     ) -> Result<(), ReadFault>
-        requires readable { AreReadableDownlinks tree.now.specs.now self.old }
+        requires readable { AreReadableDownlinks tree.now.columns.specs.now self.old }
         requires blocks { length dead.now ≡ blocks_of tree.now.relation.now }
         requires pages { IfTold F.seen files.old (λ names. HoldsPages names tree.now) }
-        ensures readable { AreReadableDownlinks tree.now.specs.now self.new }
+        ensures readable { AreReadableDownlinks tree.now.columns.specs.now self.new }
         ensures reads { OnOk result (IfTold F.seen files.old (λ names.
             (level : ℕ) (left : List TreeDownlink)
             → Reads (tree_seen names tree.now) (is_in dead.now) (suc level) (turns_of self.old) self.old left
@@ -252,12 +253,11 @@ impl Downlinks {
     /// Whether the separator of the next downlink is this lower bound. That of the first downlink of a page
     /// is the page's own lower bound.
     pub fn is_bound(&self, tree: &TreeRules<'_>, lower: &Option<Separator>) -> bool
-        requires columns { HasColumns tree.now }
-        requires readable { AreReadableDownlinks tree.now.specs.now self.now }
-        requires lower { IsBound tree.now.specs.now lower.now }
-        ensures { IsSoundHand tree.now.specs.now tree.now.more.now (page_of self.now) (hand_of self.now)
-            → result ≡ same_bound (same_keys (columns_of tree.now.specs.now) tid_order)
-            (next_separator (in_hand tree.now.specs.now tree.now.more.now self.now)) lower.now }
+        requires readable { AreReadableDownlinks tree.now.columns.specs.now self.now }
+        requires lower { IsBound tree.now.columns.specs.now lower.now }
+        ensures { IsSoundHand tree.now.columns.specs.now tree.now.columns.more.now (page_of self.now) (hand_of self.now)
+            → result ≡ same_bound (same_keys (columns_of tree.now.columns.specs.now) tid_order)
+            (next_separator (in_hand tree.now.columns.specs.now tree.now.columns.more.now self.now)) lower.now }
     {
         match self.hand {
             Hand::Nothing | Hand::Root(_) => lower.is_none(),
@@ -274,14 +274,13 @@ impl Downlinks {
 
     // Past the next downlink, without a look at a further page.
     fn advance(&mut self, alloc: Global, tree: &TreeRules<'_>) -> Result<(), NoMemory>
-        requires columns { HasColumns tree.now }
-        requires readable { AreReadableDownlinks tree.now.specs.now self.old }
-        ensures readable { AreReadableDownlinks tree.now.specs.now self.new }
+        requires readable { AreReadableDownlinks tree.now.columns.specs.now self.old }
+        ensures readable { AreReadableDownlinks tree.now.columns.specs.now self.new }
         ensures turns { turns_of self.new ≡ turns_of self.old }
         ensures advanced { OnOk result ((d : TreeDownlink) (ds : List TreeDownlink)
-            → IsSoundHand tree.now.specs.now tree.now.more.now (page_of self.old) (hand_of self.old)
-            → in_hand tree.now.specs.now tree.now.more.now self.old ≡ d ∷ ds
-            → HasAdvanced tree.now.specs.now tree.now.more.now self.old self.new ds) }
+            → IsSoundHand tree.now.columns.specs.now tree.now.columns.more.now (page_of self.old) (hand_of self.old)
+            → in_hand tree.now.columns.specs.now tree.now.columns.more.now self.old ≡ d ∷ ds
+            → HasAdvanced tree.now.columns.specs.now tree.now.columns.more.now self.old self.new ds) }
     {
         match self.hand {
             Hand::Nothing => {}
@@ -308,11 +307,10 @@ impl Downlinks {
         tree: &TreeRules<'_>,
         dead: &BlockSet,
     ) -> Result<(), PageFault>
-        requires columns { HasColumns tree.now }
-        requires readable { AreReadableDownlinks tree.now.specs.now self.old }
+        requires readable { AreReadableDownlinks tree.now.columns.specs.now self.old }
         requires blocks { length dead.now ≡ blocks_of tree.now.relation.now }
         requires pages { IfTold F.seen files.old (λ names. HoldsPages names tree.now) }
-        ensures readable { AreReadableDownlinks tree.now.specs.now self.new }
+        ensures readable { AreReadableDownlinks tree.now.columns.specs.now self.new }
         ensures reads { OnOk result (IfTold F.seen files.old (λ names.
             (level : ℕ) (d : TreeDownlink) (left : List TreeDownlink) → IsSettled self.old
             → Reads (tree_seen names tree.now) (is_in dead.now) (suc level) (turns_of self.old) self.old (d ∷ left)

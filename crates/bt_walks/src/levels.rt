@@ -104,10 +104,12 @@ impl<'t> Levels<'t> {
     fn has_wrong_separator(&self, role: PageRole) -> bool
         requires ready { IsReady self.now }
         ensures { is_linked (role_named role) ≡ true
-            → IsSoundHand (tree_of self.now).specs.now (tree_of self.now).more.now (page_of (upper_of self.now))
+            → IsSoundHand (tree_of self.now).columns.specs.now (tree_of self.now).columns.more.now
+            (page_of (upper_of self.now))
             (hand_of (upper_of self.now))
-            → result ≡ not (same_bound (same_keys (columns_of (tree_of self.now).specs.now) tid_order)
-            (next_separator (in_hand (tree_of self.now).specs.now (tree_of self.now).more.now (upper_of self.now)))
+            → result ≡ not (same_bound (same_keys (columns_of (tree_of self.now).columns.specs.now) tid_order)
+            (next_separator (in_hand (tree_of self.now).columns.specs.now (tree_of self.now).columns.more.now
+            (upper_of self.now)))
             (lower_of self.now)) }
     {
         role == PageRole::Linked && !self.upper.is_bound(&self.tree, &self.lower)
@@ -118,10 +120,10 @@ impl<'t> Levels<'t> {
         requires ready { IsReady self.now }
         requires page { page_rule_of PageKind.Tree (page_in self.now) ≡ None }
         ensures { is_live (role_named role) ≡ true
-            → HasPlainItems (tree_of self.now).specs.now (tree_of self.now).more.now (page_in self.now)
+            → HasPlainItems (tree_of self.now).columns.specs.now (tree_of self.now).columns.more.now (page_in self.now)
             → is_half_dead (opaque_of (page_in self.now)) ≡ false
-            → result ≡ is_low_page (order_of (tree_of self.now).specs.now) (lower_of self.now)
-            (page_image (tree_of self.now).specs.now (tree_of self.now).more.now (page_in self.now)) }
+            → result ≡ is_low_page (order_of (tree_of self.now).columns.specs.now) (lower_of self.now)
+            (page_image (tree_of self.now).columns.specs.now (tree_of self.now).columns.more.now (page_in self.now)) }
     {
         role.is_live() && is_low_page(&self.tree, PageView::new(&self.page), &self.lower)
     }
@@ -157,10 +159,11 @@ impl<'t> Levels<'t> {
         ensures ready { IsReady self.new }
         ensures bound { ChangesBound self.old self.new }
         ensures kept { OnOk result (
-            HasPlainItems (tree_of self.old).specs.now (tree_of self.old).more.now (page_in self.old)
+            HasPlainItems (tree_of self.old).columns.specs.now (tree_of self.old).columns.more.now (page_in self.old)
             → (is_live (role_named role) ≡ true → is_half_dead (opaque_of (page_in self.old)) ≡ false)
             → lower_of self.new ≡ lower_after
-            (page_image (tree_of self.old).specs.now (tree_of self.old).more.now (page_in self.old)) (role_named role)
+            (page_image (tree_of self.old).columns.specs.now (tree_of self.old).columns.more.now (page_in self.old))
+            (role_named role)
             (lower_of self.old)) }
     {
         if role.is_live() {

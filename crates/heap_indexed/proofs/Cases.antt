@@ -1,5 +1,5 @@
 -- What is told of an index by its own numbers, and of its case.
-use Rattle.std.proofs.Common.{◌≡◌, ◌∙◌, ◌-◌, ℕ, zero, suc, Bool, List, [], refl}
+use Rattle.std.proofs.Common.{◌≡◌, ◌∙◌, ◌-◌, ℕ, zero, suc, Bool, List, refl}
 use Rattle.std.specs.Prelude.{None, Some}
 use Rattle.outside.specs.Outside.{Names}
 use Rattle.rel_files.specs.Blocks.{block_of}
@@ -11,7 +11,7 @@ use Rattle.tree_image.specs.Image.{index_image}
 use Rattle.bt_levels.specs.declared.sound.SoundTree.{SoundTree}
 use Rattle.bt_levels.specs.Files.{IsFileOf, number_of}
 use Rattle.bt_levels.specs.Index.{index_of}
-use Rattle.bt_levels.specs.Sound.{IsSoundIndexOf, block_count, file_of, held_block, specs_of}
+use Rattle.bt_levels.specs.Sound.{IsSoundIndexOf, block_count, file_of, held_block, index_columns}
 use Rattle.heap_check.specs.declared.rows.LiveRow.{LiveRow}
 use Rattle.heap_check.specs.Rows.{rows_of}
 use Rattle.indexed_rules.specs.Entries.{has_alive, may_be_named}
@@ -28,13 +28,13 @@ module _ (case : CaseRecord) (names : Names) (tree : SoundTree) (index : IsSound
   pub rows-are : (rows : List LiveRow) → rows ≡ rows_of case names → owed_for names tree rows ≡ rows_lists case names (number_of (file_of tree))
   unfolding owed_for rows_lists
   rows-are rows are = λ i.
-      of_each report_lists (row_lists (number_of (file_of tree)) (index.keys i) (has_alive (index.keys i) (index_image (index.keys i) [] (file.count i) (λ b. blocks-are b i)))) (are i)
+      of_each report_lists (row_lists (number_of (file_of tree)) (index.columns i).specs (has_alive (index.columns i).specs (index_image (index.columns i).specs (index.columns i).more (file.count i) (λ b. blocks-are b i)))) (are i)
 
   -- and its entries
-  pub entries-are : (may : Tid → Bool) → ((tid : Tid) → may tid ≡ may_be_named case names tid) → leaves_lists (number_of (file_of tree)) (specs_of tree) may (block_count tree) (held_block names tree) ≡ entries_lists case names (number_of (file_of tree))
+  pub entries-are : (may : Tid → Bool) → ((tid : Tid) → may tid ≡ may_be_named case names tid) → leaves_lists (number_of (file_of tree)) (index_columns tree) may (block_count tree) (held_block names tree) ≡ entries_lists case names (number_of (file_of tree))
   unfolding entries_lists
   entries-are may same = λ i.
-      leaves_lists (number_of (file_of tree)) (index.keys i) (λ tid. same tid i) (file.count i) (λ b. blocks-are b i)
+      leaves_lists (number_of (file_of tree)) (index.columns i) (λ tid. same tid i) (file.count i) (λ b. blocks-are b i)
 
   -- what a pass finds of them with this set
   pub strays-are : (set : List (List Bool)) → ((tid : Tid) → is_in set tid ≡ may_be_named case names tid) → strays_of names (Some set) tree ≡ entries_lists case names (number_of (file_of tree))

@@ -14,13 +14,14 @@ use Rattle.key_orders.specs.declared.columns.Value.{Value}
 use Rattle.key_orders.specs.declared.Tid.{Tid}
 use Rattle.key_orders.specs.Keys.{columns_of, entry_of, tid_order}
 use Rattle.key_orders.specs.Scans.{order_of}
+use Rattle.varlena_attrs.specs.Columns.{TreeColumns}
 use Rattle.stored_keys.specs.Same.{same_key}
 use Rattle.stored_keys.proofs.SameLaws.{keys_decide}
 use Rattle.bt_meta.specs.Flags.{is_half_dead, is_leaf}
 use Rattle.bt_meta.specs.Pages.{is_idle, opaque_of}
 use Rattle.tree_image.specs.Image.{index_image, page_image, page_keys}
 use Rattle.bt_levels.specs.declared.sound.SoundTree.{SoundTree}
-use Rattle.bt_levels.specs.Sound.{block_count, held_block, specs_of}
+use Rattle.bt_levels.specs.Sound.{block_count, held_block, index_columns, specs_of}
 use Rattle.bt_steps.specs.Sought.{IsSought}
 use Rattle.row_slots.specs.Met.{keyed, has_entry as meets_entry, is_entry_of, met_after, same_tid}
 use Rattle.row_slots.specs.Slots.{Tables, keys_in, met_in}
@@ -32,9 +33,9 @@ use Rattle.heap_indexed.specs.Judging.{TellsOf}
 
 -- The entries of all leaves are those that a search sees
 
-page-same : (specs : List KeySpec) (page : List ℕ) → leaf_keys specs page ≡ leaf_entries (page_image specs [] page)
+page-same : (columns : TreeColumns) (page : List ℕ) → leaf_keys columns page ≡ leaf_entries (page_image columns.specs columns.more page)
 unfolding leaf_keys
-page-same specs page = by (is_leaf (opaque_of page)) (is_idle page) (is_half_dead (opaque_of page)) (page_keys specs [] page)
+page-same columns page = by (is_leaf (opaque_of page)) (is_idle page) (is_half_dead (opaque_of page)) (page_keys columns.specs columns.more page)
   where
     by : (leaf idle half : Bool) (es : List (Entry Value Tid)) → (if leaf && (not idle && not half) then es else []) ≡ cond (leaf && (not idle && not half)) (if leaf && not half then es else []) []
     by false idle half es = refl
@@ -42,10 +43,10 @@ page-same specs page = by (is_leaf (opaque_of page)) (is_idle page) (is_half_dea
     by true false true es = refl
     by true false false es = refl
 
-all-same : (specs : List KeySpec) (blocks : ℕ) (block : ℕ → List ℕ) → all_keys specs blocks block ≡ entries_of (index_image specs [] blocks block)
+all-same : (columns : TreeColumns) (blocks : ℕ) (block : ℕ → List ℕ) → all_keys columns blocks block ≡ entries_of (index_image columns.specs columns.more blocks block)
 unfolding all_keys
-all-same specs blocks block =
-    ap (λ (f : ℕ → List (Entry Value Tid)). flat_map f (tree_blocks blocks)) (λ i b. page-same specs (block b) i)
+all-same columns blocks block =
+    ap (λ (f : ℕ → List (Entry Value Tid)). flat_map f (tree_blocks blocks)) (λ i b. page-same columns (block b) i)
 
 -- An entry that meets a row is one that is sought
 
@@ -104,13 +105,13 @@ module _ (specs : List KeySpec) (total : IsTotalOrder (compare_keys (columns_of 
 
 -- The law
 
-pub tells-of : (names : Names) (tree : SoundTree) → IsTotalOrder (compare_keys (columns_of (specs_of tree)) tid_order) → ((s t : Separator Value Tid) → (compare_keys (columns_of (specs_of tree)) tid_order s t ≡ Equal) ↔ (s ≡ t)) → (old new : Tables) → ((tid : Tid) → met_in old tid ≡ false) → HaveMet (all_keys (specs_of tree) (block_count tree) (held_block names tree)) old new → TellsOf names tree new
+pub tells-of : (names : Names) (tree : SoundTree) → IsTotalOrder (compare_keys (columns_of (specs_of tree)) tid_order) → ((s t : Separator Value Tid) → (compare_keys (columns_of (specs_of tree)) tid_order s t ≡ Equal) ↔ (s ≡ t)) → (old new : Tables) → ((tid : Tid) → met_in old tid ≡ false) → HaveMet (all_keys (index_columns tree) (block_count tree) (held_block names tree)) old new → TellsOf names tree new
 unfolding has_alive
 tells-of names tree total same old new unmet met tid key kept =
-    let es : List (Entry Value Tid) = all_keys (specs_of tree) (block_count tree) (held_block names tree) in
+    let es : List (Entry Value Tid) = all_keys (index_columns tree) (block_count tree) (held_block names tree) in
     let there : keys_in old tid ≡ Some key = sym (ap (λ k. k tid) met.keys) ∙ kept in
     ap (λ m. m tid) met.met
     ∙ (λ i. met_after (keys_in old) (alive_in es) (λ (t : Tid). unmet t i) tid)
     ∙ met_if_entry (keys_in old) (alive_in es) (keyed tid key) there
     ∙ some-same (specs_of tree) total same key tid es
-    ∙ ap (list_any (is_alive_of (specs_of tree) key tid)) (all-same (specs_of tree) (block_count tree) (held_block names tree))
+    ∙ ap (list_any (is_alive_of (specs_of tree) key tid)) (all-same (index_columns tree) (block_count tree) (held_block names tree))

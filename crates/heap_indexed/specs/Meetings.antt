@@ -89,7 +89,8 @@ pub record InWork (names : Names) (done strays : Lists) (range : List LiveRow) (
   pub unmet : (tid : Tid) → met_in meeting.slots tid ≡ false
   pub kept : meeting.is_whole ≡ true → All (IsKeptRow (specs_of tree) meeting.slots) range
 
--- the names hold the heap and the index, a cursor is behind the rows of a block, and these rows of the range are in work
+-- the names hold the heap and the index, a cursor is behind the rows of a block, and these rows of the range are in
+-- work
 pub record IsToFinish (names : Names) (index : KeyedHeap) (range : List LiveRow) (meeting : Meeting)
     (cursor : RowCursor) : Type 0 where
   pub hold : HoldTogether names index.at.case.now index.at.heap.now index.at.tree.now

@@ -132,8 +132,8 @@ fn meet_all<F: Files>(
 
 /// Judges a heap together with each of these indexes of it, in all of which nothing was found, and gives a report for
 /// each, in their order: that which [`check_indexed`] adds. Here the rows of a range of blocks are kept by their roots,
-/// each with its key, and the entries of each index meet them, in whatever order these stand: so each row of the heap is
-/// read once for all indexes, and again only in a range with a row that no entry met.
+/// each with its key, and the entries of each index meet them, in whatever order these stand: so each row of the heap
+/// is read once for all indexes, and again only in a range with a row that no entry met.
 ///
 /// `ReadFault` comes only where the count of the files' faults rose, and `NoFile` and `TooLarge` never.
 pub fn meet_indexes<F: Files>(
@@ -196,7 +196,8 @@ fn probe_indexes<F: Files>(
 /// Judges a heap together with each of these indexes of it, in all of which nothing was found, and gives a report for
 /// each, in their order: first what is found of the live rows (X1, U6), by rising TID, and then each entry of the
 /// index, killed or not, that names what no entry may name (X2), by block, item and place in the item. The rows of a
-/// heap of fewer than 64 blocks are looked up ([`check_indexed`]), and those of a larger one are met ([`meet_indexes`]).
+/// heap of fewer than 64 blocks are looked up ([`check_indexed`]), and those of a larger one are met
+/// ([`meet_indexes`]).
 ///
 /// `ReadFault` comes only where the count of the files' faults rose, and `NoFile` and `TooLarge` never.
 pub fn check_indexes<F: Files>(

@@ -41,11 +41,10 @@ impl KeyedHeap<'_> {
             → (if result then Some key.new else None) ≡ key_in (specs_of self.entry.at.tree.now) row.cells }
         ensures fits { OnTrue result (IsKey (specs_of self.entry.at.tree.now) key.new) }
     {
-        let tree = self.at.tree;
         self.at.case.sound();
-        tree.keyed();
+        let columns = self.at.tree.columns();
         key.clear();
-        for k in 0..tree.specs().len() {
+        for k in 0..columns.specs.len() {
             match cursor.value(self.first + k) {
                 CellRef::Held(v) => key.push(v),
                 CellRef::Packed => return false,

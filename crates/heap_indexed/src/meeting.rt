@@ -189,7 +189,8 @@ impl Meeting {
         requires told { IfTold F.seen files.old (λ names. IsToFinish names index
             (rows_from index.at.case.now names first (next_in cursor.old - first)) self.old cursor.old) }
         ensures work { IfTold F.seen files.old (λ names. (done strays : Lists) → InWork names done strays
-            (rows_from index.entry.at.case.now names first (next_in cursor.old - first)) index.entry.at.tree.now self.old
+            (rows_from index.entry.at.case.now names first (next_in cursor.old - first))
+            index.entry.at.tree.now self.old
             → OnOk result (InWork names (joined done (owed_for names index.entry.at.tree.now
             (rows_from index.entry.at.case.now names first (next_in cursor.old - first))))
             (joined strays (strays_of names (option_copied targets.entry) index.entry.at.tree.now)) []

@@ -1,5 +1,6 @@
 //! The rows of a heap against all its indexes, range by range of its blocks: each block is read once for all of them.
-ghost use Rattle.std.specs.Prelude.{◌≡◌, ◌∷◌, ◌++◌, ◌+◌, ◌-◌, ◌<◌, ◌≤◌, [], List, None, OnOk, Some, false, length, true};
+ghost use Rattle.std.specs.Prelude.{◌≡◌, ◌∷◌, ◌++◌, ◌+◌, ◌-◌, ◌<◌, ◌≤◌, [], List, length};
+ghost use Rattle.std.specs.Prelude.{None, OnOk, Some, false, true};
 ghost use Rattle.std.specs.Option.{option_copied};
 ghost use Rattle.outside.specs.Outside.{Asked, IfTold, Names, Tells};
 ghost use Rattle.rel_files.specs.Relation.{count_of};
@@ -231,7 +232,8 @@ impl<'a> Ranges<'a> {
         requires told { IfTold F.seen files.old (λ names. AreToFinish names self
             (rows_from self.at.case.now names first (next_in cursor.old - first)) meetings.old cursor.old) }
         ensures work { IfTold F.seen files.old (λ names. (done strays : Tree → Lists) → AreInWork names done strays
-            (rows_from self.entry.at.case.now names first (next_in cursor.old - first)) self.entry.at.trees.now meetings.old
+            (rows_from self.entry.at.case.now names first (next_in cursor.old - first))
+            self.entry.at.trees.now meetings.old
             → OnOk result (AreInWork names
             (λ tree. joined (done tree) (owed_for names tree
             (rows_from self.entry.at.case.now names first (next_in cursor.old - first))))

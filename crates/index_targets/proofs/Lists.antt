@@ -3,7 +3,6 @@ use Rattle.std.proofs.Common.{◌≡◌, ◌∙◌, ◌<◌, ◌≤◌, ℕ, Boo
 use Rattle.std.specs.Prelude.{if◌then◌else◌, map, Some, None}
 use Rattle.std.proofs.lemmas.Bool.{le-ltb, lt-ltb}
 use Rattle.outside.specs.Adds.{each_below}
-use Rattle.key_orders.specs.declared.columns.KeySpec.{KeySpec}
 use Rattle.key_orders.specs.declared.columns.Value.{Value}
 use Rattle.key_orders.specs.declared.Tid.{Tid}
 use Rattle.page_layout.specs.Page.{item_of}
@@ -13,6 +12,7 @@ use Rattle.bt_meta.specs.declared.records.HeadKind.{HeadKind}
 use Rattle.bt_meta.specs.declared.records.HeadKind.TheVariants as head
 use Rattle.tree_image.specs.Image.{first_data, keys_in}
 use Rattle.tree_search.specs.Keys.{Entry}
+use Rattle.varlena_attrs.specs.Columns.{TreeColumns}
 use Rattle.bt_steps.specs.Entries.{IsRead, keys_at}
 use Rattle.bt_steps.proofs.Items.{keys-are}
 use Rattle.bt_steps.specs.Pages.{is_live_leaf}
@@ -44,35 +44,35 @@ unfolding each_below
 one-tid number may b i tid = refl
 
 -- an item before the first data item gives nothing, and a data item what its TIDs give
-module _ (number : ℕ) (specs : List KeySpec) (may : Tid → Bool) (b : ℕ) (page : List ℕ) (i : ℕ) where
-  pub high-key : i < first_data page → item_lists number specs may b page i ≡ nothing
+module _ (number : ℕ) (columns : TreeColumns) (may : Tid → Bool) (b : ℕ) (page : List ℕ) (i : ℕ) where
+  pub high-key : i < first_data page → item_lists number columns may b page i ≡ nothing
   unfolding item_lists
-  high-key lt = ap (λ (high : Bool). if high then nothing else tids_lists number may b i (tids_at specs page i)) (lt-ltb i (first_data page) lt)
+  high-key lt = ap (λ (high : Bool). if high then nothing else tids_lists number may b i (tids_at columns page i)) (lt-ltb i (first_data page) lt)
 
-  pub data-item : first_data page ≤ i → (tids : List Tid) → tids_at specs page i ≡ tids → item_lists number specs may b page i ≡ tids_lists number may b i tids
+  pub data-item : first_data page ≤ i → (tids : List Tid) → tids_at columns page i ≡ tids → item_lists number columns may b page i ≡ tids_lists number may b i tids
   unfolding item_lists
   data-item from tids is =
-      ap (λ (high : Bool). if high then nothing else tids_lists number may b i (tids_at specs page i)) (le-ltb i (first_data page) from)
+      ap (λ (high : Bool). if high then nothing else tids_lists number may b i (tids_at columns page i)) (le-ltb i (first_data page) from)
       ∙ ap (tids_lists number may b i) is
 
-pub tids-of : (specs : List KeySpec) (page : List ℕ) (i : ℕ) (item : Item) → keys_at specs page i ≡ keys_in item → tids_at specs page i ≡ tids_in item
+pub tids-of : (columns : TreeColumns) (page : List ℕ) (i : ℕ) (item : Item) → keys_at columns page i ≡ keys_in item → tids_at columns page i ≡ tids_in item
 unfolding keys_at
-tids-of specs page i item is = ap (λ (es : List (Entry Value Tid)). map (λ e. e.tid) es) is
+tids-of columns page i item is = ap (λ (es : List (Entry Value Tid)). map (λ e. e.tid) es) is
 
 -- a page that is no leaf in use gives nothing, and one that is what its items give
-pub no-leaf : (number : ℕ) (specs : List KeySpec) (may : Tid → Bool) (b : ℕ) (page : List ℕ) → is_live_leaf page ≡ false → leaf_lists number specs may b page ≡ nothing
+pub no-leaf : (number : ℕ) (columns : TreeColumns) (may : Tid → Bool) (b : ℕ) (page : List ℕ) → is_live_leaf page ≡ false → leaf_lists number columns may b page ≡ nothing
 unfolding leaf_lists
-no-leaf number specs may b page none = ap (λ (live : Bool). if live then items_lists number specs may b page else nothing) none
+no-leaf number columns may b page none = ap (λ (live : Bool). if live then items_lists number columns may b page else nothing) none
 
-pub a-leaf : (number : ℕ) (specs : List KeySpec) (may : Tid → Bool) (b : ℕ) (page : List ℕ) → is_live_leaf page ≡ true → leaf_lists number specs may b page ≡ items_lists number specs may b page
+pub a-leaf : (number : ℕ) (columns : TreeColumns) (may : Tid → Bool) (b : ℕ) (page : List ℕ) → is_live_leaf page ≡ true → leaf_lists number columns may b page ≡ items_lists number columns may b page
 unfolding leaf_lists
-a-leaf number specs may b page live = ap (λ (l : Bool). if l then items_lists number specs may b page else nothing) live
+a-leaf number columns may b page live = ap (λ (l : Bool). if l then items_lists number columns may b page else nothing) live
 
 -- the TID of an item that is one entry stands in its tuple's head
-pub plain-item : (specs : List KeySpec) (page : List ℕ) (i : ℕ) → IsRead specs page i → (tree_head_of (tuple_of page i)).kind ≡ head.Plain → tids_at specs page i ≡ plain_tid (tree_head_of (tuple_of page i)) ∷ []
+pub plain-item : (columns : TreeColumns) (page : List ℕ) (i : ℕ) → IsRead columns page i → (tree_head_of (tuple_of page i)).kind ≡ head.Plain → tids_at columns page i ≡ plain_tid (tree_head_of (tuple_of page i)) ∷ []
 unfolding meaning_of
-plain-item specs page i read plain =
+plain-item columns page i read plain =
     let tuple = tuple_of page i in
     let killed = is_dead (item_of page i).flag in
-    tids-of specs page i (meaning_of specs [] tuple killed) (keys-are specs page i (meaning_of specs [] tuple killed) (sym (kept_means specs [] LeafItem page i false read.rules read.plain)))
-    ∙ ap (λ (kind : HeadKind). tids_in (meaning_by kind (length specs) tuple killed (values_or_none (values_in specs [] tuple)))) plain
+    tids-of columns page i (meaning_of columns.specs columns.more tuple killed) (keys-are columns page i (meaning_of columns.specs columns.more tuple killed) (sym (kept_means columns.specs columns.more LeafItem page i false read.rules read.plain)))
+    ∙ ap (λ (kind : HeadKind). tids_in (meaning_by kind (length columns.specs) tuple killed (values_or_none (values_in columns.specs columns.more tuple)))) plain

@@ -1,23 +1,23 @@
 -- What a pass over the leaves of an index finds of what its entries name, where that is asked.
 use Rattle.std.specs.Prelude.{ℕ, ◌-◌, Bool, List, Option, None, Some}
 use Rattle.outside.specs.Outside.{Names}
-use Rattle.key_orders.specs.declared.columns.KeySpec.{KeySpec}
+use Rattle.varlena_attrs.specs.Columns.{TreeColumns}
 use Rattle.reports.specs.Added.{each_upto, nothing, report_lists}
 use Rattle.reports.specs.Lists.{Lists}
 use Rattle.bt_levels.specs.declared.sound.SoundTree.{SoundTree}
 use Rattle.bt_levels.specs.Files.{number_of}
-use Rattle.bt_levels.specs.Sound.{block_count, file_of, held_block, specs_of}
+use Rattle.bt_levels.specs.Sound.{block_count, file_of, held_block, index_columns}
 use Rattle.root_set.specs.Targets.{is_in}
 use Rattle.indexed_rules.specs.Lists.{leaf_lists}
 
 -- the entries of a block that name what the set doesn't have, where there is a set
-abbrev pub strays_on : (number : ℕ) → List KeySpec → Option (List (List Bool)) → (b : ℕ) → List ℕ → Lists
-strays_on number specs None b page = nothing
-strays_on number specs (Some set) b page = leaf_lists number specs (is_in set) b page
+abbrev pub strays_on : (number : ℕ) → TreeColumns → Option (List (List Bool)) → (b : ℕ) → List ℕ → Lists
+strays_on number columns None b page = nothing
+strays_on number columns (Some set) b page = leaf_lists number columns (is_in set) b page
 
 -- those of all blocks but the metapage, by their numbers
 unfoldable pub strays_of : Names → Option (List (List Bool)) → SoundTree → Lists
 strays_of names targets tree =
     each_upto report_lists
-    (λ b. strays_on (number_of (file_of tree)) (specs_of tree) targets b (held_block names tree b))
+    (λ b. strays_on (number_of (file_of tree)) (index_columns tree) targets b (held_block names tree b))
     (block_count tree - 1)

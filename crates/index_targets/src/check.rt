@@ -6,19 +6,26 @@ ghost use Rattle.outside.specs.Outside.{AskedAtMost, IfTold};
 ghost use Rattle.reports.specs.Added.{report_lists};
 ghost use Rattle.rel_files.specs.Ahead.{IsAheadOf};
 ghost use Rattle.bt_levels.specs.Files.{number_of, relation_of};
-ghost use Rattle.bt_levels.specs.Sound.{HoldsTree, block_count, file_of, held_block, specs_of};
+ghost use Rattle.bt_levels.specs.Sound.{HoldsTree, block_count, file_of, held_block, index_columns};
 ghost use Rattle.bt_steps.specs.Pages.{IsReadable, is_live_leaf};
 ghost use Rattle.leaf_meets.specs.Meeting.{HaveMet, all_keys, leaf_keys};
 ghost use Rattle.index_targets.specs.Passes.{strays_of, strays_on};
 
 use crate::leaf::Named;
 use bt_levels::SoundTree;
-use leaf_meets::meet_page;
+use leaf_meets::{RowsAhead, meet_page};
 use outside::{Files, NoMemory};
 use rel_files::Ahead;
 use reports::{PageFault, Report};
 use root_set::RootSet;
 use row_slots::RowSlots;
+
+// What is in hand while leaves are gone over: blocks that were read together, and the rows that entries of one name.
+#[derive(Drop)]
+struct Hands {
+    blocks: Ahead,
+    rows: RowsAhead,
+}
 
 // An index in which nothing was found, and the set of what its entries may name, where that is asked.
 #[derive(Clone, Copy)]
@@ -28,23 +35,30 @@ struct Leaves<'a> {
 }
 
 impl Leaves<'_> {
-    // Judges what the entries of a page name, where that is asked.
-    fn judge_page(self, page: &[u8; 8192], b: u32, report: &mut Report) -> Result<(), NoMemory>
-        ensures { (is_live_leaf page.now ≡ true → IsReadable (specs_of self.entry.tree.now) page.now)
+    // Judges what the entries of a page name, where that is asked, and tells ahead what they name.
+    fn judge_page(
+        self,
+        page: &[u8; 8192],
+        b: u32,
+        ahead: &mut RowsAhead,
+        report: &mut Report,
+    ) -> Result<(), NoMemory>
+        ensures { (is_live_leaf page.now ≡ true → IsReadable (index_columns self.entry.tree.now) page.now)
             → AddsIn report_lists result report.old report.new
-            (strays_on (number_of (file_of self.entry.tree.now)) (specs_of self.entry.tree.now)
+            (strays_on (number_of (file_of self.entry.tree.now)) (index_columns self.entry.tree.now)
             (option_copied self.entry.targets) b page.now) }
     {
+        ahead.clear();
         let Some(targets) = self.targets else {
+            ahead.add_page(page);
             return Ok(());
         };
-        self.tree.keyed();
         let named = Named {
             number: self.tree.index(),
-            specs: self.tree.specs(),
+            columns: self.tree.columns(),
             targets,
         };
-        named.judge_page(page, b, report)
+        named.judge_page(page, b, ahead, report)
     }
 
     // Takes a block that isn't the first in hand, judges what its entries name, and has them meet their rows.
@@ -52,30 +66,29 @@ impl Leaves<'_> {
         self,
         files: &mut F,
         b: u32,
-        ahead: &mut Ahead,
+        hands: &mut Hands,
         slots: &mut RowSlots,
         report: &mut Report,
     ) -> Result<(), PageFault>
         requires holds { IfTold F.seen files.old (λ names. HoldsTree names self.tree.now) }
         requires hand { IfTold F.seen files.old (λ names.
-            IsAheadOf names (relation_of (file_of self.tree.now)) ahead.old) }
+            IsAheadOf names (relation_of (file_of self.tree.now)) hands.old.blocks) }
         requires not_meta { 1 ≤ b }
         requires below { b < block_count self.tree.now }
         ensures lists { IfTold F.seen files.old (λ names. AddsIn report_lists result report.old report.new
-            (strays_on (number_of (file_of self.entry.tree.now)) (specs_of self.entry.tree.now)
+            (strays_on (number_of (file_of self.entry.tree.now)) (index_columns self.entry.tree.now)
             (option_copied self.entry.targets) b (held_block names self.entry.tree.now b))) }
         ensures met { OnOk result (IfTold F.seen files.old (λ names.
-            HaveMet (leaf_keys (specs_of self.entry.tree.now) (held_block names self.entry.tree.now b))
+            HaveMet (leaf_keys (index_columns self.entry.tree.now) (held_block names self.entry.tree.now b))
             slots.old slots.new)) }
         ensures hand { IfTold F.seen files.old (λ names.
-            IsAheadOf names (relation_of (file_of self.entry.tree.now)) ahead.new) }
+            IsAheadOf names (relation_of (file_of self.entry.tree.now)) hands.new.blocks) }
         ensures asked { AskedAtMost 1 F.seen files.old files.new result PageFault.ReadFault }
     {
-        self.tree.keyed();
-        self.tree.take_ahead(files, b, ahead)?;
-        let page = ahead.page(b);
-        self.judge_page(page, b, report)?;
-        meet_page(slots, self.tree.specs(), page);
+        self.tree.take_ahead(files, b, &mut hands.blocks)?;
+        let page = hands.blocks.page(b);
+        self.judge_page(page, b, &mut hands.rows, report)?;
+        meet_page(slots, &self.tree.columns(), page, &hands.rows);
         Ok(())
     }
 }
@@ -97,14 +110,17 @@ pub fn check_entries<F: Files>(
     ensures lists { IfTold F.seen files.old (λ names. AddsIn report_lists result report.old report.new
         (strays_of names (option_copied targets.entry) tree.now)) }
     ensures met { OnOk result (IfTold F.seen files.old (λ names.
-        HaveMet (all_keys (specs_of tree.now) (block_count tree.now) (held_block names tree.now))
+        HaveMet (all_keys (index_columns tree.now) (block_count tree.now) (held_block names tree.now))
         slots.old slots.new)) }
     ensures asked { AskedAtMost (block_count tree.now) F.seen files.old files.new result PageFault.ReadFault }
 {
     let leaves = Leaves { tree, targets };
-    let mut ahead = Ahead::new();
+    let mut hands = Hands {
+        blocks: Ahead::new(),
+        rows: RowsAhead::new(),
+    };
     for k in 0..tree.blocks().saturating_sub(1) {
-        leaves.take_block(files, k + 1, &mut ahead, slots, report)?;
+        leaves.take_block(files, k + 1, &mut hands, slots, report)?;
     }
     Ok(())
 }

@@ -1,34 +1,32 @@
 //! The entries of a leaf, against what they may name.
-ghost use Rattle.std.specs.Prelude.{◌≡◌, ◌≤◌, ◌∷◌, [], List, None, IfSome, true, All, length};
+ghost use Rattle.std.specs.Prelude.{◌≡◌, ◌≤◌, None, true};
 ghost use Rattle.outside.specs.Adds.{AddsIn};
 ghost use Rattle.page_layout.specs.Page.{count_of, page_rule_of};
 ghost use Rattle.page_layout.specs.View.{page_bytes};
-ghost use Rattle.key_orders.specs.declared.columns.KeySpec.{KeySpec as Spec};
-ghost use Rattle.key_orders.specs.Types.{HasAlignment};
-ghost use Rattle.varlena_attrs.specs.Keyed.{key_types};
+ghost use Rattle.varlena_attrs.specs.Columns.{tree_columns};
 ghost use Rattle.tree_image.specs.Image.{first_data};
 ghost use Rattle.bt_steps.specs.Entries.{IsRead};
 ghost use Rattle.bt_steps.specs.Pages.{IsReadable, is_live_leaf};
 ghost use Rattle.root_set.specs.Targets.{is_in};
 ghost use Rattle.reports.specs.Added.{report_lists};
-ghost use Rattle.indexed_rules.specs.Lists.{entry_lists, item_lists, items_lists, leaf_lists, tids_at, tids_lists};
+ghost use Rattle.indexed_rules.specs.Lists.{entry_lists, item_lists, items_lists, leaf_lists, tids_lists};
 
-use bt_meta::{HeadKind, tree_head};
 use bt_steps::is_live_leaf;
-use bt_tuples::{Spot3, TidList, TreeItem, tree_item};
-use key_orders::{KeySpec, Tid};
+use bt_tuples::{Spot3, TidList, TreeItem, plain_entry, tree_item};
+use key_orders::Tid;
+use leaf_meets::RowsAhead;
 use outside::NoMemory;
 use page_layout::{PageKind, PageView, Rule};
 use reports::{Place, Report};
 use root_set::RootSet;
 use tree_image::first_data;
+use varlena_attrs::IndexColumns;
 
-/// An index, by its number in the case, from 1, and the columns of its key; and the set of what its entries
-/// may name.
+/// An index, by its number in the case, from 1, and its columns; and the set of what its entries may name.
 #[derive(Clone, Copy)]
 pub struct Named<'a> {
     pub number: u16,
-    pub specs: &'a [KeySpec],
+    pub columns: IndexColumns<'a>,
     pub targets: &'a RootSet,
 }
 
@@ -39,41 +37,17 @@ struct ItemAt {
     item: u16,
 }
 
-// The TID of a data item of a leaf that is one entry. It stands in the tuple's head, so that the key isn't read.
-#[inline]
-fn only_tid(page: PageView<'_>, i: u16) -> Option<Tid>
-    requires page { page_rule_of PageKind.Tree (page_bytes page) ≡ None }
-    requires first { 1 ≤ i }
-    requires last { i ≤ count_of (page_bytes page) }
-    ensures { IfSome result (λ tid. (specs : List Spec) → IsRead specs (page_bytes page.entry) i
-        → tids_at specs (page_bytes page.entry) i ≡ tid ∷ []) }
-{
-    let item = page.item(i);
-    if item.is_misplaced_tree_item(page.upper()) {
-        return None;
-    }
-    let head = tree_head(page.piece(item.off, item.len));
-    match head.kind {
-        HeadKind::Plain => Some(Tid {
-            block: head.block,
-            item: head.item,
-        }),
-        HeadKind::Pivot | HeadKind::Posting => None,
-    }
-}
-
 impl Named<'_> {
     // Judges one TID of an item.
     fn judge_tid(self, at: ItemAt, tid: Tid, report: &mut Report) -> Result<(), NoMemory>
         ensures { AddsIn report_lists result report.old report.new
             (entry_lists self.entry.number (is_in self.entry.targets.now) at.block at.item tid) }
     {
-        let rule = if self.targets.has(tid) {
-            None
-        } else {
-            Some(Rule::X2)
-        };
-        report.add_rule(Place::Entry(self.number, at.block, at.item, tid), rule)
+        if self.targets.has(tid) {
+            return Ok(());
+        }
+        let place = Place::Entry(self.number, at.block, at.item, tid);
+        report.add_rule(place, Some(Rule::X2))
     }
 
     // Judges the TIDs of a list.
@@ -88,22 +62,28 @@ impl Named<'_> {
     }
 
     // Judges an item of a leaf, if it is a data item.
-    fn judge_item(self, page: PageView<'_>, at: ItemAt, report: &mut Report) -> Result<(), NoMemory>
+    fn judge_item(
+        self,
+        page: PageView<'_>,
+        at: ItemAt,
+        ahead: &mut RowsAhead,
+        report: &mut Report,
+    ) -> Result<(), NoMemory>
         requires page { page_rule_of PageKind.Tree (page_bytes page) ≡ None }
         requires first { 1 ≤ at.item }
         requires last { at.item ≤ count_of (page_bytes page) }
-        requires few { length self.specs.now ≤ 8 }
-        requires aligned { All HasAlignment (key_types self.specs.now) }
         ensures { (first_data (page_bytes page.entry) ≤ at.item
-            → IsRead self.entry.specs.now (page_bytes page.entry) at.item)
-            → AddsIn report_lists result report.old report.new (item_lists self.entry.number self.entry.specs.now
+            → IsRead (tree_columns self.entry.columns) (page_bytes page.entry) at.item)
+            → AddsIn report_lists result report.old report.new
+            (item_lists self.entry.number (tree_columns self.entry.columns)
             (is_in self.entry.targets.now) at.block (page_bytes page.entry) at.item) }
     {
         if at.item < first_data(page) {
             return Ok(());
         }
-        if let Some(tid) = only_tid(page, at.item) {
-            return self.judge_tid(at, tid, report);
+        if let Some(entry) = plain_entry(page, at.item) {
+            ahead.add(entry.tid);
+            return self.judge_tid(at, entry.tid, report);
         }
         self.judge_any_item(page, at, report)
     }
@@ -121,13 +101,12 @@ impl Named<'_> {
         requires first { 1 ≤ at.item }
         requires from { first_data (page_bytes page) ≤ at.item }
         requires last { at.item ≤ count_of (page_bytes page) }
-        requires few { length self.specs.now ≤ 8 }
-        requires aligned { All HasAlignment (key_types self.specs.now) }
-        ensures { IsRead self.entry.specs.now (page_bytes page.entry) at.item
-            → AddsIn report_lists result report.old report.new (item_lists self.entry.number self.entry.specs.now
+        ensures { IsRead (tree_columns self.entry.columns) (page_bytes page.entry) at.item
+            → AddsIn report_lists result report.old report.new
+            (item_lists self.entry.number (tree_columns self.entry.columns)
             (is_in self.entry.targets.now) at.block (page_bytes page.entry) at.item) }
     {
-        match tree_item(page, at.item, self.specs, &[], Spot3::LeafItem) {
+        match tree_item(page, at.item, &self.columns, Spot3::LeafItem) {
             Ok(TreeItem::Plain { tid, .. }) => self.judge_tid(at, tid, report),
             Ok(TreeItem::Posting { tids, .. }) => self.judge_list(at, &tids, report),
             Ok(TreeItem::Pivot { .. }) => Ok(()),
@@ -140,40 +119,40 @@ impl Named<'_> {
         self,
         page: PageView<'_>,
         block: u32,
+        ahead: &mut RowsAhead,
         report: &mut Report,
     ) -> Result<(), NoMemory>
         requires page { page_rule_of PageKind.Tree (page_bytes page) ≡ None }
-        requires few { length self.specs.now ≤ 8 }
-        requires aligned { All HasAlignment (key_types self.specs.now) }
-        ensures { IsReadable self.entry.specs.now (page_bytes page.entry)
+        ensures { IsReadable (tree_columns self.entry.columns) (page_bytes page.entry)
             → is_live_leaf (page_bytes page.entry) ≡ true
-            → AddsIn report_lists result report.old report.new (items_lists self.entry.number self.entry.specs.now
+            → AddsIn report_lists result report.old report.new
+            (items_lists self.entry.number (tree_columns self.entry.columns)
             (is_in self.entry.targets.now) block (page_bytes page.entry)) }
     {
         for i in 0..page.item_count() {
-            self.judge_item(page, ItemAt { block, item: i + 1 }, report)?;
+            self.judge_item(page, ItemAt { block, item: i + 1 }, ahead, report)?;
         }
         Ok(())
     }
 
     /// Judges the entries of a page, if it is a leaf in use that isn't half-dead, killed entries among them,
-    /// and adds each that names what it may not.
+    /// and adds each that names what it may not. What they name is told ahead to the look at rows.
     pub fn judge_page(
         self,
         page: &[u8; 8192],
         block: u32,
+        ahead: &mut RowsAhead,
         report: &mut Report,
     ) -> Result<(), NoMemory>
-        requires few { length self.specs.now ≤ 8 }
-        requires aligned { All HasAlignment (key_types self.specs.now) }
-        ensures { (is_live_leaf page.now ≡ true → IsReadable self.entry.specs.now page.now)
-            → AddsIn report_lists result report.old report.new (leaf_lists self.entry.number self.entry.specs.now
+        ensures { (is_live_leaf page.now ≡ true → IsReadable (tree_columns self.entry.columns) page.now)
+            → AddsIn report_lists result report.old report.new
+            (leaf_lists self.entry.number (tree_columns self.entry.columns)
             (is_in self.entry.targets.now) block page.now) }
     {
         let page = PageView::new(page);
         if !is_live_leaf(page) || page.page_rule(PageKind::Tree).is_some() {
             return Ok(());
         }
-        self.judge_items(page, block, report)
+        self.judge_items(page, block, ahead, report)
     }
 }

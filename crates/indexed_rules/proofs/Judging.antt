@@ -12,6 +12,7 @@ use Rattle.page_layout.specs.declared.rules.Rule.{Rule}
 use Rattle.page_layout.specs.declared.rules.Rule.TheVariants.{X1, X2}
 use Rattle.tree_search.specs.Keys.{Entry as Given, Separator, compare_keys}
 use Rattle.key_orders.specs.declared.columns.KeySpec.{KeySpec}
+use Rattle.varlena_attrs.specs.Columns.{TreeColumns}
 use Rattle.key_orders.specs.declared.columns.Value.{Value}
 use Rattle.key_orders.specs.declared.Tid.{Tid}
 use Rattle.key_orders.specs.Keys.{columns_of, tid_order}
@@ -31,7 +32,7 @@ use Rattle.reports.proofs.Parts.{All-below, All-upto, among_below, among_upto}
 use Rattle.bt_pages.specs.Broken.{AreEmpty, IsDoubtedAt, doubted, IsFoundAt, found}
 use Rattle.bt_pages.proofs.BlockLaws.{All-finding_at, among_finding, no_doubts}
 use Rattle.bt_walks.specs.Trees.{image_of}
-use Rattle.bt_levels.specs.Index.{tree_of}
+use Rattle.bt_levels.specs.Index.{case_columns, tree_of}
 use Rattle.heap_check.specs.Rows.{rows_of}
 use Rattle.heap_check.specs.declared.rows.LiveRow.{LiveRow}
 use Rattle.indexed_rules.specs.Entries.{has_alive, may_be_named}
@@ -69,6 +70,9 @@ first-item page i item = go (has_high_key page) refl
 module _ (case : CaseRecord) (names : Names) (n : ℕ) (total : IsTotalOrder (compare_keys (columns_of (keys_of case n)) tid_order)) (same : (s t : Separator Value Tid) → (compare_keys (columns_of (keys_of case n)) tid_order s t ≡ Equal) ↔ (s ≡ t)) where
   abbrev specs : List KeySpec
   specs = keys_of case n
+
+  abbrev columns : TreeColumns
+  columns = case_columns case n
 
   abbrev image : TreeIndex
   image = image_of (tree_of case names n)
@@ -137,38 +141,38 @@ module _ (case : CaseRecord) (names : Names) (n : ℕ) (total : IsTotalOrder (co
   abbrev blocks : ℕ
   blocks = (tree_of case names n).blocks
 
-  broken-tid : (b i k : ℕ) → 1 ≤ b → b < blocks → is_live_leaf (block b) ≡ true → IsDataItem (block b) i → (o : Option Tid) → slice_get (tids_at specs (block b) i) k ≡ o → All IsBroken (nth_lists n may b i o).findings
+  broken-tid : (b i k : ℕ) → 1 ≤ b → b < blocks → is_live_leaf (block b) ≡ true → IsDataItem (block b) i → (o : Option Tid) → slice_get (tids_at columns (block b) i) k ≡ o → All IsBroken (nth_lists n may b i o).findings
   broken-tid b i k some inside leaf item None is = All-nil IsBroken
   broken-tid b i k some inside leaf item (Some t) is =
-      let from = from-map (λ (e : Given Value Tid). e.tid) (keys_in (item_at specs [] (block b) i)) t (in-place (tids_at specs (block b) i) k t is) in
+      let from = from-map (λ (e : Given Value Tid). e.tid) (keys_in (item_at columns.specs columns.more (block b) i)) t (in-place (tids_at columns (block b) i) k t is) in
       All-finding_at IsBroken (Entry n b i t) (stray_rule (may t)) (λ rule e.
       let what = stray-is (may t) rule e in
       subst (λ (r : Rule). Breaks case names n r (Entry n b i t)) (sym what.1)
       (subst (λ (u : Tid). Breaks case names n X2 (Entry n b i u)) from.2
       (stray b i from.0 (record { not_meta = some; inside = inside; leaf = leaf; item = item; entry = from.1 }) (ap may from.2 ∙ what.0))))
 
-  broken-item : (b i : ℕ) → 1 ≤ b → b < blocks → is_live_leaf (block b) ≡ true → i ≤ count_of (block b) → All IsBroken (item_lists n specs may b (block b) i).findings
+  broken-item : (b i : ℕ) → 1 ≤ b → b < blocks → is_live_leaf (block b) ≡ true → i ≤ count_of (block b) → All IsBroken (item_lists n columns may b (block b) i).findings
   unfolding item_lists
   broken-item b i some inside leaf to = by (nat_lt i (first_data (block b))) refl
     where
-      by : (high : Bool) → nat_lt i (first_data (block b)) ≡ high → All IsBroken (if high then nothing else tids_lists n may b i (tids_at specs (block b) i)).findings
+      by : (high : Bool) → nat_lt i (first_data (block b)) ≡ high → All IsBroken (if high then nothing else tids_lists n may b i (tids_at columns (block b) i)).findings
       by true is = All-nil IsBroken
       by false is =
           let item : IsDataItem (block b) i = record { from = ltb-false i (first_data (block b)) is; to = to } in
-          All-below report_lists findings-of refl (λ a c. refl) IsBroken (λ k. nth_lists n may b i (slice_get (tids_at specs (block b) i) k)) (length (tids_at specs (block b) i))
-          (λ k lt. broken-tid b i k some inside leaf item (slice_get (tids_at specs (block b) i) k) refl)
+          All-below report_lists findings-of refl (λ a c. refl) IsBroken (λ k. nth_lists n may b i (slice_get (tids_at columns (block b) i) k)) (length (tids_at columns (block b) i))
+          (λ k lt. broken-tid b i k some inside leaf item (slice_get (tids_at columns (block b) i) k) refl)
 
-  broken-leaf : (b : ℕ) → 1 ≤ b → b < blocks → All IsBroken (leaf_lists n specs may b (block b)).findings
+  broken-leaf : (b : ℕ) → 1 ≤ b → b < blocks → All IsBroken (leaf_lists n columns may b (block b)).findings
   unfolding leaf_lists items_lists
   broken-leaf b some inside = by (is_live_leaf (block b)) refl
     where
-      by : (l : Bool) → is_live_leaf (block b) ≡ l → All IsBroken (if l then each_upto report_lists (item_lists n specs may b (block b)) (count_of (block b)) else nothing).findings
-      by true leaf = All-upto report_lists findings-of refl (λ a c. refl) IsBroken (item_lists n specs may b (block b)) (count_of (block b)) (λ i first to. broken-item b i some inside leaf to)
+      by : (l : Bool) → is_live_leaf (block b) ≡ l → All IsBroken (if l then each_upto report_lists (item_lists n columns may b (block b)) (count_of (block b)) else nothing).findings
+      by true leaf = All-upto report_lists findings-of refl (λ a c. refl) IsBroken (item_lists n columns may b (block b)) (count_of (block b)) (λ i first to. broken-item b i some inside leaf to)
       by false leaf = All-nil IsBroken
 
   broken-leaves : All IsBroken (entries_lists case names n).findings
   unfolding entries_lists leaves_lists
-  broken-leaves = All-upto report_lists findings-of refl (λ a c. refl) IsBroken (λ b. leaf_lists n specs may b (block b)) (blocks - 1) (λ b some le. broken-leaf b some (omega (arith, some, le)))
+  broken-leaves = All-upto report_lists findings-of refl (λ a c. refl) IsBroken (λ b. leaf_lists n columns may b (block b)) (blocks - 1) (λ b some le. broken-leaf b some (omega (arith, some, le)))
 
   -- entries leave no doubt
   abbrev Never : UnjudgedPlace → Type 0
@@ -178,33 +182,33 @@ module _ (case : CaseRecord) (names : Names) (n : ℕ) (total : IsTotalOrder (co
   certain-tid b i None = All-nil Never
   certain-tid b i (Some t) = subst (All Never) (sym (no_doubts (Entry n b i t) (stray_rule (may t)))) (All-nil Never)
 
-  certain-item : (b i : ℕ) (page : List ℕ) → All Never (item_lists n specs may b page i).unjudged
+  certain-item : (b i : ℕ) (page : List ℕ) → All Never (item_lists n columns may b page i).unjudged
   unfolding item_lists
   certain-item b i page = by (nat_lt i (first_data page))
     where
-      by : (high : Bool) → All Never (if high then nothing else tids_lists n may b i (tids_at specs page i)).unjudged
+      by : (high : Bool) → All Never (if high then nothing else tids_lists n may b i (tids_at columns page i)).unjudged
       by true = All-nil Never
-      by false = All-below report_lists unjudged-of refl (λ a c. refl) Never (λ k. nth_lists n may b i (slice_get (tids_at specs page i) k)) (length (tids_at specs page i)) (λ k lt. certain-tid b i (slice_get (tids_at specs page i) k))
+      by false = All-below report_lists unjudged-of refl (λ a c. refl) Never (λ k. nth_lists n may b i (slice_get (tids_at columns page i) k)) (length (tids_at columns page i)) (λ k lt. certain-tid b i (slice_get (tids_at columns page i) k))
 
-  certain-leaf : (b : ℕ) (page : List ℕ) → All Never (leaf_lists n specs may b page).unjudged
+  certain-leaf : (b : ℕ) (page : List ℕ) → All Never (leaf_lists n columns may b page).unjudged
   unfolding leaf_lists items_lists
   certain-leaf b page = by (is_live_leaf page)
     where
-      by : (l : Bool) → All Never (if l then each_upto report_lists (item_lists n specs may b page) (count_of page) else nothing).unjudged
-      by true = All-upto report_lists unjudged-of refl (λ a c. refl) Never (item_lists n specs may b page) (count_of page) (λ i first to. certain-item b i page)
+      by : (l : Bool) → All Never (if l then each_upto report_lists (item_lists n columns may b page) (count_of page) else nothing).unjudged
+      by true = All-upto report_lists unjudged-of refl (λ a c. refl) Never (item_lists n columns may b page) (count_of page) (λ i first to. certain-item b i page)
       by false = All-nil Never
 
   certain-leaves : All Never (entries_lists case names n).unjudged
   unfolding entries_lists leaves_lists
-  certain-leaves = All-upto report_lists unjudged-of refl (λ a c. refl) Never (λ b. leaf_lists n specs may b (block b)) (blocks - 1) (λ b some le. certain-leaf b (block b))
+  certain-leaves = All-upto report_lists unjudged-of refl (λ a c. refl) Never (λ b. leaf_lists n columns may b (block b)) (blocks - 1) (λ b some le. certain-leaf b (block b))
 
   -- an entry that names what it may not
-  stray-item : (b i : ℕ) (e : Given Value Tid) → IsAt case names n b i e → may e.tid ≡ false → Contains (item_lists n specs may b (block b) i).findings (record { rule = X2; place = Entry n b i e.tid })
+  stray-item : (b i : ℕ) (e : Given Value Tid) → IsAt case names n b i e → may e.tid ≡ false → Contains (item_lists n columns may b (block b) i).findings (record { rule = X2; place = Entry n b i e.tid })
   unfolding item_lists
   stray-item b i e at none =
       let f : Finding = record { rule = X2; place = Entry n b i e.tid } in
-      let tids = tids_at specs (block b) i in
-      let there = in-map (λ (d : Given Value Tid). d.tid) (keys_in (item_at specs [] (block b) i)) e at.entry in
+      let tids = tids_at columns (block b) i in
+      let there = in-map (λ (d : Given Value Tid). d.tid) (keys_in (item_at columns.specs columns.more (block b) i)) e at.entry in
       let lt = there.1 in
       let is : slice_get tids there.0 ≡ Some e.tid = slice_get_read tids (length tids) there.0 e.tid refl lt (sym there.2) in
       let of-entry : Contains (nth_lists n may b i (slice_get tids there.0)).findings f =
@@ -221,11 +225,11 @@ module _ (case : CaseRecord) (names : Names) (n : ℕ) (total : IsTotalOrder (co
       let first = first-item page i at.item in
       let some = at.not_meta in
       let inside = at.inside in
-      let of-items : Contains (each_upto report_lists (item_lists n specs may b page) (count_of page)).findings f =
-      among_upto report_lists findings-of refl (λ a c. refl) (item_lists n specs may b page) (count_of page) i f first at.item.to (stray-item b i e at none) in
-      let of-leaf : Contains (if is_live_leaf page then each_upto report_lists (item_lists n specs may b page) (count_of page) else nothing).findings f =
-      subst (λ (l : Bool). Contains (if l then each_upto report_lists (item_lists n specs may b page) (count_of page) else nothing).findings f) (sym at.leaf) of-items in
-      among_upto report_lists findings-of refl (λ a c. refl) (λ k. leaf_lists n specs may k (block k)) (blocks - 1) b f some (omega (arith, some, inside)) of-leaf
+      let of-items : Contains (each_upto report_lists (item_lists n columns may b page) (count_of page)).findings f =
+      among_upto report_lists findings-of refl (λ a c. refl) (item_lists n columns may b page) (count_of page) i f first at.item.to (stray-item b i e at none) in
+      let of-leaf : Contains (if is_live_leaf page then each_upto report_lists (item_lists n columns may b page) (count_of page) else nothing).findings f =
+      subst (λ (l : Bool). Contains (if l then each_upto report_lists (item_lists n columns may b page) (count_of page) else nothing).findings f) (sym at.leaf) of-items in
+      among_upto report_lists findings-of refl (λ a c. refl) (λ k. leaf_lists n columns may k (block k)) (blocks - 1) b f some (omega (arith, some, inside)) of-leaf
 
   -- BOTH
 

@@ -16,12 +16,12 @@ use Rattle.reports.specs.declared.places.Reason.{Reason}
 use Rattle.reports.specs.declared.places.Reason.TheVariants.{U6}
 use Rattle.bt_pages.specs.Broken.{AreEmpty, IsDoubtedAt, IsFoundAt}
 use Rattle.bt_walks.specs.Trees.{image_of}
-use Rattle.bt_levels.specs.Index.{tree_of}
+use Rattle.bt_levels.specs.Index.{case_columns, tree_of}
 use Rattle.heap_check.specs.Rows.{rows_of}
 use Rattle.heap_check.specs.declared.rows.LiveRow.{LiveRow}
 use Rattle.indexed_rules.specs.Entries.{IsEntryAt, may_be_named}
 use Rattle.indexed_rules.specs.Lists.{indexed_lists}
-use Rattle.indexed_rules.specs.Rows.{key_of, keys_of}
+use Rattle.indexed_rules.specs.Rows.{key_of}
 
 -- index n of a case has an unkilled entry with this key and this TID
 abbrev pub HasEntry : CaseRecord → Names → ℕ → List Value → Tid → Type 0
@@ -30,7 +30,7 @@ HasEntry case names n key tid = HasAlive (image_of (tree_of case names n)) key t
 -- the entry stands in it at item i of block b
 abbrev pub IsAt : CaseRecord → Names → ℕ → (b i : ℕ) → Given Value Tid → Type 0
 IsAt case names n =
-    IsEntryAt (keys_of case n) (tree_of case names n).blocks (tree_of case names n).block
+    IsEntryAt (case_columns case n) (tree_of case names n).blocks (tree_of case names n).block
 
 -- X1: a live tuple has no unkilled entry with its key and its root's TID. X2: an entry names what no entry may name
 pub data Breaks (case : CaseRecord) (names : Names) (n : ℕ) : Rule → Place → Type 0 where

@@ -1,10 +1,11 @@
 -- The entries of an index, and what they may name in the heap.
-use Rattle.std.specs.Prelude.{◌≡◌, ℕ, ◌<◌, ◌≤◌, Bool, true, not, ◌&&◌, nat_lt, List, [], Contains}
+use Rattle.std.specs.Prelude.{◌≡◌, ℕ, ◌<◌, ◌≤◌, Bool, true, not, ◌&&◌, nat_lt, List, Contains}
 use Rattle.std.specs.List.{list_any}
 use Rattle.outside.specs.Outside.{Names}
 use Rattle.tree_search.specs.Keys.{Entry}
 use Rattle.tree_search.specs.Search.{entries_of}
 use Rattle.key_orders.specs.declared.columns.KeySpec.{KeySpec}
+use Rattle.varlena_attrs.specs.Columns.{TreeColumns}
 use Rattle.key_orders.specs.declared.columns.Value.{Value}
 use Rattle.key_orders.specs.declared.Tid.{Tid}
 use Rattle.key_orders.specs.Keys.{entry_of}
@@ -31,13 +32,13 @@ has_alive specs image key tid = list_any (is_alive_of specs key tid) (entries_of
 -- Where entries stand
 
 -- the entry stands at item i of block b of an index with so many blocks, killed or not
-pub record IsEntryAt (specs : List KeySpec) (blocks : ℕ) (block : ℕ → List ℕ) (b i : ℕ)
+pub record IsEntryAt (columns : TreeColumns) (blocks : ℕ) (block : ℕ → List ℕ) (b i : ℕ)
     (e : Entry Value Tid) : Type 0 where
   pub not_meta : 1 ≤ b
   pub inside : b < blocks
   pub leaf : is_live_leaf (block b) ≡ true
   pub item : IsDataItem (block b) i
-  pub entry : Contains (keys_in (item_at specs [] (block b) i)) e
+  pub entry : Contains (keys_in (item_at columns.specs columns.more (block b) i)) e
 
 -- What entries may name
 

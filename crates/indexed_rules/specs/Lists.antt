@@ -7,6 +7,7 @@ use Rattle.page_layout.specs.Page.{count_of}
 use Rattle.page_layout.specs.declared.rules.Rule.{Rule}
 use Rattle.page_layout.specs.declared.rules.Rule.TheVariants.{X1, X2}
 use Rattle.key_orders.specs.declared.columns.KeySpec.{KeySpec}
+use Rattle.varlena_attrs.specs.Columns.{TreeColumns}
 use Rattle.key_orders.specs.declared.columns.Value.{Value}
 use Rattle.key_orders.specs.declared.Tid.{Tid}
 use Rattle.case_file.specs.Record.{CaseRecord}
@@ -17,7 +18,7 @@ use Rattle.reports.specs.Lists.{Lists}
 use Rattle.reports.specs.declared.places.Place.TheVariants.{Entry, Tuple}
 use Rattle.reports.specs.declared.places.Reason.TheVariants.{U6}
 use Rattle.bt_walks.specs.Trees.{image_of}
-use Rattle.bt_levels.specs.Index.{tree_of}
+use Rattle.bt_levels.specs.Index.{case_columns, tree_of}
 use Rattle.heap_check.specs.Rows.{rows_of}
 use Rattle.heap_check.specs.declared.rows.LiveRow.{LiveRow}
 use Rattle.indexed_rules.specs.Entries.{has_alive, may_be_named}
@@ -61,31 +62,31 @@ nth_lists number may b i (Some tid) = entry_lists number may b i tid
 nth_lists number may b i None = nothing
 
 -- the TIDs of item i of a leaf, in their order, and what is found of each
-abbrev pub tids_at : List KeySpec → List ℕ → ℕ → List Tid
-tids_at specs page i = map (λ e. e.tid) (keys_in (item_at specs [] page i))
+abbrev pub tids_at : TreeColumns → List ℕ → ℕ → List Tid
+tids_at columns page i = map (λ e. e.tid) (keys_in (item_at columns.specs columns.more page i))
 
 abbrev pub tids_lists : (number : ℕ) → (Tid → Bool) → (b i : ℕ) → List Tid → Lists
 tids_lists number may b i tids =
     each_below report_lists (λ k. nth_lists number may b i (slice_get tids k)) (length tids)
 
 -- item i of block b: its entries, if it is a data item
-unfoldable pub item_lists : (number : ℕ) → List KeySpec → (Tid → Bool) → (b : ℕ) → List ℕ → ℕ → Lists
-item_lists number specs may b page i =
-    if nat_lt i (first_data page) then nothing else tids_lists number may b i (tids_at specs page i)
+unfoldable pub item_lists : (number : ℕ) → TreeColumns → (Tid → Bool) → (b : ℕ) → List ℕ → ℕ → Lists
+item_lists number columns may b page i =
+    if nat_lt i (first_data page) then nothing else tids_lists number may b i (tids_at columns page i)
 
 -- the items of a page
-unfoldable pub items_lists : (number : ℕ) → List KeySpec → (Tid → Bool) → (b : ℕ) → List ℕ → Lists
-items_lists number specs may b page = each_upto report_lists (item_lists number specs may b page) (count_of page)
+unfoldable pub items_lists : (number : ℕ) → TreeColumns → (Tid → Bool) → (b : ℕ) → List ℕ → Lists
+items_lists number columns may b page = each_upto report_lists (item_lists number columns may b page) (count_of page)
 
 -- block b: its items, if it is a leaf in use and isn't half-dead
-unfoldable pub leaf_lists : (number : ℕ) → List KeySpec → (Tid → Bool) → (b : ℕ) → List ℕ → Lists
-leaf_lists number specs may b page =
-    if is_live_leaf page then items_lists number specs may b page else nothing
+unfoldable pub leaf_lists : (number : ℕ) → TreeColumns → (Tid → Bool) → (b : ℕ) → List ℕ → Lists
+leaf_lists number columns may b page =
+    if is_live_leaf page then items_lists number columns may b page else nothing
 
 -- all blocks but the metapage, by their numbers
-unfoldable pub leaves_lists : (number : ℕ) → List KeySpec → (Tid → Bool) → (blocks : ℕ) → (ℕ → List ℕ) → Lists
-leaves_lists number specs may blocks block =
-    each_upto report_lists (λ b. leaf_lists number specs may b (block b)) (blocks - 1)
+unfoldable pub leaves_lists : (number : ℕ) → TreeColumns → (Tid → Bool) → (blocks : ℕ) → (ℕ → List ℕ) → Lists
+leaves_lists number columns may blocks block =
+    each_upto report_lists (λ b. leaf_lists number columns may b (block b)) (blocks - 1)
 
 -- Index n of a case
 
@@ -98,7 +99,8 @@ rows_lists case names n =
 -- the entries by block, item and place in the item: X2
 unfoldable pub entries_lists : CaseRecord → Names → ℕ → Lists
 entries_lists case names n =
-    leaves_lists n (keys_of case n) (may_be_named case names) (tree_of case names n).blocks (tree_of case names n).block
+    leaves_lists n (case_columns case n) (may_be_named case names) (tree_of case names n).blocks
+    (tree_of case names n).block
 
 -- both
 unfoldable pub indexed_lists : CaseRecord → Names → ℕ → Lists

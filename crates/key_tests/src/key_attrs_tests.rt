@@ -7,7 +7,7 @@ use crate::checks::{holds, same};
 use key_orders::{ColType, KeySpec, MoreSpec, ValueRef};
 use std::process::Abort;
 use std::test::Fail;
-use varlena_attrs::{KeyFault, entry_attributes, key_attributes};
+use varlena_attrs::{IndexColumns, KeyFault, entry_attributes, key_attributes};
 
 const NUMBER: KeySpec = KeySpec {
     column: 0,
@@ -57,10 +57,11 @@ fn expect_keys(rt: &impl Abort, specs: &[KeySpec], rows: &[KeyRow])
     requires few { length specs.now ≤ 8 }
     requires aligned { All HasAlignment (key_types specs.now) }
 {
+    let columns = IndexColumns::new(specs, &[]);
     let mut row = 0u32;
     for (body, nulls, want) in rows {
         row = row.wrapping_add(1);
-        let same = match (key_attributes(specs, body, *nulls, 2), want) {
+        let same = match (key_attributes(&columns, body, *nulls, 2), want) {
             (Ok(key), Ok((number, text))) => are_number_and_text(key.as_slice(), *number, text),
             (Err(fault), Err(other)) => fault == *other,
             (Ok(_), Err(_)) | (Err(_), Ok(_)) => false,
@@ -132,7 +133,8 @@ const MORE: MoreSpec = MoreSpec {
 
 #[test]
 fn included_columns(rt: HostRuntime) -> Result<(), Fail> {
-    let Ok((key, rest)) = entry_attributes(&[NUMBER], &[MORE], b"\x05\0\0\0\x07hi", None) else {
+    let columns = IndexColumns::new(&[NUMBER], &[MORE]);
+    let Ok((key, rest)) = entry_attributes(&columns, b"\x05\0\0\0\x07hi", None) else {
         return Err(Fail::from("no values"));
     };
     let both = match (key.as_slice(), rest.as_slice()) {
@@ -140,7 +142,7 @@ fn included_columns(rt: HostRuntime) -> Result<(), Fail> {
         _ => false,
     };
     holds(&rt, both, 0);
-    let Err(fault) = entry_attributes(&[NUMBER], &[MORE], b"\x05\0\0\0", None) else {
+    let Err(fault) = entry_attributes(&columns, b"\x05\0\0\0", None) else {
         return Err(Fail::from("no fault"));
     };
     same(&rt, &fault, &KeyFault::PastEnd { column: 2 }, 1);

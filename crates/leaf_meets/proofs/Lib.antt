@@ -1,2 +1,3 @@
+pub mod FirstTold
 pub mod Meets
 pub mod PlainKeys

@@ -6,7 +6,7 @@ use Rattle.key_orders.specs.declared.columns.Value.{Value}
 use Rattle.key_orders.specs.declared.Tid.{Tid}
 use Rattle.bt_tuples.specs.Items.{Posting}
 use Rattle.tree_image.specs.Image.{keys_in as entries_in}
-use Rattle.key_orders.specs.declared.columns.KeySpec.{KeySpec}
+use Rattle.varlena_attrs.specs.Columns.{TreeColumns}
 use Rattle.tree_image.specs.Image.{page_keys}
 use Rattle.bt_steps.specs.Pages.{is_live_leaf}
 use Rattle.bt_steps.proofs.Items.{entry_with}
@@ -75,10 +75,10 @@ taken (x ∷ xs) (suc k) e is =
     ap (λ (m : ℕ). take m (x ∷ xs)) n ∙ ap (λ (l : List (Entry Value Tid)). x ∷ l) (taken xs k e is)
 
 -- a page that is no leaf in use has none, and one that is those of its items
-pub no-leaf : (specs : List KeySpec) (page : List ℕ) → is_live_leaf page ≡ false → leaf_keys specs page ≡ []
+pub no-leaf : (columns : TreeColumns) (page : List ℕ) → is_live_leaf page ≡ false → leaf_keys columns page ≡ []
 unfolding leaf_keys
-no-leaf specs page none = ap (λ (live : Bool). if live then page_keys specs [] page else []) none
+no-leaf columns page none = ap (λ (live : Bool). if live then page_keys columns.specs columns.more page else []) none
 
-pub a-leaf : (specs : List KeySpec) (page : List ℕ) → is_live_leaf page ≡ true → leaf_keys specs page ≡ page_keys specs [] page
+pub a-leaf : (columns : TreeColumns) (page : List ℕ) → is_live_leaf page ≡ true → leaf_keys columns page ≡ page_keys columns.specs columns.more page
 unfolding leaf_keys
-a-leaf specs page live = ap (λ (l : Bool). if l then page_keys specs [] page else []) live
+a-leaf columns page live = ap (λ (l : Bool). if l then page_keys columns.specs columns.more page else []) live

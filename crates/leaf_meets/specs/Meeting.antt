@@ -3,9 +3,9 @@ use Rattle.std.specs.Prelude.{◌≡◌, ℕ, Bool, not, List, [], map, filter, 
 use Rattle.std.specs.List.{flat_map}
 use Rattle.tree_search.specs.Keys.{Entry}
 use Rattle.tree_search.specs.Search.{tree_blocks}
-use Rattle.key_orders.specs.declared.columns.KeySpec.{KeySpec}
 use Rattle.key_orders.specs.declared.columns.Value.{Value}
 use Rattle.key_orders.specs.declared.Tid.{Tid}
+use Rattle.varlena_attrs.specs.Columns.{TreeColumns}
 use Rattle.tree_image.specs.Image.{page_keys}
 use Rattle.bt_steps.specs.Pages.{is_live_leaf}
 use Rattle.row_slots.specs.Met.{Keyed, keyed, met_after}
@@ -28,9 +28,9 @@ pub record HaveMet (es : List (Entry Value Tid)) (old new : Tables) : Type 0 whe
   pub range : SameRange old new
 
 -- the entries of a page of an index, if it is a leaf in use that isn't half-dead
-unfoldable pub leaf_keys : List KeySpec → List ℕ → List (Entry Value Tid)
-leaf_keys specs page = if is_live_leaf page then page_keys specs [] page else []
+unfoldable pub leaf_keys : TreeColumns → List ℕ → List (Entry Value Tid)
+leaf_keys columns page = if is_live_leaf page then page_keys columns.specs columns.more page else []
 
 -- those of all blocks but the metapage, by their numbers
-unfoldable pub all_keys : List KeySpec → (blocks : ℕ) → (ℕ → List ℕ) → List (Entry Value Tid)
-all_keys specs blocks block = flat_map (λ b. leaf_keys specs (block b)) (tree_blocks blocks)
+unfoldable pub all_keys : TreeColumns → (blocks : ℕ) → (ℕ → List ℕ) → List (Entry Value Tid)
+all_keys columns blocks block = flat_map (λ b. leaf_keys columns (block b)) (tree_blocks blocks)

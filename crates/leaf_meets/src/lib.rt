@@ -1,6 +1,8 @@
 //! The entries of the leaves of an index, each of which meets the row that it names, if that has its key.
 #![tactic(auto)]
 
+mod ahead;
 mod meet;
 
+pub use ahead::RowsAhead;
 pub use meet::meet_page;

@@ -1,6 +1,8 @@
 -- How rows are kept: a slot for each line pointer, block after block, with the place of the key of the row that is
 -- rooted there; the keys side by side; and a bit for each slot, whether its row was met. Slots count from 0.
-use Rattle.std.specs.Prelude.{◌≡◌, ℕ, ◌+◌, ◌-◌, ◌*◌, ◌<◌, ◌≤◌, ◌≢◌, Bool, true, false, cond, nat_le, nat_lt, ◌==◌, ◌&&◌, ◌||◌, List, [], ◌∷◌, ◌++◌, length, get_or, drop, replicate, Option, Some, None, All}
+use Rattle.std.specs.Prelude.{◌≡◌, ◌≢◌, ◌+◌, ◌-◌, ◌*◌, ◌<◌, ◌≤◌, ◌==◌, ◌&&◌, ◌||◌, ◌∷◌, ◌++◌, [], ℕ}
+use Rattle.std.specs.Prelude.{All, Bool, List, None, Option, Some, cond, drop, false, get_or, length, nat_le, nat_lt}
+use Rattle.std.specs.Prelude.{replicate, true}
 use Rattle.key_orders.specs.declared.Tid.{Tid}
 use Rattle.key_orders.specs.declared.columns.Value.{Value}
 use Rattle.stored_keys.specs.Stored.{IsStorable, key_read, stored_key}
@@ -78,8 +80,8 @@ pub record AddsBlock (starts records : List ℕ) (items : ℕ) (new_starts new_r
   pub starts_are : new_starts ≡ starts ++ (length records + items) ∷ []
   pub records_are : new_records ≡ records ++ replicate items 0
 
--- What contracts see of the slots: the tables, which clauses read by these words alone: the first block, how many blocks
--- there are, which line pointers have a slot, the key of the row that is rooted at each, and whether it was met.
+-- What contracts see of the slots: the tables, which clauses read by these words alone: the first block, how many
+-- blocks there are, which line pointers have a slot, the key of the row that is rooted at each, and whether it was met.
 pub record Tables : Type 0 where
   pub first : ℕ
   pub starts : List ℕ

@@ -1,9 +1,8 @@
 //! The slots of a range of heap blocks.
-ghost use Rattle.std.specs.Prelude.{◌≡◌, ◌≤◌, All, List, None, Ok, Some, false, length, true, IfOk, IfSome, OnErr, OnOk};
+ghost use Rattle.std.specs.Prelude.{◌≡◌, List, None, Ok, Some, false, true};
+ghost use Rattle.std.specs.Prelude.{IfOk, IfSome, OnErr, OnOk};
 ghost use Rattle.std.specs.Bool.{OnFalse, OnTrue};
-ghost use Rattle.key_orders.specs.Types.{HasAlignment};
 ghost use Rattle.key_orders.specs.declared.columns.Value.{Value as Shown};
-ghost use Rattle.varlena_attrs.specs.Keyed.{key_types};
 ghost use Rattle.row_slots.specs.Met.{keyed, met_by};
 ghost use Rattle.row_slots.specs.Slots.{AreAllMet, HasBlock, IsBegun, SameRange, keys_in, keys_with, met_in};
 ghost use Rattle.row_slots.specs.Told.{TellsKey};
@@ -13,10 +12,11 @@ use crate::blocks::add_block_in;
 use crate::slots::{
     Kept, bytes_at, find, is_kept_in, is_met_in, meet_in, meet_plain_in, places_of, put_at,
 };
-use key_orders::{KeyRefs, KeySpec, Tid};
+use key_orders::{KeyRefs, Tid};
 use outside::NoMemory;
 use std::alloc::Global;
 use std::marker::Model;
+use varlena_attrs::IndexColumns;
 
 /// The rows of a range of heap blocks, each by the line pointer at which it is rooted, with its key and with whether an
 /// entry met it. Contracts see functions of a TID, and the blocks of the range.
@@ -118,8 +118,8 @@ impl RowSlots {
         Ok(true)
     }
 
-    /// Reads what looks for the rows that are rooted at these line pointers will read, of the first 512 of them, so that
-    /// it is at hand then: first all slots and then all keys, so that none of them is waited for alone.
+    /// Reads what looks for the rows that are rooted at these line pointers will read, of the first 512 of them, so
+    /// that it is at hand then: first all slots and then all keys, so that none of them is waited for alone.
     pub fn touch(&mut self, tids: &[Tid])
         ensures { self.new ≡ self.old }
     {
@@ -152,10 +152,8 @@ impl RowSlots {
     /// Does the same for the key of an index tuple without null bits, which has this body, where its bytes tell as they
     /// lie whether it is the row's. `false` says that they don't, and then nothing changes.
     #[inline]
-    pub fn meet_plain(&mut self, tid: Tid, specs: &[KeySpec], body: &[u8]) -> bool
-        requires few { length specs.now ≤ 8 }
-        requires aligned { All HasAlignment (key_types specs.now) }
-        ensures met { OnTrue result ((key : List Shown) → TellsKey specs.now body.now key
+    pub fn meet_plain(&mut self, tid: Tid, columns: &IndexColumns<'_>, body: &[u8]) -> bool
+        ensures met { OnTrue result ((key : List Shown) → TellsKey columns.now.specs.now body.now key
             → met_in self.new ≡ met_by (keys_in self.old) (met_in self.old) (keyed tid key)) }
         ensures same { OnFalse result (met_in self.new ≡ met_in self.old) }
         ensures keys { keys_in self.new ≡ keys_in self.old }
@@ -167,7 +165,7 @@ impl RowSlots {
             records: &self.records,
             arena: &self.arena,
         };
-        meet_plain_in(kept, &mut self.bits, tid, specs, body)
+        meet_plain_in(kept, &mut self.bits, tid, columns, body)
     }
 
     /// Whether the row that is rooted at a line pointer and has this key was met; `None` where no such row is kept.

@@ -1,19 +1,18 @@
 //! Steps over the tables.
-ghost use Rattle.std.specs.Prelude.{◌≡◌, ◌+◌, ◌++◌, ◌<◌, ◌≤◌, [], Ok, None, All, List, drop, length, slice_set, OnErr, OnOk, true};
+ghost use Rattle.std.specs.Prelude.{◌≡◌, ◌+◌, ◌++◌, ◌<◌, ◌≤◌, [], All, List, drop, length, slice_set};
+ghost use Rattle.std.specs.Prelude.{None, Ok, OnErr, OnOk, true};
 ghost use Rattle.std.specs.Bool.{OnFalse, OnTrue};
-ghost use Rattle.key_orders.specs.Types.{HasAlignment};
 ghost use Rattle.key_orders.specs.declared.columns.Value.{Value as Shown};
 ghost use Rattle.stored_keys.specs.Stored.{IsStorable, stored_key};
-ghost use Rattle.varlena_attrs.specs.Keyed.{key_types};
 ghost use Rattle.row_slots.specs.Met.{is_key, keyed, met_by};
 ghost use Rattle.row_slots.specs.Slots.{AreBits, AreStarts, found_slot, key_of, keys_of, mets_of};
 ghost use Rattle.row_slots.specs.Told.{TellsKey};
 
 use crate::bits::{is_set, set_bit};
-use key_orders::{KeyRefs, KeySpec, Tid};
+use key_orders::{KeyRefs, Tid};
 use outside::NoMemory;
 use stored_keys::{is_stored, write_key};
-use varlena_attrs::has_stored_key;
+use varlena_attrs::{IndexColumns, has_stored_key};
 
 /// Which rows are kept, and their keys.
 #[derive(Clone, Copy)]
@@ -107,10 +106,8 @@ pub(crate) fn holds(arena: &[u8], place: u32, key: &KeyRefs<'_>) -> bool
 // Whether a slot says that the key lies there that an index tuple without null bits has, whose body this is. `false`
 // says nothing.
 #[inline]
-fn holds_plain(arena: &[u8], place: u32, specs: &[KeySpec], body: &[u8]) -> bool
-    requires few { length specs.now ≤ 8 }
-    requires aligned { All HasAlignment (key_types specs.now) }
-    ensures { OnTrue result ((key : List Shown) → TellsKey specs.now body.now key
+fn holds_plain(arena: &[u8], place: u32, columns: &IndexColumns<'_>, body: &[u8]) -> bool
+    ensures { OnTrue result ((key : List Shown) → TellsKey columns.now.specs.now body.now key
         → is_key key (key_of arena.now place) ≡ true) }
 {
     if place == 0 {
@@ -118,7 +115,7 @@ fn holds_plain(arena: &[u8], place: u32, specs: &[KeySpec], body: &[u8]) -> bool
     }
     match bytes_from(arena, place - 1).split_first() {
         Some((count, values)) => {
-            *count as usize == specs.len() && has_stored_key(specs, body, values)
+            *count as usize == columns.specs.len() && has_stored_key(columns, body, values)
         }
         None => false,
     }
@@ -150,14 +147,12 @@ pub(crate) fn meet_plain_in(
     kept: Kept<'_>,
     bits: &mut [u8],
     tid: Tid,
-    specs: &[KeySpec],
+    columns: &IndexColumns<'_>,
     body: &[u8],
 ) -> bool
     requires starts { AreStarts kept.starts.now kept.records.now }
     requires bits { AreBits kept.records.now bits.old }
-    requires few { length specs.now ≤ 8 }
-    requires aligned { All HasAlignment (key_types specs.now) }
-    ensures met { OnTrue result ((key : List Shown) → TellsKey specs.now body.now key
+    ensures met { OnTrue result ((key : List Shown) → TellsKey columns.now.specs.now body.now key
         → mets_of kept.entry.first kept.entry.starts.now bits.new
         ≡ met_by (keys_of kept.entry.first kept.entry.starts.now kept.entry.records.now kept.entry.arena.now)
         (mets_of kept.entry.first kept.entry.starts.now bits.old) (keyed tid key)) }
@@ -171,7 +166,7 @@ pub(crate) fn meet_plain_in(
     if place == 0 {
         return true;
     }
-    if !holds_plain(kept.arena, place, specs, body) {
+    if !holds_plain(kept.arena, place, columns, body) {
         return false;
     }
     set_bit(bits, slot);
@@ -193,7 +188,8 @@ pub(crate) fn is_met_in(kept: Kept<'_>, bits: &[u8], tid: Tid) -> bool
 /// Whether this key is kept for the row that is rooted there.
 pub(crate) fn is_kept_in(kept: Kept<'_>, tid: Tid, key: &KeyRefs<'_>) -> bool
     requires starts { AreStarts kept.starts.now kept.records.now }
-    ensures { result ≡ is_key key.now (keys_of kept.entry.first kept.entry.starts.now kept.entry.records.now kept.entry.arena.now tid) }
+    ensures { result ≡ is_key key.now
+        (keys_of kept.entry.first kept.entry.starts.now kept.entry.records.now kept.entry.arena.now tid) }
 {
     match find(kept.first, kept.starts, tid) {
         Some(slot) => holds(kept.arena, kept.records[slot], key),

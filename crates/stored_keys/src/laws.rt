@@ -4,8 +4,8 @@ ghost use Rattle.key_orders.specs.declared.columns.Value.{Value as Shown};
 ghost use Rattle.stored_keys.specs.Same.{same_key};
 ghost use Rattle.stored_keys.specs.Stored.{IsStorable, key_read, stored_key};
 
-/// A key that is stored is read back, whatever stands behind it (`back`), and the test of two keys says whether they are
-/// equal (`same`).
+/// A key that is stored is read back, whatever stands behind it (`back`), and the test of two keys says whether they
+/// are equal (`same`).
 #[tactic(auto, using(crate::proofs::StoredLaws::key_back, crate::proofs::SameLaws::keys_decide))]
 pub fn keys_are_read_back()
     ensures back { (key : List Shown) (rest : List ℕ) → length key ≤ 8 → All IsStorable key

@@ -1,5 +1,5 @@
-//! Keys of rows among bytes: written behind one another in a form of their own, read where they lie, and compared with a
-//! key at hand.
+//! Keys of rows among bytes: written behind one another in a form of their own, read where they lie, and compared with
+//! a key at hand.
 #![tactic(auto)]
 
 mod laws;

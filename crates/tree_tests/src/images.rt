@@ -5,6 +5,7 @@ use page_layout::{PageKind, PageView};
 use test_files::IndexTuple::{Above, Entry, First};
 use test_files::{INNER, IndexTuple, LEAF, TreePage, tree_page};
 use tree_image::{ItemPlaces, breaks_high_key, breaks_order, first_data, has_high_key, spot_of};
+use varlena_attrs::IndexColumns;
 
 // A leaf of two tuples without a right sibling, one with a right sibling, and an internal page.
 fn leaf(tuples: &[IndexTuple; 2]) -> [u8; 8192] {
@@ -31,9 +32,10 @@ fn broken(bytes: &[u8; 8192]) -> Option<(bool, bool)> {
         return None;
     }
     let specs = [INT4];
+    let columns = IndexColumns::new(&specs, &[]);
     let (mut first, mut second) = (ItemKeys::new(), ItemKeys::new());
-    first.read(page, 1, &specs, &[], spot_of(page, 1)).ok()?;
-    second.read(page, 2, &specs, &[], spot_of(page, 2)).ok()?;
+    first.read(page, 1, &columns, spot_of(page, 1)).ok()?;
+    second.read(page, 2, &columns, spot_of(page, 2)).ok()?;
     first.keep_last();
     let order = breaks_order(ItemPlaces::of(page).at(2), &specs, &first.first, &second);
     second.keep_last();

@@ -8,6 +8,7 @@ use key_orders::{ColType, KeySpec, MoreSpec, Tid, ValueRef};
 use page_layout::{PageKind, PageView, Rule};
 use std::process::Abort;
 use test_files::Page;
+use varlena_attrs::IndexColumns;
 
 // The line pointers of the one item of a page: at byte 8128, normal, of 16, 24 and 32 bytes; dead, of
 // 16 and 32; at byte 8132; of 4 bytes; redirected; unused.
@@ -77,13 +78,13 @@ fn read<'p>(
         ..INT4
     }];
     let Some(included) = included else {
-        return tree_item(page, i, &specs, &[], spot);
+        return tree_item(page, i, &IndexColumns::new(&specs, &[]), spot);
     };
     let more = [MoreSpec {
         column: 1,
         ctype: type_of(included),
     }];
-    tree_item(page, i, &specs, &more, spot)
+    tree_item(page, i, &IndexColumns::new(&specs, &more), spot)
 }
 
 // The only value of a list: `None` where there is none, `Some(None)` where it is null, and where it is no number or not
@@ -154,7 +155,7 @@ fn prefix(rt: &impl Abort, i: u16) -> Option<u64> {
     let page = PageView::new(&bytes);
     assert!(rt; page.page_rule(PageKind::Tree).is_none());
     assert!(rt; 1 <= i && i <= page.item_count());
-    plain_entry_prefix(page, i, &[INT4])
+    plain_entry_prefix(page, i, &IndexColumns::new(&[INT4], &[]))
 }
 
 #[test]

@@ -9,6 +9,7 @@ use key_orders::{ColType, KeyRefs, KeySpec, Tid, ValueRef, fits_columns};
 use page_layout::{PageKind, PageView};
 use test_files::IndexTuple::{Above, Entry, First};
 use test_files::{INNER, LEAF, TreePage, tree_page};
+use varlena_attrs::IndexColumns;
 
 /// A key column of int4.
 pub const INT4: KeySpec = KeySpec {
@@ -52,7 +53,11 @@ fn found(bytes: &[u8; 8192], value: i64, item: u16) -> Option<Place> {
     if page.page_rule(PageKind::Tree).is_some() {
         return None;
     }
-    find_on(page, &specs, Sought { key: &key, tid })
+    find_on(
+        page,
+        &IndexColumns::new(&specs, &[]),
+        Sought { key: &key, tid },
+    )
 }
 
 // Where a search for such an entry goes from a page.
@@ -60,7 +65,8 @@ fn step(bytes: &[u8; 8192], value: i64, item: u16) -> Option<Step> {
     let specs = [INT4];
     let key = key_for(&specs, value)?;
     let tid = Tid { block: 0, item };
-    Some(step_on(PageView::new(bytes), &specs, &Sought { key: &key, tid }))
+    let columns = IndexColumns::new(&specs, &[]);
+    Some(step_on(PageView::new(bytes), &columns, &Sought { key: &key, tid }))
 }
 
 const ENTRIES: [(i64, u16, Option<(u16, u16)>); 10] = [

@@ -14,7 +14,7 @@ use Rattle.key_orders.specs.declared.columns.ColType.TheVariants.{Bool as BoolTy
 use Rattle.key_orders.specs.declared.columns.KeySpec.{KeySpec}
 use Rattle.key_orders.specs.declared.columns.Value.{Value}
 use Rattle.key_orders.specs.declared.more.MoreSpec.{MoreSpec}
-use Rattle.varlena_attrs.specs.declared.keyed.IndexColumns.{IndexColumns}
+use Rattle.varlena_attrs.specs.declared.keyed.IndexTuple.{IndexTuple}
 use Rattle.varlena_attrs.specs.declared.keyed.KeyFault.{KeyFault}
 use Rattle.varlena_attrs.specs.declared.places.AttrPlace.{AttrPlace}
 use Rattle.varlena_attrs.specs.declared.places.AttrPlace.TheVariants as at
@@ -122,7 +122,7 @@ or_none : (o : Option ℕ) → option_or o None ≡ o
 or_none (Some n) = refl
 or_none None = refl
 
-pub told_all : (columns : IndexColumns) (values : List Value) (packed : Option ℕ) → columns.packed ≡ packed → told_by columns values [] ≡ unless_packed packed values
+pub told_all : (columns : IndexTuple) (values : List Value) (packed : Option ℕ) → columns.packed ≡ packed → told_by columns values [] ≡ unless_packed packed values
 told_all columns values packed is =
     ap (told_after values columns.packed columns.column []) (read_inline-nil (option_copied columns.nulls) columns.natts columns.body.now columns.column columns.place)
     ∙ (λ i. unless_packed ((or_none columns.packed ∙ is) i) (append-nil values i))

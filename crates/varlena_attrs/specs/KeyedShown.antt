@@ -5,7 +5,7 @@ use Rattle.key_orders.specs.declared.columns.ColType.{ColType}
 use Rattle.key_orders.specs.declared.columns.Value.{Value}
 use Rattle.key_orders.specs.Types.{HasLength}
 use Rattle.varlena_attrs.specs.declared.forms.Found.{Found}
-use Rattle.varlena_attrs.specs.declared.keyed.IndexColumns.{IndexColumns}
+use Rattle.varlena_attrs.specs.declared.keyed.IndexTuple.{IndexTuple}
 use Rattle.varlena_attrs.specs.declared.keyed.KeyFault.{KeyFault}
 use Rattle.varlena_attrs.specs.declared.places.AttrPlace.{AttrPlace}
 use Rattle.varlena_attrs.specs.declared.places.AttrPlace.TheVariants as place
@@ -37,7 +37,7 @@ told_after values packed k types (Ok list) =
 told_after values packed k types (Err e) = Err e
 
 -- the same, where the columns were read so far, and columns of these types are left
-abbrev pub told_by : IndexColumns → List Value → List ColType → KeyValues
+abbrev pub told_by : IndexTuple → List Value → List ColType → KeyValues
 told_by c values types =
     told_after values c.packed c.column types
     (read_inline types (option_copied c.nulls) c.natts c.body.now c.column c.place)

@@ -6,6 +6,7 @@ pub mod Shown
 pub mod Inline
 pub mod Laws
 pub mod Keyed
+pub mod Columns
 pub mod KeyedShown
 pub mod FirstValues
 pub mod KeyLaws

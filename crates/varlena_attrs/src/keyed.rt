@@ -9,6 +9,7 @@ ghost use Rattle.key_orders.specs.Values.{value_shown};
 ghost use Rattle.key_orders.specs.declared.columns.ColType.{ColType as Column};
 ghost use Rattle.key_orders.specs.declared.columns.Value.{Value};
 ghost use Rattle.varlena_attrs.specs.Attributes.{presence_of};
+ghost use Rattle.varlena_attrs.specs.Columns.{all_types};
 ghost use Rattle.varlena_attrs.specs.KeyLaws.{SaysOfAttributes};
 ghost use Rattle.varlena_attrs.specs.Keyed.{attribute_value, inline_step, is_packed, key_types, key_values, more_types};
 ghost use Rattle.varlena_attrs.specs.Keyed.{unless_external};
@@ -17,6 +18,7 @@ ghost use Rattle.varlena_attrs.specs.KeyedShown.{told_by};
 ghost use Rattle.varlena_attrs.specs.Reading.{attribute_at};
 ghost use Rattle.varlena_attrs.specs.Shown.{IsFoundWithin, IsWithin, shown_at};
 
+use crate::columns::IndexColumns;
 use crate::forms::{Cause, Found, attribute_at, is_null};
 use crate::places::AttrPlace;
 use crate::plain::plain_piece;
@@ -52,7 +54,7 @@ impl Cause {
 
 // An index tuple, and how far its columns are read.
 #[derive(Drop)]
-struct IndexColumns<'p> {
+struct IndexTuple<'p> {
     body: &'p [u8],
     nulls: Option<&'p [u8]>,
     natts: u16,
@@ -110,16 +112,16 @@ fn unless_external(found: Found, column: u16) -> Result<Found, KeyFault>
 
 // A key is written once and copied as little as can be: a copy of one that was just written has to wait
 // for the writes. So what a tree's items are read by is always inline.
-impl<'p> IndexColumns<'p> {
+impl<'p> IndexTuple<'p> {
     // A tuple of so many columns, of which none is read.
     #[inline]
-    fn new(body: &'p [u8], nulls: Option<&'p [u8]>, natts: u16) -> IndexColumns<'p>
+    fn new(body: &'p [u8], nulls: Option<&'p [u8]>, natts: u16) -> IndexTuple<'p>
         ensures told { (types : List Column) → length types ≡ natts
             → told_by result [] types ≡ key_values types body.now (option_copied nulls.entry) }
         ensures place { result.place ≤ length result.body.now }
         ensures column { result.column ≡ 0 }
     {
-        IndexColumns {
+        IndexTuple {
             body,
             nulls,
             natts,
@@ -252,20 +254,19 @@ fn read_plain_key<'p>(specs: &[KeySpec], body: &'p [u8], key: &mut KeyRefs<'p>) 
 /// and names the first such column and the first cause there. `Packed` comes exactly where all can be
 /// read and one is compressed, and names the first such column.
 pub fn key_attributes<'p>(
-    specs: &[KeySpec],
+    columns: &IndexColumns<'_>,
     body: &'p [u8],
     nulls: Option<&'p [u8]>,
     kept: u16,
 ) -> Result<KeyRefs<'p>, KeyFault>
-    requires few { length specs.now ≤ 8 }
-    requires kept { kept ≤ length specs.now }
-    requires aligned { All HasAlignment (key_types specs.now) }
-    ensures value { result ≡ key_values (key_types (take kept specs.now)) body.now (option_copied nulls.entry) }
+    requires kept { kept ≤ length columns.now.specs.now }
+    ensures value { result
+        ≡ key_values (key_types (take kept columns.now.specs.now)) body.now (option_copied nulls.entry) }
     ensures count { IfOk result (λ key. length key ≡ kept) }
-    ensures fits { IfOk result (λ key. fits_columns specs.now key ≡ true) }
+    ensures fits { IfOk result (λ key. fits_columns columns.now.specs.now key ≡ true) }
 {
     let mut key = KeyRefs::new();
-    read_key_attributes(specs, body, nulls, kept, &mut key)?;
+    read_key_attributes(columns, body, nulls, kept, &mut key)?;
     Ok(key)
 }
 
@@ -273,23 +274,21 @@ pub fn key_attributes<'p>(
 /// then. After a fault it has some of them.
 #[inline(always)]
 pub fn read_key_attributes<'p>(
-    specs: &[KeySpec],
+    columns: &IndexColumns<'_>,
     body: &'p [u8],
     nulls: Option<&'p [u8]>,
     kept: u16,
     key: &mut KeyRefs<'p>,
 ) -> Result<(), KeyFault>
-    requires few { length specs.now ≤ 8 }
-    requires kept { kept ≤ length specs.now }
-    requires aligned { All HasAlignment (key_types specs.now) }
+    requires kept { kept ≤ length columns.now.specs.now }
     ensures value { IfOk result (λ u.
-        key_values (key_types (take kept specs.now)) body.now (option_copied nulls.entry) ≡ Ok key.new) }
+        key_values (key_types (take kept columns.now.specs.now)) body.now (option_copied nulls.entry) ≡ Ok key.new) }
     ensures fault { IfErr result (λ e.
-        key_values (key_types (take kept specs.now)) body.now (option_copied nulls.entry) ≡ Err e) }
+        key_values (key_types (take kept columns.now.specs.now)) body.now (option_copied nulls.entry) ≡ Err e) }
     ensures count { IfOk result (λ u. length key.new ≡ kept) }
-    ensures fits { IfOk result (λ u. fits_columns specs.now key.new ≡ true) }
+    ensures fits { IfOk result (λ u. fits_columns columns.now.specs.now key.new ≡ true) }
 {
-    let specs = &specs[..kept as usize];
+    let specs = &columns.specs[..kept as usize];
     if nulls.is_none() && read_plain_key(specs, body, key) {
         return Ok(());
     }
@@ -315,9 +314,9 @@ fn read_any_key<'p>(
     ensures count { IfOk result (λ u. length key.new ≡ length specs.now) }
     ensures fits { IfOk result (λ u. fits_columns specs.now key.new ≡ true) }
 {
-    let mut columns = IndexColumns::new(body, nulls, specs.len() as u16);
-    columns.read_key(specs, key)?;
-    match columns.packed {
+    let mut tuple = IndexTuple::new(body, nulls, specs.len() as u16);
+    tuple.read_key(specs, key)?;
+    match tuple.packed {
         Some(column) => Err(KeyFault::Packed { column }),
         None => Ok(()),
     }
@@ -328,29 +327,23 @@ fn read_any_key<'p>(
 /// [`key_attributes`] over both; after one the place has some values of the key.
 #[tactic(auto, unfolding(crate::specs::Keyed::key_values))]
 pub fn read_entry_attributes<'p>(
-    specs: &[KeySpec],
-    more: &[MoreSpec],
+    columns: &IndexColumns<'_>,
     body: &'p [u8],
     nulls: Option<&'p [u8]>,
     key: &mut KeyRefs<'p>,
 ) -> Result<MoreRefs<'p>, KeyFault>
-    requires few { length specs.now ≤ 8 }
-    requires few_more { length more.now ≤ 24 }
-    requires aligned { All HasAlignment (key_types specs.now) }
-    requires aligned_more { All HasAlignment (more_types more.now) }
     ensures value { IfOk result (λ rest.
-        key_values (key_types specs.now ++ more_types more.now) body.now (option_copied nulls.entry)
-        ≡ Ok (key.new ++ rest)) }
+        key_values (all_types columns.now) body.now (option_copied nulls.entry) ≡ Ok (key.new ++ rest)) }
     ensures fault { IfErr result (λ e.
-        key_values (key_types specs.now ++ more_types more.now) body.now (option_copied nulls.entry) ≡ Err e) }
-    ensures count { IfOk result (λ rest. length key.new ≡ length specs.now) }
-    ensures fits { IfOk result (λ rest. fits_columns specs.now key.new ≡ true) }
+        key_values (all_types columns.now) body.now (option_copied nulls.entry) ≡ Err e) }
+    ensures count { IfOk result (λ rest. length key.new ≡ length columns.now.specs.now) }
+    ensures fits { IfOk result (λ rest. fits_columns columns.now.specs.now key.new ≡ true) }
 {
-    let count = specs.len() as u16 + more.len() as u16;
-    let mut columns = IndexColumns::new(body, nulls, count);
-    columns.read_key(specs, key)?;
-    let rest = columns.read_more(more)?;
-    match columns.packed {
+    let count = columns.specs.len() as u16 + columns.more.len() as u16;
+    let mut tuple = IndexTuple::new(body, nulls, count);
+    tuple.read_key(columns.specs, key)?;
+    let rest = tuple.read_more(columns.more)?;
+    match tuple.packed {
         Some(column) => Err(KeyFault::Packed { column }),
         None => Ok(rest),
     }
@@ -359,22 +352,16 @@ pub fn read_entry_attributes<'p>(
 /// The values of all columns of a leaf's index tuple, where they lie: those of the key, and after
 /// them those that the index includes. Faults are those of [`key_attributes`] over both.
 pub fn entry_attributes<'p>(
-    specs: &[KeySpec],
-    more: &[MoreSpec],
+    columns: &IndexColumns<'_>,
     body: &'p [u8],
     nulls: Option<&'p [u8]>,
 ) -> Result<(KeyRefs<'p>, MoreRefs<'p>), KeyFault>
-    requires few { length specs.now ≤ 8 }
-    requires few_more { length more.now ≤ 24 }
-    requires aligned { All HasAlignment (key_types specs.now) }
-    requires aligned_more { All HasAlignment (more_types more.now) }
-    ensures value { entry_shown result
-        ≡ key_values (key_types specs.now ++ more_types more.now) body.now (option_copied nulls.entry) }
-    ensures key { IfOk result (λ both. length both.0 ≡ length specs.now) }
-    ensures fits { IfOk result (λ both. fits_columns specs.now both.0 ≡ true) }
+    ensures value { entry_shown result ≡ key_values (all_types columns.now) body.now (option_copied nulls.entry) }
+    ensures key { IfOk result (λ both. length both.0 ≡ length columns.now.specs.now) }
+    ensures fits { IfOk result (λ both. fits_columns columns.now.specs.now both.0 ≡ true) }
 {
     let mut key = KeyRefs::new();
-    let more = read_entry_attributes(specs, more, body, nulls, &mut key)?;
+    let more = read_entry_attributes(columns, body, nulls, &mut key)?;
     Ok((key, more))
 }
 

@@ -7,6 +7,7 @@
 #![tactic(auto)]
 
 mod buffer;
+mod columns;
 mod fault;
 mod forms;
 mod in_turn;
@@ -18,6 +19,7 @@ mod reading;
 mod same;
 
 pub use buffer::AttrBuffer;
+pub use columns::IndexColumns;
 pub use fault::AttrFault;
 pub use in_turn::TupleColumns;
 pub use inline::{ColumnLayout, column_start};
@@ -29,4 +31,4 @@ pub use keyed::{
 pub use places::{Attr, AttrPlace, ToastPointer, pointer_at};
 pub use plain::PlainPiece;
 pub use reading::{Attrs, attributes, attributes_are_unique};
-pub use same::{has_plain_key, has_stored_key, plain_first_value};
+pub use same::{has_stored_key, plain_first_value};

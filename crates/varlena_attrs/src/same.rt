@@ -1,70 +1,27 @@
 //! What the bytes of an index tuple tell of its key as they lie: whether it has the values of another, and its first.
-ghost use Rattle.std.specs.Prelude.{◌≡◌, ◌≤◌, Ok, None, IfSome, length, All};
+ghost use Rattle.std.specs.Prelude.{◌≡◌, Ok, None, IfSome, length};
 ghost use Rattle.std.specs.Bool.{OnTrue};
-ghost use Rattle.key_orders.specs.Types.{HasAlignment};
 ghost use Rattle.key_orders.specs.Values.{value_shown};
 ghost use Rattle.stored_keys.specs.Stored.{values_read};
 ghost use Rattle.varlena_attrs.specs.Keyed.{key_types, key_values};
 ghost use Rattle.varlena_attrs.specs.FirstValues.{BeginsPlainKey};
 
+use crate::columns::IndexColumns;
 use crate::keyed::value_at;
 use crate::plain::plain_piece;
-use key_orders::{KeyRefs, KeySpec, ValueRef};
+use key_orders::ValueRef;
 use stored_keys::after_value;
-
-// Whether two values are the same.
-#[inline(always)]
-fn is_same(a: ValueRef<'_>, b: ValueRef<'_>) -> bool
-    ensures { OnTrue result (value_shown a.entry ≡ value_shown b.entry) }
-{
-    match (a, b) {
-        (ValueRef::Null, ValueRef::Null) => true,
-        (ValueRef::Bool(x), ValueRef::Bool(y)) => x == y,
-        (ValueRef::Int(x), ValueRef::Int(y)) => x == y,
-        (ValueRef::Bytes(x), ValueRef::Bytes(y)) => x == y,
-        _ => false,
-    }
-}
-
-/// Whether an index tuple without null bits, which has this body, has the values of this key as its first ones, where
-/// each of them is found by the least that tells it: a value of a fixed length, or a varlena with a header of one byte.
-/// `false` says nothing.
-#[inline]
-pub fn has_plain_key(specs: &[KeySpec], body: &[u8], key: &KeyRefs<'_>) -> bool
-    requires few { length specs.now ≤ 8 }
-    requires aligned { All HasAlignment (key_types specs.now) }
-    ensures value { OnTrue result (key_values (key_types specs.now) body.now None ≡ Ok key.now) }
-    ensures count { OnTrue result (length key.now ≡ length specs.now) }
-{
-    let values = key.as_slice();
-    if values.len() != specs.len() {
-        return false;
-    }
-    let mut place = 0;
-    for k in 0..specs.len() {
-        let ctype = specs[k].ctype;
-        let Some(piece) = plain_piece(ctype, body, place) else {
-            return false;
-        };
-        let found = piece.found();
-        if !is_same(value_at(ctype, body, found.place), values[k]) {
-            return false;
-        }
-        place = found.next;
-    }
-    true
-}
 
 /// Whether an index tuple without null bits, which has this body, has as its first values those that are stored at the
 /// beginning of these bytes, where each of them is found by the least that tells it: a value of a fixed length, or a
 /// varlena with a header of one byte. `false` says nothing.
 #[inline]
-pub fn has_stored_key(specs: &[KeySpec], body: &[u8], stored: &[u8]) -> bool
-    requires few { length specs.now ≤ 8 }
-    requires aligned { All HasAlignment (key_types specs.now) }
+pub fn has_stored_key(columns: &IndexColumns<'_>, body: &[u8], stored: &[u8]) -> bool
     ensures { OnTrue result
-        (key_values (key_types specs.now) body.now None ≡ Ok (values_read (length specs.now) stored.now)) }
+        (key_values (key_types columns.now.specs.now) body.now None
+        ≡ Ok (values_read (length columns.now.specs.now) stored.now)) }
 {
+    let specs = columns.specs;
     let mut place = 0;
     let mut left = stored;
     for k in 0..specs.len() {
@@ -86,11 +43,10 @@ pub fn has_stored_key(specs: &[KeySpec], body: &[u8], stored: &[u8]) -> bool
 /// found by the least that tells it: a value of a fixed length, or a varlena with a header of one byte. `None` says
 /// nothing.
 #[inline(always)]
-pub fn plain_first_value<'p>(specs: &[KeySpec], body: &'p [u8]) -> Option<ValueRef<'p>>
-    requires few { length specs.now ≤ 8 }
-    requires aligned { All HasAlignment (key_types specs.now) }
-    ensures { IfSome result (λ v. BeginsPlainKey specs.now body.now (value_shown v)) }
+pub fn plain_first_value<'p>(columns: &IndexColumns<'_>, body: &'p [u8]) -> Option<ValueRef<'p>>
+    ensures { IfSome result (λ v. BeginsPlainKey columns.now.specs.now body.now (value_shown v)) }
 {
+    let specs = columns.specs;
     if specs.is_empty() {
         return None;
     }

@@ -1,12 +1,6 @@
-use Rattle.std.proofs.Common.{List, length, ◌≤◌, ◌∙◌, ap, subst, sym, arith}
-use Rattle.std.specs.Prelude.{All}
-use Rattle.std.proofs.lemmas.List.Elements.{All-nil}
+use Rattle.std.proofs.Common.{◌∙◌, ap, subst, sym}
 use Rattle.outside.specs.Adds.{Begins}
 use Rattle.outside.proofs.Adding.{Adds-exit}
-use Rattle.key_orders.specs.declared.columns.KeySpec.{KeySpec}
-use Rattle.key_orders.specs.declared.more.MoreSpec.{MoreSpec}
-use Rattle.key_orders.specs.Types.{HasAlignment}
-use Rattle.varlena_attrs.specs.Keyed.{key_types, more_types}
 use Rattle.rel_files.specs.Relation.{IsRelationOf}
 use Rattle.rel_files.specs.declared.relation.Relation.{Relation}
 use Rattle.attach_files.specs.Refusals.{IsNamed, block_limit}
@@ -15,21 +9,8 @@ use Rattle.reports.specs.Lists.{Lists}
 use Rattle.bt_pages.specs.Broken.{AreEmpty}
 use Rattle.bt_levels.specs.Files.{number_of}
 use Rattle.bt_levels.specs.Index.{index_of, tree_lists}
-use Rattle.bt_levels.proofs.Keys.{aligned-keys, few-keys}
 use Rattle.bt_levels.proofs.Seen.{lists-seen}
 use Rattle.bt_levels.proofs.check.judge_file.Goals as goal
-
-pub judge_index-requires-clause-columns : goal.judge_index-requires-clause-columns
-judge_index-requires-clause-columns g c =
-    let n = number_of c.args.at.now in
-    let r = c.rules_of-tree.ensures in
-    let more = sym r.more in
-    record {
-      few = subst (λ (keys : List KeySpec). length keys ≤ 8) (sym r.specs) (few-keys c.args.case.now n c.sound.ensures c.requires.belong.first c.requires.belong.last);
-      few_more = subst (λ (ms : List MoreSpec). length ms ≤ 24) more (omega arith);
-      aligned = subst (λ (keys : List KeySpec). All HasAlignment (key_types keys)) (sym r.specs) (aligned-keys c.args.case.now n c.sound.ensures c.requires.belong.first c.requires.belong.last);
-      aligned_more = subst (λ (ms : List MoreSpec). All HasAlignment (more_types ms)) more (All-nil HasAlignment);
-    }
 
 pub returns-clause-quiet : goal.returns-clause-quiet
 returns-clause-quiet g c names told =

@@ -7,8 +7,8 @@ use Rattle.bt_pages.proofs.disorder.is_low_item.Goals as goal
 
 pub returns-in-None : goal.returns-in-None
 returns-in-None c =
-    let specs = c.args.specs.now in
-    let more = c.args.more.now in
+    let specs = c.args.columns.now.specs.now in
+    let more = c.args.columns.now.more.now in
     let page = page_bytes c.args.page in
     let number = ap (λ (p : ItemPlace). p.number) (c.at-at.ensures page c.of.ensures) in
     absurd (let both : true ≡ false =

@@ -5,4 +5,4 @@ use Rattle.bt_pages.proofs.disorder.is_past.Goals as goal
 
 pub is_past_high_key-requires-clause-plain : goal.is_past_high_key-requires-clause-plain
 is_past_high_key-requires-clause-plain c =
-    plain-each c.args.specs.now c.args.more.now (page_bytes c.args.page) 1 _ (omega arith) (omega (arith, c.requires.first, c.requires.last)) c.requires.plain
+    plain-each c.args.columns.now.specs.now c.args.columns.now.more.now (page_bytes c.args.page) 1 _ (omega arith) (omega (arith, c.requires.first, c.requires.last)) c.requires.plain

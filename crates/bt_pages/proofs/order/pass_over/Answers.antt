@@ -11,17 +11,17 @@ use Rattle.bt_pages.proofs.order.pass_over.Goals.{then-is_disordered, else-is_di
 pub loop-k-init : goal.loop-k-init
 loop-k-init c = record {
   places = c.new-turns.ensures.places;
-  plain = plain-none c.args.specs.now c.args.more.now (page_bytes c.args.page);
+  plain = plain-none c.args.columns.now.specs.now c.args.columns.now.more.now (page_bytes c.args.page);
   carried = record {
-    fits = subst (IsKeySeparator c.args.specs.now) (sym c.new-turns.ensures.held) (nothing-fits c.args.specs.now);
+    fits = subst (IsKeySeparator c.args.columns.now.specs.now) (sym c.new-turns.ensures.held) (nothing-fits c.args.columns.now.specs.now);
     key_is = λ from. absurd (omega (arith, from));
   };
-  disordered = sym (disordered-none c.args.specs.now c.args.more.now (page_bytes c.args.page));
+  disordered = sym (disordered-none c.args.columns.now.specs.now c.args.columns.now.more.now (page_bytes c.args.page));
 }
 
 pub returns-in-None : goal.returns-in-None
 returns-in-None c =
-    pass-not_plain c.args.specs.now c.args.more.now (page_bytes c.args.page) c.loop-k.k (count_of (page_bytes c.args.page)) _ (omega arith) c.in-None.ensures.plain
+    pass-not_plain c.args.columns.now.specs.now c.args.columns.now.more.now (page_bytes c.args.page) c.loop-k.k (count_of (page_bytes c.args.page)) _ (omega arith) c.in-None.ensures.plain
 
 pub loop-k-preserved : goal.loop-k-preserved
 loop-k-preserved c =
@@ -32,17 +32,17 @@ loop-k-preserved c =
     ] in
     record {
       places = c.read.ensures.places ∙ c.loop-k.invariant.places;
-      plain = plain-next c.args.specs.now c.args.more.now (page_bytes c.args.page) c.loop-k.k c.loop-k.invariant.plain c.in-Some.ensures.plain;
+      plain = plain-next c.args.columns.now.specs.now c.args.columns.now.more.now (page_bytes c.args.page) c.loop-k.k c.loop-k.invariant.plain c.in-Some.ensures.plain;
       carried = c.in-Some.ensures.last;
       disordered =
           flag
-          ∙ disordered-next c.args.specs.now c.args.more.now (page_bytes c.args.page) c.loop-k.k c.loop-k.is_disordered c.in-Some.is_low c.loop-k.invariant.disordered c.in-Some.ensures.low;
+          ∙ disordered-next c.args.columns.now.specs.now c.args.columns.now.more.now (page_bytes c.args.page) c.loop-k.k c.loop-k.is_disordered c.in-Some.is_low c.loop-k.invariant.disordered c.in-Some.ensures.low;
     }
 
 pub returns-then-item_count-eq0 : goal.returns-then-item_count-eq0
 returns-then-item_count-eq0 c =
-    pass-empty c.args.specs.now c.args.more.now (page_bytes c.args.page) 0 refl (omega (arith, c.if-item_count-eq0.true, c.item_count.ensures.value))
+    pass-empty c.args.columns.now.specs.now c.args.columns.now.more.now (page_bytes c.args.page) 0 refl (omega (arith, c.if-item_count-eq0.true, c.item_count.ensures.value))
 
 pub is_past_high_key-requires-clause-plain : goal.is_past_high_key-requires-clause-plain
 is_past_high_key-requires-clause-plain c =
-    plain-at c.args.specs.now c.args.more.now (page_bytes c.args.page) 0 c.loop-k.k (omega arith) c.loop-k.invariant.plain
+    plain-at c.args.columns.now.specs.now c.args.columns.now.more.now (page_bytes c.args.page) 0 c.loop-k.k (omega arith) c.loop-k.invariant.plain

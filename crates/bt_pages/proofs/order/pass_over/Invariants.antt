@@ -9,7 +9,7 @@ use Rattle.bt_pages.proofs.order.pass_over.Given as goal
 abbrev pub invariant-loop-k : goal.invariant-loop-k
 invariant-loop-k l = record {
   places : l.turns.places ≡ places_of (page_bytes l.page);
-  plain : are_plain l.specs l.more (page_bytes l.page) l.k ≡ true;
-  carried : IsCarried l.specs l.more (page_bytes l.page) l.k (held l.turns);
-  disordered : l.is_disordered ≡ are_disordered l.specs l.more (page_bytes l.page) l.k;
+  plain : are_plain l.columns.specs.now l.columns.more.now (page_bytes l.page) l.k ≡ true;
+  carried : IsCarried l.columns.specs.now l.columns.more.now (page_bytes l.page) l.k (held l.turns);
+  disordered : l.is_disordered ≡ are_disordered l.columns.specs.now l.columns.more.now (page_bytes l.page) l.k;
 }

@@ -12,7 +12,7 @@ plain_entry_prefix-requires-clause-first c = let one = first_cases (page_bytes c
 
 pub loop-k-init : goal.loop-k-init
 loop-k-init c =
-    let specs = c.args.specs.now in
+    let specs = c.args.columns.now.specs.now in
     let page = page_bytes c.args.page in
     let one = first_cases page in
     let from : first_data page ≤ c.args.first = omega (arith, c.requires.first) in
@@ -24,7 +24,7 @@ loop-k-init c =
 
 pub loop-k-preserved : goal.loop-k-preserved
 loop-k-preserved c =
-    let specs = c.args.specs.now in
+    let specs = c.args.columns.now.specs.now in
     let page = page_bytes c.args.page in
     let so = c.loop-k.invariant in
     let from : first_data page ≤ c.loop-k.k = omega (arith, c.requires.first, c.loop-k.auto.k) in
@@ -36,4 +36,4 @@ loop-k-preserved c =
 pub returns : goal.returns
 returns c =
     let last : c.loop-k.k ≡ count_of (page_bytes c.args.page) = omega (arith, c.loop-k-test.false, c.loop-k.auto.k-end, c.item_count-k-end.ensures.value, c.requires.some) in
-    λ before. subst (RiseTo c.args.specs.now [] (page_bytes c.args.page)) last (c.loop-k.invariant.rise before)
+    λ before. subst (RiseTo c.args.columns.now.specs.now [] (page_bytes c.args.page)) last (c.loop-k.invariant.rise before)

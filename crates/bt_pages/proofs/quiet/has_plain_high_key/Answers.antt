@@ -14,19 +14,19 @@ use Rattle.bt_pages.proofs.quiet.has_plain_high_key.Goals as goal
 
 pub last_key_at-last-requires-clause-plain : goal.last_key_at-last-requires-clause-plain
 last_key_at-last-requires-clause-plain c =
-    let specs = c.args.specs.now in
-    let more = c.args.more.now in
+    let specs = c.args.columns.now.specs.now in
+    let more = c.args.columns.now.more.now in
     let page = page_bytes c.args.page in
     let read = at_spot specs more page 1 _ _ (high_key-spot page c.requires.high) c.in-Ok.ensures.outcome in
     (c.requires.rise (rise-high_key specs more page (plain-read specs more page 1 (item_shown c.in-Ok.item) c.requires.live read))).plain
 
 pub breaks_high_key-requires-clause-high : goal.breaks_high_key-requires-clause-high
-breaks_high_key-requires-clause-high c = rw c.separator_in.ensures (fits-separator c.args.specs.now (item_shown c.in-Ok.item) c.in-Ok.ensures.fits)
+breaks_high_key-requires-clause-high c = rw c.separator_in.ensures (fits-separator c.args.columns.now.specs.now (item_shown c.in-Ok.item) c.in-Ok.ensures.fits)
 
 pub returns-in-Ok : goal.returns-in-Ok
 returns-in-Ok c =
-    let specs = c.args.specs.now in
-    let more = c.args.more.now in
+    let specs = c.args.columns.now.specs.now in
+    let more = c.args.columns.now.more.now in
     let page = page_bytes c.args.page in
     let read = at_spot specs more page 1 _ _ (high_key-spot page c.requires.high) c.in-Ok.ensures.outcome in
     let rise : RiseTo specs more page (count_of page) = c.requires.rise (rise-high_key specs more page (plain-read specs more page 1 (item_shown c.in-Ok.item) c.requires.live read)) in

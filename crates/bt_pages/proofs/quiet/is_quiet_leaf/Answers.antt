@@ -12,8 +12,8 @@ use Rattle.bt_pages.proofs.quiet.is_quiet_leaf.Goals as goal
 
 pub has_plain_high_key-requires-clause-rise : goal.has_plain_high_key-requires-clause-rise
 has_plain_high_key-requires-clause-rise c before =
-    let specs = c.args.specs.now in
-    let more = c.args.more.now in
+    let specs = c.args.columns.now.specs.now in
+    let more = c.args.columns.now.more.now in
     let page = page_bytes c.args.page in
     let alone : more ≡ [] = nil_from_length more (eqb-true _ _ (sym c.if-not-is_empty.ensures)) in
     let first : first_data page ≡ 2 = first-after page (sym c.if-not-has_high_key.ensures) in
@@ -23,8 +23,8 @@ has_plain_high_key-requires-clause-rise c before =
 
 pub returns-then-not-has_high_key : goal.returns-then-not-has_high_key
 returns-then-not-has_high_key c =
-    let specs = c.args.specs.now in
-    let more = c.args.more.now in
+    let specs = c.args.columns.now.specs.now in
+    let more = c.args.columns.now.more.now in
     let page = page_bytes c.args.page in
     let alone : more ≡ [] = nil_from_length more (eqb-true _ _ (sym c.if-not-is_empty.ensures)) in
     let first : first_data page ≡ 1 = first-alone page (sym c.if-not-has_high_key.ensures) in

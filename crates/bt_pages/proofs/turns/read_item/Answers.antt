@@ -15,13 +15,13 @@ spot_is at page is = ap (λ (p : ItemPlace). p.spot) is
 
 pub returns-in-Err-clause-plain : goal.returns-in-Err-clause-plain
 returns-in-Err-clause-plain c =
-    plain-unread c.args.specs.now c.args.more.now (page_bytes c.args.page) c.args.at.number _ c.requires.live
-    (at_spot c.args.specs.now c.args.more.now (page_bytes c.args.page) c.args.at.number _ _ (spot_is c.args.at (page_bytes c.args.page) c.requires.place) (sym c.in-Err.ensures.fault))
+    plain-unread c.args.columns.now.specs.now c.args.columns.now.more.now (page_bytes c.args.page) c.args.at.number _ c.requires.live
+    (at_spot c.args.columns.now.specs.now c.args.columns.now.more.now (page_bytes c.args.page) c.args.at.number _ _ (spot_is c.args.at (page_bytes c.args.page) c.requires.place) (sym c.in-Err.ensures.fault))
 
 pub returns-in-Ok-clause-plain : goal.returns-in-Ok-clause-plain
 returns-in-Ok-clause-plain c =
-    plain-read c.args.specs.now c.args.more.now (page_bytes c.args.page) c.args.at.number _ c.requires.live
-    (at_spot c.args.specs.now c.args.more.now (page_bytes c.args.page) c.args.at.number _ _ (spot_is c.args.at (page_bytes c.args.page) c.requires.place) (sym c.in-Ok.ensures.keys.is))
+    plain-read c.args.columns.now.specs.now c.args.columns.now.more.now (page_bytes c.args.page) c.args.at.number _ c.requires.live
+    (at_spot c.args.columns.now.specs.now c.args.columns.now.more.now (page_bytes c.args.page) c.args.at.number _ _ (spot_is c.args.at (page_bytes c.args.page) c.requires.place) (sym c.in-Ok.ensures.keys.is))
 
 pub breaks_order-is_low-requires-clause-before : goal.breaks_order-is_low-requires-clause-before
 breaks_order-is_low-requires-clause-before c = c.requires.before.fits
@@ -29,22 +29,22 @@ breaks_order-is_low-requires-clause-before c = c.requires.before.fits
 pub breaks_order-is_low-requires-clause-item : goal.breaks_order-is_low-requires-clause-item
 breaks_order-is_low-requires-clause-item c =
     let keys = c.in-Ok.ensures.keys in
-    subst (IsKeySeparator c.args.specs.now) (sym keys.first) (fits-first c.args.specs.now keys.item keys.fits)
+    subst (IsKeySeparator c.args.columns.now.specs.now) (sym keys.first) (fits-first c.args.columns.now.specs.now keys.item keys.fits)
 
 pub returns-in-Ok-clause-low : goal.returns-in-Ok-clause-low
 returns-in-Ok-clause-low c =
     let keys = c.in-Ok.ensures.keys in
-    let means : keys.item ≡ item_at c.args.specs.now c.args.more.now (page_bytes c.args.page) c.args.at.number =
-    item-means c.args.specs.now c.args.more.now (page_bytes c.args.page) c.args.at.number c.requires.live _ (at_spot c.args.specs.now c.args.more.now (page_bytes c.args.page) c.args.at.number _ _ (spot_is c.args.at (page_bytes c.args.page) c.requires.place) (sym keys.is)) in
-    c.breaks_order-is_low.ensures c.args.more.now (page_bytes c.args.page) c.requires.place (λ compared. c.requires.before.key_is (let past = compared-past_1 (page_bytes c.args.page) in omega (arith, compared, past))) (keys.first ∙ ap first_key means)
+    let means : keys.item ≡ item_at c.args.columns.now.specs.now c.args.columns.now.more.now (page_bytes c.args.page) c.args.at.number =
+    item-means c.args.columns.now.specs.now c.args.columns.now.more.now (page_bytes c.args.page) c.args.at.number c.requires.live _ (at_spot c.args.columns.now.specs.now c.args.columns.now.more.now (page_bytes c.args.page) c.args.at.number _ _ (spot_is c.args.at (page_bytes c.args.page) c.requires.place) (sym keys.is)) in
+    c.breaks_order-is_low.ensures c.args.columns.now.more.now (page_bytes c.args.page) c.requires.place (λ compared. c.requires.before.key_is (let past = compared-past_1 (page_bytes c.args.page) in omega (arith, compared, past))) (keys.first ∙ ap first_key means)
 
 pub returns-in-Ok-clause-last : goal.returns-in-Ok-clause-last
 returns-in-Ok-clause-last c =
     let keys = c.in-Ok.ensures.keys in
-    let means : keys.item ≡ item_at c.args.specs.now c.args.more.now (page_bytes c.args.page) c.args.at.number =
-    item-means c.args.specs.now c.args.more.now (page_bytes c.args.page) c.args.at.number c.requires.live _ (at_spot c.args.specs.now c.args.more.now (page_bytes c.args.page) c.args.at.number _ _ (spot_is c.args.at (page_bytes c.args.page) c.requires.place) (sym keys.is)) in
+    let means : keys.item ≡ item_at c.args.columns.now.specs.now c.args.columns.now.more.now (page_bytes c.args.page) c.args.at.number =
+    item-means c.args.columns.now.specs.now c.args.columns.now.more.now (page_bytes c.args.page) c.args.at.number c.requires.live _ (at_spot c.args.columns.now.specs.now c.args.columns.now.more.now (page_bytes c.args.page) c.args.at.number _ _ (spot_is c.args.at (page_bytes c.args.page) c.requires.place) (sym keys.is)) in
     let key = c.keep_last.ensures ∙ keys.last in
     record {
-      fits = subst (IsKeySeparator c.args.specs.now) (sym key) (fits-last c.args.specs.now keys.item keys.fits);
+      fits = subst (IsKeySeparator c.args.columns.now.specs.now) (sym key) (fits-last c.args.columns.now.specs.now keys.item keys.fits);
       key_is = λ from. key ∙ ap last_key means;
     }

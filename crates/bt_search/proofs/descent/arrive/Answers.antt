@@ -1,7 +1,8 @@
 use Rattle.std.proofs.Common.{◌∙◌, ℕ, [], ap, arith, subst, sym}
+use Rattle.varlena_attrs.specs.Columns.{tree_columns}
 use Rattle.tree_search.specs.Search.{At}
 use Rattle.tree_image.specs.Image.{first_data}
-use Rattle.bt_levels.specs.Sound.{specs_of}
+use Rattle.bt_levels.specs.Sound.{index_columns}
 use Rattle.bt_steps.specs.declared.inner.Step.TheVariants.{Lost, Read, To}
 use Rattle.bt_search.specs.Descents.{GoesOn}
 use Rattle.bt_search.specs.Spots.{state_at}
@@ -28,13 +29,13 @@ loop-visits-preserved g c =
           let holds = c.requires.holds names told in
           let steps = c.searches_go_in_steps.ensures names tree bounds holds in
           step-comes names tree bounds holds steps b (inv.comes names told) c.in-To.next page (c.in_ok-look_at.ensures.page names (inv.asked.same ∙ told))
-          (leads-there c.specs.result.now (specs_of tree) bounds _ page (To c.in-To.next) c.specs.ensures c.new.ensures c.in-To.ensures.leads);
+          (leads-there (tree_columns c.columns-columns.result) (index_columns tree) bounds _ page (To c.in-To.next) c.columns-columns.ensures.lists c.new.ensures c.in-To.ensures.leads);
       goes = λ names told.
           let holds = c.requires.holds names told in
           let steps = c.searches_go_in_steps.ensures names tree bounds holds in
           subst (λ (n : ℕ). GoesOn names tree bounds (At c.args.first []) (At c.in-To.next []) c.args.visits.now.count n) (sym count)
           (step-goes names tree bounds holds steps b (inv.comes names told) c.in-To.next page (c.in_ok-look_at.ensures.page names (inv.asked.same ∙ told))
-          (leads-there c.specs.result.now (specs_of tree) bounds _ page (To c.in-To.next) c.specs.ensures c.new.ensures c.in-To.ensures.leads)
+          (leads-there (tree_columns c.columns-columns.result) (index_columns tree) bounds _ page (To c.in-To.next) c.columns-columns.ensures.lists c.new.ensures c.in-To.ensures.leads)
           (At c.args.first []) c.args.visits.now.count c.loop-visits.visits.count (inv.goes names told));
       asked = passed-then (omega arith) inv.asked c.in_ok-look_at.ensures.asked;
     }
@@ -78,7 +79,7 @@ returns-in-Read-clause-stands g c = λ names told.
     let inv = c.loop-visits.invariant in
     let page = c.look_at.new.page in
     read-stands names tree bounds holds steps c.loop-visits.block (inv.comes names told) page (c.in_ok-look_at.ensures.page names (inv.asked.same ∙ told))
-    (leads-there c.specs.result.now (specs_of tree) bounds _ page Read c.specs.ensures c.new.ensures c.in-Read.ensures.leads)
+    (leads-there (tree_columns c.columns-columns.result) (index_columns tree) bounds _ page Read c.columns-columns.ensures.lists c.new.ensures c.in-Read.ensures.leads)
     c.first_spot.result c.first_spot.ensures.block (c.first_spot.ensures.item ∙ ap first_data c.new-in-Read.ensures) c.first_spot.ensures.nth
 
 pub returns-in-Read-clause-goes : goal.returns-in-Read-clause-goes
@@ -91,7 +92,7 @@ returns-in-Read-clause-goes g c = λ names told.
     let page = c.look_at.new.page in
     subst (λ (n : ℕ). GoesOn names tree bounds (At c.args.first []) (state_at names tree bounds c.first_spot.result) c.args.visits.now.count n) (sym c.look_at.ensures.count)
     (read-goes names tree bounds holds steps c.loop-visits.block (inv.comes names told) page (c.in_ok-look_at.ensures.page names (inv.asked.same ∙ told))
-    (leads-there c.specs.result.now (specs_of tree) bounds _ page Read c.specs.ensures c.new.ensures c.in-Read.ensures.leads)
+    (leads-there (tree_columns c.columns-columns.result) (index_columns tree) bounds _ page Read c.columns-columns.ensures.lists c.new.ensures c.in-Read.ensures.leads)
     c.first_spot.result c.first_spot.ensures.block (c.first_spot.ensures.item ∙ ap first_data c.new-in-Read.ensures) c.first_spot.ensures.nth
     (At c.args.first []) c.args.visits.now.count c.loop-visits.visits.count (inv.goes names told))
 
@@ -103,7 +104,7 @@ returns-in-Lost-clause-stands g c = λ names told.
     let steps = c.searches_go_in_steps.ensures names tree bounds holds in
     let inv = c.loop-visits.invariant in
     absurd (step-lost names tree bounds holds steps c.loop-visits.block (inv.comes names told) c.look_at.new.page (c.in_ok-look_at.ensures.page names (inv.asked.same ∙ told))
-    (leads-there c.specs.result.now (specs_of tree) bounds _ c.look_at.new.page Lost c.specs.ensures c.new.ensures c.in-Lost.ensures.leads))
+    (leads-there (tree_columns c.columns-columns.result) (index_columns tree) bounds _ c.look_at.new.page Lost c.columns-columns.ensures.lists c.new.ensures c.in-Lost.ensures.leads))
 
 pub returns-in-Lost-clause-there : goal.returns-in-Lost-clause-there
 returns-in-Lost-clause-there g c = λ names told e.
@@ -113,7 +114,7 @@ returns-in-Lost-clause-there g c = λ names told e.
     let steps = c.searches_go_in_steps.ensures names tree bounds holds in
     let inv = c.loop-visits.invariant in
     step-lost names tree bounds holds steps c.loop-visits.block (inv.comes names told) c.look_at.new.page (c.in_ok-look_at.ensures.page names (inv.asked.same ∙ told))
-    (leads-there c.specs.result.now (specs_of tree) bounds _ c.look_at.new.page Lost c.specs.ensures c.new.ensures c.in-Lost.ensures.leads)
+    (leads-there (tree_columns c.columns-columns.result) (index_columns tree) bounds _ c.look_at.new.page Lost c.columns-columns.ensures.lists c.new.ensures c.in-Lost.ensures.leads)
 
 pub returns-in-Lost-clause-goes : goal.returns-in-Lost-clause-goes
 returns-in-Lost-clause-goes g c = λ names told.
@@ -123,7 +124,7 @@ returns-in-Lost-clause-goes g c = λ names told.
     let steps = c.searches_go_in_steps.ensures names tree bounds holds in
     let inv = c.loop-visits.invariant in
     absurd (step-lost names tree bounds holds steps c.loop-visits.block (inv.comes names told) c.look_at.new.page (c.in_ok-look_at.ensures.page names (inv.asked.same ∙ told))
-    (leads-there c.specs.result.now (specs_of tree) bounds _ c.look_at.new.page Lost c.specs.ensures c.new.ensures c.in-Lost.ensures.leads))
+    (leads-there (tree_columns c.columns-columns.result) (index_columns tree) bounds _ c.look_at.new.page Lost c.columns-columns.ensures.lists c.new.ensures c.in-Lost.ensures.leads))
 
 pub returns-clause-stands : goal.returns-clause-stands
 returns-clause-stands g c = λ names told.
@@ -146,3 +147,14 @@ returns-clause-there g c = λ names told e.
     let enough = c.requires.enough names told in
     let same = (inv.goes names told).left in
     not-over names tree bounds holds steps c.loop-visits.block (inv.comes names told) c.loop-visits.visits.count c.args.search.now.limit (omega (arith, enough, same)) (omega arith)
+
+pub returns-clause-goes : goal.returns-clause-goes
+returns-clause-goes g c = λ names told.
+    let tree = c.args.search.now.tree.now in
+    let bounds = c.args.search.now.scan.now in
+    let holds = c.requires.holds names told in
+    let steps = c.searches_go_in_steps.ensures names tree bounds holds in
+    let inv = c.loop-visits.invariant in
+    let enough = c.requires.enough names told in
+    let same = (inv.goes names told).left in
+    absurd (not-over names tree bounds holds steps c.loop-visits.block (inv.comes names told) c.loop-visits.visits.count c.args.search.now.limit (omega (arith, enough, same)) (omega arith))

@@ -7,7 +7,7 @@ use Rattle.page_layout.specs.declared.page.PageKind.TheVariants.{Tree}
 use Rattle.bt_meta.specs.declared.records.Opaque.{Opaque}
 use Rattle.bt_meta.specs.Pages.{opaque_of}
 use Rattle.tree_image.proofs.PageFields.{first_cases}
-use Rattle.bt_levels.specs.Sound.{held_block, specs_of}
+use Rattle.bt_levels.specs.Sound.{held_block, index_columns}
 use Rattle.bt_search.specs.declared.spot.Spot.{Spot}
 use Rattle.bt_search.specs.Entries.{IsEntryAt}
 use Rattle.bt_search.specs.Leaves.{Leaves}
@@ -37,7 +37,7 @@ pub returns-in-Entry-clause-entry : goal.returns-in-Entry-clause-entry
 returns-in-Entry-clause-entry c = λ at is.
     let r = c.in-Entry.ensures.entry c.in-Entry.at refl in
     let same : c.in-Entry.at ≡ at = cc in
-    subst (λ (a : Spot). (a.block ≡ c.args.spot.now.block) × IsEntryAt (specs_of c.args.search.now.tree.now) (page_bytes c.args.page) a) same (r.0 ∙ c.loop-spot.invariant.block, r.1)
+    subst (λ (a : Spot). (a.block ≡ c.args.spot.now.block) × IsEntryAt (index_columns c.args.search.now.tree.now) (page_bytes c.args.page) a) same (r.0 ∙ c.loop-spot.invariant.block, r.1)
 
 pub returns-in-0-clause-told : goal.returns-in-0-clause-told
 returns-in-0-clause-told c = λ names holds some at.

@@ -3,7 +3,8 @@ use Rattle.std.specs.Prelude.{IsSome, Result}
 use Rattle.std.specs.Borrow.{Bor}
 use Rattle.std.proofs.lemmas.Bool.{cases_eq}
 use Rattle.page_layout.specs.View.{page_bytes}
-use Rattle.bt_levels.specs.Sound.{block_count, fastroot_of, specs_of}
+use Rattle.varlena_attrs.specs.Columns.{tree_columns}
+use Rattle.bt_levels.specs.Sound.{block_count, fastroot_of, index_columns}
 use Rattle.bt_steps.specs.declared.inner.Step.TheVariants.{Lost, Read, To}
 use Rattle.bt_search.specs.Lookups.{IsLookedUp}
 use Rattle.bt_search.specs.Cached.{Cached, KeepsAll, Keeps, Looked}
@@ -57,7 +58,7 @@ loop-visits-preserved g c =
       limit = omega arith;
       way = λ names told some.
           let u = inv.way names told some in
-          let to = led names tree key tid (c.requires.holds names told) made b u c.specs.result.now (page_bytes c.new-page.result) (To c.in-To.next) c.specs.ensures
+          let to = led names tree key tid (c.requires.holds names told) made b u (tree_columns c.columns-columns.result) (page_bytes c.new-page.result) (To c.in-To.next) c.columns-columns.ensures.lists
           (c.new-page.ensures ∙ c.in_ok-page.ensures.bytes names (inv.asked.same ∙ told)) c.in-To.ensures.leads in
           let more : made + 1 ≡ (c.loop-visits.visits.count + 1) - c.args.visits.now.count = omega (arith, onward) in
           subst (λ (m : ℕ). IsUnderWay names tree key tid m c.in-To.next) more (goes-to names tree key tid made b c.in-To.next u to);
@@ -152,7 +153,7 @@ returns-in-Lost-clause-found g c = λ names told. elim (cases_eq (fastroot_of c.
   | inl none ↦ absurd (c.if-block-eq0.false (c.loop-visits.invariant.empty none).0)
   | inr some ↦
       let inv = c.loop-visits.invariant in
-      absurd (led names c.args.tree.now c.args.sought.key.now c.args.sought.tid (c.requires.holds names told) _ c.loop-visits.block (inv.way names told some) c.specs.result.now (page_bytes c.new-page.result) Lost c.specs.ensures
+      absurd (led names c.args.tree.now c.args.sought.key.now c.args.sought.tid (c.requires.holds names told) _ c.loop-visits.block (inv.way names told some) (tree_columns c.columns-columns.result) (page_bytes c.new-page.result) Lost c.columns-columns.ensures.lists
       (c.new-page.ensures ∙ c.in_ok-page.ensures.bytes names (inv.asked.same ∙ told)) c.in-Lost.ensures.leads)
 ]
 
@@ -168,11 +169,11 @@ returns-in-Read-clause-found g c = λ names told. elim (cases_eq (fastroot_of c.
       let page-is = c.new-page.ensures ∙ c.in_ok-page.ensures.bytes names (inv.asked.same ∙ told) in
       let u = inv.way names told some in
       let holds = c.requires.holds names told in
-      let read = led names tree key tid holds _ b u c.specs.result.now (page_bytes c.new-page.result) Read c.specs.ensures page-is c.in-Read.ensures.leads in
+      let read = led names tree key tid holds _ b u (tree_columns c.columns-columns.result) (page_bytes c.new-page.result) Read c.columns-columns.ensures.lists page-is c.in-Read.ensures.leads in
       subst (IsLookedUp names tree key tid) (sym c.spot_of.ensures)
       (found-on names tree key tid holds _ b u read c.find_on.result
-      (there-on c.specs-in-Read.result.now (specs_of tree) (page_bytes c.new-page.result) _ key tid c.find_on.result c.specs-in-Read.ensures page-is c.find_on.ensures.some)
-      (none-on c.specs-in-Read.result.now (specs_of tree) (page_bytes c.new-page.result) _ key tid c.find_on.result c.specs-in-Read.ensures page-is c.find_on.ensures.none))
+      (there-on (tree_columns c.columns-columns.result) (index_columns tree) (page_bytes c.new-page.result) _ key tid c.find_on.result c.columns-columns.ensures.lists page-is c.find_on.ensures.some)
+      (none-on (tree_columns c.columns-columns.result) (index_columns tree) (page_bytes c.new-page.result) _ key tid c.find_on.result c.columns-columns.ensures.lists page-is c.find_on.ensures.none))
 ]
 
 pub returns-clause-most : goal.returns-clause-most

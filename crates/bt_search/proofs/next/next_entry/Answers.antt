@@ -1,6 +1,6 @@
 use Rattle.std.proofs.Common.{◌≡◌, ◌∙◌, List, ℕ, ap, arith, refl, subst, sym}
 use Rattle.std.specs.Prelude.{Some}
-use Rattle.bt_levels.specs.Sound.{held_block, specs_of}
+use Rattle.bt_levels.specs.Sound.{held_block, index_columns}
 use Rattle.bt_search.specs.Entries.{IsEntryAt, entry_on}
 use Rattle.bt_search.specs.Spots.{StandsAt, rest_at}
 use Rattle.bt_search.proofs.Arriving.{left_at-most, nowhere-rest}
@@ -39,7 +39,7 @@ returns-in-Entry-clause-stands g c = λ names told.
 
 pub returns-in-Entry-clause-entry : goal.returns-in-Entry-clause-entry
 returns-in-Entry-clause-entry g c =
-    subst (λ (p : List ℕ). IsEntryAt (specs_of c.args.tree.now) p c.in-Entry.at) c.new.ensures (c.in-Entry.ensures.entry c.in-Entry.at refl).1
+    subst (λ (p : List ℕ). IsEntryAt (index_columns c.args.tree.now) p c.in-Entry.at) c.new.ensures (c.in-Entry.ensures.entry c.in-Entry.at refl).1
 
 pub returns-in-Entry-clause-next : goal.returns-in-Entry-clause-next
 returns-in-Entry-clause-next g c = λ names told.
@@ -53,8 +53,8 @@ returns-in-Entry-clause-next g c = λ names told.
     let there = c.in-Entry.ensures.entry at refl in
     record {
       entry = yields.entry;
-      read = subst (λ (p : List ℕ). IsEntryAt (specs_of tree) p at) c.new.ensures there.1;
-      is = subst (λ (p : List ℕ). entry_on (specs_of tree) p at ≡ Some yields.entry) c.new.ensures yields.is;
+      read = subst (λ (p : List ℕ). IsEntryAt (index_columns tree) p at) c.new.ensures there.1;
+      is = subst (λ (p : List ℕ). entry_on (index_columns tree) p at ≡ Some yields.entry) c.new.ensures yields.is;
       in_hand = standing.in_hand c.loop-spot-test.true ∙ ap (held_block names tree) (sym there.0);
       first = inv.rest names told ∙ yields.rest;
     }

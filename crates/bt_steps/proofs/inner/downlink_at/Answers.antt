@@ -8,6 +8,6 @@ use Rattle.bt_steps.proofs.Separators.{downlink-is}
 use Rattle.bt_steps.proofs.inner.downlink_at.Goals as goal
 
 pub returns : goal.returns
-returns c = λ specs plain other.
+returns c = λ columns plain other.
     ap (λ (h : TreeHead). h.block) (c.tree_head.ensures ∙ ap tree_head_of (c.piece.ensures.bytes ∙ ap (λ (it : LinePtr). piece_of (page_bytes c.args.page) it.off it.len) c.item-item.ensures.value))
-    ∙ downlink-is specs (page_bytes c.args.page) c.args.i plain other
+    ∙ downlink-is columns (page_bytes c.args.page) c.args.i plain other

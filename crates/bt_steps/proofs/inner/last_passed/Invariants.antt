@@ -1,6 +1,7 @@
 use Rattle.std.proofs.Common.{◌≡◌, ◌+◌, ◌-◌, ◌<◌, ◌≤◌, true, false}
 use Rattle.page_layout.specs.Page.{count_of}
 use Rattle.page_layout.specs.View.{page_bytes}
+use Rattle.varlena_attrs.specs.Columns.{tree_columns}
 use Rattle.bt_meta.specs.Flags.{is_half_dead}
 use Rattle.bt_meta.specs.Pages.{opaque_of}
 use Rattle.tree_image.specs.Image.{first_data}
@@ -14,8 +15,8 @@ invariant-loop-high g l = record {
   from : first_data (page_bytes l.page) ≤ l.low;
   less : l.low < l.high;
   to : l.high ≤ count_of (page_bytes l.page) + 1;
-  passed : IsReadable l.specs (page_bytes l.page) → is_half_dead (opaque_of (page_bytes l.page)) ≡ false → first_data (page_bytes l.page) < l.low → is_passed l.specs (g.W.Way.goes l.way l.specs) (page_bytes l.page) l.low ≡ true;
-  stopped : IsReadable l.specs (page_bytes l.page) → is_half_dead (opaque_of (page_bytes l.page)) ≡ false → l.high ≤ count_of (page_bytes l.page) → is_passed l.specs (g.W.Way.goes l.way l.specs) (page_bytes l.page) l.high ≡ false;
+  passed : IsReadable (tree_columns l.columns) (page_bytes l.page) → is_half_dead (opaque_of (page_bytes l.page)) ≡ false → first_data (page_bytes l.page) < l.low → is_passed (tree_columns l.columns) (g.W.Way.goes l.way l.columns.specs.now) (page_bytes l.page) l.low ≡ true;
+  stopped : IsReadable (tree_columns l.columns) (page_bytes l.page) → is_half_dead (opaque_of (page_bytes l.page)) ≡ false → l.high ≤ count_of (page_bytes l.page) → is_passed (tree_columns l.columns) (g.W.Way.goes l.way l.columns.specs.now) (page_bytes l.page) l.high ≡ false;
 }
 
 abbrev pub decreases-loop-high : goal.decreases-loop-high

@@ -3,9 +3,9 @@ use Rattle.std.specs.Prelude.{Option, None, Some, IfSome, slice_get}
 use Rattle.page_layout.specs.Page.{count_of}
 use Rattle.page_layout.specs.View.{page_bytes}
 use Rattle.tree_search.specs.Keys.{Entry}
-use Rattle.key_orders.specs.declared.columns.KeySpec.{KeySpec}
 use Rattle.key_orders.specs.declared.columns.Value.{Value}
 use Rattle.key_orders.specs.declared.Tid.{Tid}
+use Rattle.varlena_attrs.specs.Columns.{TreeColumns, tree_columns}
 use Rattle.bt_tuples.specs.declared.items.TreeItem.{TreeItem}
 use Rattle.bt_tuples.specs.Items.{Posting}
 use Rattle.bt_tuples.specs.Shown.{item_shown}
@@ -28,7 +28,7 @@ there es fs k e same is = subst (λ (l : entries). slice_get l k ≡ Some e) sam
 pub returns-then-killed-clause-none : goal.returns-then-killed-clause-none
 returns-then-killed-clause-none c none k e is sought read =
     let item = c.in-Ok-Plain in
-    let keys = keys-are c.args.specs.now (page_bytes c.args.page) c.args.i (item_shown item.field-0) item.ensures.outcome ∙ ap (λ (it : TreeItem). keys_in (item_shown it)) item.field-0-is in
+    let keys = keys-are (tree_columns c.args.columns.now) (page_bytes c.args.page) c.args.i (item_shown item.field-0) item.ensures.outcome ∙ ap (λ (it : TreeItem). keys_in (item_shown it)) item.field-0-is in
     let one = one-is item.key item.field-0-1 item.tid item.killed k e (there _ _ k e keys is) in
     elim c.then-killed.branch [
       | then-killed-via-then-killed w ↦ sym (ap (λ (d : Entry Value Tid). d.killed) one) ∙ w.if-killed.true
@@ -39,11 +39,11 @@ returns-then-killed-clause-none c none k e is sought read =
 pub returns-else-is_ne-2-clause-some : goal.returns-else-is_ne-2-clause-some
 returns-else-is_ne-2-clause-some c =
     let item = c.in-Ok-Plain in
-    let keys = keys-are c.args.specs.now (page_bytes c.args.page) c.args.i (item_shown item.field-0) item.ensures.outcome ∙ ap (λ (it : TreeItem). keys_in (item_shown it)) item.field-0-is in
+    let keys = keys-are (tree_columns c.args.columns.now) (page_bytes c.args.page) c.args.i (item_shown item.field-0) item.ensures.outcome ∙ ap (λ (it : TreeItem). keys_in (item_shown it)) item.field-0-is in
     record {
       from = c.requires.from;
       last = c.requires.last;
-      read = item-reads c.args.specs.now (page_bytes c.args.page) c.args.i (item_shown item.field-0) item.ensures.outcome;
+      read = item-reads (tree_columns c.args.columns.now) (page_bytes c.args.page) c.args.i (item_shown item.field-0) item.ensures.outcome;
       entry = entry_with item.key item.killed item.tid;
       is = ap (λ (l : entries). slice_get l 0) keys;
       sought = record {
@@ -56,7 +56,7 @@ returns-else-is_ne-2-clause-some c =
 pub returns-then-killed-2-clause-none : goal.returns-then-killed-2-clause-none
 returns-then-killed-2-clause-none c none k e is sought read =
     let item = c.in-Ok-Posting in
-    let keys = keys-are c.args.specs.now (page_bytes c.args.page) c.args.i (item_shown item.field-0) item.ensures.outcome ∙ ap (λ (it : TreeItem). keys_in (item_shown it)) item.field-0-is in
+    let keys = keys-are (tree_columns c.args.columns.now) (page_bytes c.args.page) c.args.i (item_shown item.field-0) item.ensures.outcome ∙ ap (λ (it : TreeItem). keys_in (item_shown it)) item.field-0-is in
     let has = list-has item.key item.tids item.killed k e (there _ _ k e keys is) in
     elim c.then-killed-2.branch [
       | then-killed-2-via-then-killed-2 w ↦ has.1 ∙ w.if-killed-2.true
@@ -64,10 +64,10 @@ returns-then-killed-2-clause-none c none k e is sought read =
     ]
 
 -- a TID that was found in a list
-module _ (specs : List KeySpec) (page : List ℕ) (i : ℕ) (key sought-key : List Value) (tids : List Tid) (tid : Tid) (killed : Bool)
-    (from : first_data page ≤ i) (last : i ≤ count_of page) (read : IsRead specs page i) (keys : keys_at specs page i ≡ keys_in (Posting key tids killed))
+module _ (columns : TreeColumns) (page : List ℕ) (i : ℕ) (key sought-key : List Value) (tids : List Tid) (tid : Tid) (killed : Bool)
+    (from : first_data page ≤ i) (last : i ≤ count_of page) (read : IsRead columns page i) (keys : keys_at columns page i ≡ keys_in (Posting key tids killed))
     (same : key ≡ sought-key) (alive : killed ≡ false) where
-  found-some : (r : Option ℕ) → IfSome r (λ n. slice_get tids n ≡ Some tid) → IfSome r (λ n. HasSought specs page sought-key tid i n)
+  found-some : (r : Option ℕ) → IfSome r (λ n. slice_get tids n ≡ Some tid) → IfSome r (λ n. HasSought columns page sought-key tid i n)
   found-some None h = tt
   found-some (Some n) h = record {
     from = from;
@@ -82,27 +82,27 @@ module _ (specs : List KeySpec) (page : List ℕ) (i : ℕ) (key sought-key : Li
 pub returns-else-is_ne-3-clause-some : goal.returns-else-is_ne-3-clause-some
 returns-else-is_ne-3-clause-some c =
     let item = c.in-Ok-Posting in
-    let keys = keys-are c.args.specs.now (page_bytes c.args.page) c.args.i (item_shown item.field-0) item.ensures.outcome ∙ ap (λ (it : TreeItem). keys_in (item_shown it)) item.field-0-is in
-    found-some c.args.specs.now (page_bytes c.args.page) c.args.i item.key c.args.sought.key.now item.tids c.args.sought.tid item.killed c.requires.from c.requires.last
-    (item-reads c.args.specs.now (page_bytes c.args.page) c.args.i (item_shown item.field-0) item.ensures.outcome) keys
+    let keys = keys-are (tree_columns c.args.columns.now) (page_bytes c.args.page) c.args.i (item_shown item.field-0) item.ensures.outcome ∙ ap (λ (it : TreeItem). keys_in (item_shown it)) item.field-0-is in
+    found-some (tree_columns c.args.columns.now) (page_bytes c.args.page) c.args.i item.key c.args.sought.key.now item.tids c.args.sought.tid item.killed c.requires.from c.requires.last
+    (item-reads (tree_columns c.args.columns.now) (page_bytes c.args.page) c.args.i (item_shown item.field-0) item.ensures.outcome) keys
     (c.cmp_values-else-killed-2.ensures.same.0 (ne-false c.cmp_values-else-killed-2.result (sym c.is_ne-else-killed-2.ensures ∙ c.if-is_ne-3.false)))
     c.if-killed-2.false c.nth_of.result c.nth_of.ensures.some
 
 pub returns-else-is_ne-3-clause-none : goal.returns-else-is_ne-3-clause-none
 returns-else-is_ne-3-clause-none c none k e is sought read =
     let item = c.in-Ok-Posting in
-    let keys = keys-are c.args.specs.now (page_bytes c.args.page) c.args.i (item_shown item.field-0) item.ensures.outcome ∙ ap (λ (it : TreeItem). keys_in (item_shown it)) item.field-0-is in
+    let keys = keys-are (tree_columns c.args.columns.now) (page_bytes c.args.page) c.args.i (item_shown item.field-0) item.ensures.outcome ∙ ap (λ (it : TreeItem). keys_in (item_shown it)) item.field-0-is in
     let good : IsGood (Posting item.key item.tids item.killed) =
     subst (λ (it : TreeItem). IsGood (item_shown it)) item.field-0-is
-    (item-good c.args.specs.now (page_bytes c.args.page) c.args.i (item_shown item.field-0) item.ensures.outcome) in
+    (item-good (tree_columns c.args.columns.now) (page_bytes c.args.page) c.args.i (item_shown item.field-0) item.ensures.outcome) in
     let at = list-tid item.key item.tids item.killed k e (there _ _ k e keys is) in
     absurd (c.nth_of.ensures.none none good.0 k (at ∙ ap Some sought.tid_is))
 
 pub returns-in-Err-clause-none : goal.returns-in-Err-clause-none
 returns-in-Err-clause-none c none k e is sought read =
-    absurd (item-unread c.args.specs.now (page_bytes c.args.page) c.args.i c.in-Err.field-0 c.in-Err.ensures.outcome read)
+    absurd (item-unread (tree_columns c.args.columns.now) (page_bytes c.args.page) c.args.i c.in-Err.field-0 c.in-Err.ensures.outcome read)
 
 pub returns-in-Ok-Pivot-clause-none : goal.returns-in-Ok-Pivot-clause-none
 returns-in-Ok-Pivot-clause-none c =
     absurd (subst (λ (it : TreeItem). IsGood (item_shown it)) c.in-Ok-Pivot.field-0-is
-    (item-good c.args.specs.now (page_bytes c.args.page) c.args.i (item_shown c.in-Ok-Pivot.field-0) c.in-Ok-Pivot.ensures.outcome))
+    (item-good (tree_columns c.args.columns.now) (page_bytes c.args.page) c.args.i (item_shown c.in-Ok-Pivot.field-0) c.in-Ok-Pivot.ensures.outcome))

@@ -8,7 +8,7 @@ use Rattle.key_orders.specs.Values.{value_shown}
 use Rattle.varlena_attrs.specs.Keyed.{key_types, key_values}
 use Rattle.bt_meta.specs.declared.records.TreeHead.{TreeHead}
 use Rattle.bt_tuples.specs.Tuples.{plain_tid}
-use Rattle.bt_tuples.proofs.Plain.{outcome}
+use Rattle.bt_tuples.proofs.Plain.{outcome-alone}
 use Rattle.bt_tuples.proofs.entries.plain_prefix.Goals as goal
 
 -- one value alone
@@ -19,7 +19,7 @@ first_less Greater is = absurd cc
 
 pub returns : goal.returns
 returns c = λ killed.
-    let specs = c.args.specs.now in
+    let specs = c.args.columns.now.specs.now in
     let tuple = c.args.tuple.now in
     let head : TreeHead = c.in_ok-head.head in
     let h = c.in_ok-head.ensures in
@@ -30,7 +30,7 @@ returns c = λ killed.
       first = first;
       rest = begins.rest;
       tid = plain_tid head;
-      is = outcome specs tuple head h c.requires.long (first ∷ begins.rest) told killed (plain_tid head) begins.count (ap plain_tid (sym h.is));
+      is = outcome-alone specs tuple head h c.requires.long (first ∷ begins.rest) told killed (plain_tid head) begins.count (ap plain_tid (sym h.is));
       fits = begins.fits;
       prefix = c.key_prefix.ensures.prefix;
       below = λ other greater is lt fits. first_less (columns_of specs 0 first other) (c.key_prefix.ensures.below (other ∷ []) greater is lt begins.fits fits);

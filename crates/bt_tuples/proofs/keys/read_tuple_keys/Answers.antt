@@ -15,17 +15,17 @@ key_and key tid = record { kept = key; tid = tid }
 pub returns-in-Ok-clause-keys : goal.returns-in-Ok-clause-keys
 returns-in-Ok-clause-keys c killed =
     let e = c.in-Ok.ensures in
-    let read : IsRead c.args.specs.now c.args.more.now c.args.tuple.now (tree_head_of c.args.tuple.now) c.read_tuple.new.key =
-    subst (λ h. IsRead c.args.specs.now c.args.more.now c.args.tuple.now h c.read_tuple.new.key) e.head
+    let read : IsRead c.args.columns.now.specs.now c.args.columns.now.more.now c.args.tuple.now (tree_head_of c.args.tuple.now) c.read_tuple.new.key =
+    subst (λ h. IsRead c.args.columns.now.specs.now c.args.columns.now.more.now c.args.tuple.now h c.read_tuple.new.key) e.head
     (record { head_is = e.head; begins = e.value; count = e.count; fits = e.fits; whole = e.whole; some = e.some }) in
     record {
-      item = meaning_of c.args.specs.now c.args.more.now c.args.tuple.now killed;
+      item = meaning_of c.args.columns.now.specs.now c.args.columns.now.more.now c.args.tuple.now killed;
       is = sym (e.outcome killed);
-      fits = means-fits c.args.specs.now c.args.more.now c.args.tuple.now c.read_tuple.new.key read killed;
+      fits = means-fits c.args.columns.now.specs.now c.args.columns.now.more.now c.args.tuple.now c.read_tuple.new.key read killed;
       first =
           ap (key_and c.read_tuple.new.key) (c.first_tid-keys.ensures ∙ ap (λ h. first_tid_in h.kind c.args.tuple.now) e.head)
-          ∙ means-first c.args.specs.now c.args.more.now c.args.tuple.now c.read_tuple.new.key read killed;
+          ∙ means-first c.args.columns.now.specs.now c.args.columns.now.more.now c.args.tuple.now c.read_tuple.new.key read killed;
       last =
           ap (key_and c.read_tuple.new.key) (c.last_tid-keys.ensures ∙ ap (λ h. last_tid_in h.kind c.args.tuple.now) e.head)
-          ∙ means-last c.args.specs.now c.args.more.now c.args.tuple.now c.read_tuple.new.key read killed;
+          ∙ means-last c.args.columns.now.specs.now c.args.columns.now.more.now c.args.tuple.now c.read_tuple.new.key read killed;
     }

@@ -16,8 +16,8 @@ use Rattle.bt_walks.proofs.bounds.has_low_entry.Goals as goal
 pub returns-in-Some : goal.returns-in-Some
 returns-in-Some c items whole leaf =
     let tree = c.args.tree.now in
-    let specs = tree.specs.now in
-    let more = tree.more.now in
+    let specs = tree.columns.specs.now in
+    let more = tree.columns.more.now in
     let page = page_bytes c.args.page in
     let lower = separator_of c.args.lower.now in
     let some : first_data page ≤ count_of page = let n = c.if-item_count-first.false in let v = c.item_count.ensures.value in let f = c.first_data-first.ensures in omega (arith, n, v, f) in

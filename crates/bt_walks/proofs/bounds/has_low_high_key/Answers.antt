@@ -19,7 +19,7 @@ returns-then-not-has_high_key c items whole =
     let page = page_bytes c.args.page in
     elim c.then-not-has_high_key.branch [
       | then-not-has_high_key-via-then-not-has_high_key w ↦
-          sym (ap (is_low_separator (order_of tree.specs.now) (Some (separator_of c.args.lower.now))) (high_none tree.specs.now tree.more.now page (sym c.has_high_key.ensures ∙ w.if-not-has_high_key.true)))
+          sym (ap (is_low_separator (order_of tree.columns.specs.now) (Some (separator_of c.args.lower.now))) (high_none tree.columns.specs.now tree.columns.more.now page (sym c.has_high_key.ensures ∙ w.if-not-has_high_key.true)))
       | then-not-has_high_key-via-else-not-has_high_key+then-item_count-eq0 w ↦
           absurd (some_high page items.some (sym c.has_high_key.ensures ∙ w.if-not-has_high_key.false) (sym w.item_count.ensures.value ∙ w.if-item_count-eq0.true))
     ]
@@ -27,8 +27,8 @@ returns-then-not-has_high_key c items whole =
 pub returns-in-Some : goal.returns-in-Some
 returns-in-Some c items whole =
     let tree = c.args.tree.now in
-    let specs = tree.specs.now in
-    let more = tree.more.now in
+    let specs = tree.columns.specs.now in
+    let more = tree.columns.more.now in
     let page = page_bytes c.args.page in
     let lower = separator_of c.args.lower.now in
     let high : has_high_key page ≡ true = sym c.has_high_key.ensures ∙ c.if-not-has_high_key.false in

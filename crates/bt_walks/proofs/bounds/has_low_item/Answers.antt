@@ -17,8 +17,8 @@ use Rattle.bt_walks.proofs.bounds.has_low_item.Goals as goal
 pub returns-in-Some : goal.returns-in-Some
 returns-in-Some c items whole inner =
     let tree = c.args.tree.now in
-    let specs = tree.specs.now in
-    let more = tree.more.now in
+    let specs = tree.columns.specs.now in
+    let more = tree.columns.more.now in
     let page = page_bytes c.args.page in
     let lower = separator_of c.args.lower.now in
     let some : first_data page + 1 ≤ count_of page = let n = c.if-item_count-second.false in let v = c.item_count.ensures.value in let f = c.first_data-second.ensures in omega (arith, n, v, f) in

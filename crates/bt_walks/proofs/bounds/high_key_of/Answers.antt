@@ -14,7 +14,7 @@ returns-then-not-has_high_key-clause-key c items whole =
     let page = page_bytes c.args.page in
     elim c.then-not-has_high_key.branch [
       | then-not-has_high_key-via-then-not-has_high_key w ↦
-          sym (high_none tree.specs.now tree.more.now page (sym c.has_high_key.ensures ∙ w.if-not-has_high_key.true))
+          sym (high_none tree.columns.specs.now tree.columns.more.now page (sym c.has_high_key.ensures ∙ w.if-not-has_high_key.true))
       | then-not-has_high_key-via-else-not-has_high_key+then-item_count-eq0 w ↦
           absurd (some_high page items.some (sym c.has_high_key.ensures ∙ w.if-not-has_high_key.false) (sym w.item_count.ensures.value ∙ w.if-item_count-eq0.true))
     ]
@@ -22,8 +22,8 @@ returns-then-not-has_high_key-clause-key c items whole =
 pub returns-in_ok-from_ref-in-Ok-clause-key : goal.returns-in_ok-from_ref-in-Ok-clause-key
 returns-in_ok-from_ref-in-Ok-clause-key c items whole =
     let tree = c.args.tree.now in
-    let specs = tree.specs.now in
-    let more = tree.more.now in
+    let specs = tree.columns.specs.now in
+    let more = tree.columns.more.now in
     let page = page_bytes c.args.page in
     let high : has_high_key page ≡ true = sym c.has_high_key.ensures ∙ c.if-not-has_high_key.false in
     let some : 1 ≤ count_of page = let n = c.if-item_count-eq0.false in let v = c.item_count.ensures.value in omega (arith, n, v) in
@@ -35,8 +35,8 @@ returns-in_ok-from_ref-in-Ok-clause-key c items whole =
 pub returns-in-Err-clause-key : goal.returns-in-Err-clause-key
 returns-in-Err-clause-key c items whole =
     let tree = c.args.tree.now in
-    let specs = tree.specs.now in
-    let more = tree.more.now in
+    let specs = tree.columns.specs.now in
+    let more = tree.columns.more.now in
     let page = page_bytes c.args.page in
     let high : has_high_key page ≡ true = sym c.has_high_key.ensures ∙ c.if-not-has_high_key.false in
     let some : 1 ≤ count_of page = let n = c.if-item_count-eq0.false in let v = c.item_count.ensures.value in omega (arith, n, v) in

@@ -13,7 +13,7 @@ use Rattle.bt_walks.proofs.bounds.is_bound_of_item.Goals as goal
 pub returns-in-Some-compare_with_item : goal.returns-in-Some-compare_with_item
 returns-in-Some-compare_with_item c plain =
     let tree = c.args.tree.now in
-    let key = first_key (item_at tree.specs.now tree.more.now (page_bytes c.args.page) c.args.i) in
+    let key = first_key (item_at tree.columns.specs.now tree.columns.more.now (page_bytes c.args.page) c.args.i) in
     c.is_eq.ensures ∙ c.in-Some-compare_with_item.ensures.same
-    ∙ ap (λ s. is_eq (compare_keys (columns_of tree.specs.now) tid_order key s)) c.view.ensures
-    ∙ sym (ap (same_bound (same_keys (columns_of tree.specs.now) tid_order) (Some key)) c.in-Some.is)
+    ∙ ap (λ s. is_eq (compare_keys (columns_of tree.columns.specs.now) tid_order key s)) c.view.ensures
+    ∙ sym (ap (same_bound (same_keys (columns_of tree.columns.specs.now) tid_order) (Some key)) c.in-Some.is)

@@ -12,7 +12,7 @@ use Rattle.tree_search.specs.Search.{tree_blocks}
 use Rattle.key_orders.specs.declared.columns.Value.{Value}
 use Rattle.key_orders.specs.declared.Tid.{Tid}
 use Rattle.bt_levels.specs.Files.{number_of, relation_of}
-use Rattle.bt_levels.specs.Sound.{block_count, file_of, held_block, specs_of}
+use Rattle.bt_levels.specs.Sound.{block_count, file_of, held_block, index_columns}
 use Rattle.reports.specs.Added.{each_upto, joined, report_lists}
 use Rattle.reports.specs.Lists.{Lists}
 use Rattle.reports.proofs.Upto.{upto-cut, upto-next, upto-none}
@@ -25,10 +25,10 @@ use Rattle.index_targets.proofs.check.check_entries.Goals as goal
 
 -- what is found of a block, and its entries
 abbrev of-block : SoundTree → Option (List (List Bool)) → Names → ℕ → Lists
-of-block tree targets names b = strays_on (number_of (file_of tree)) (specs_of tree) targets b (held_block names tree b)
+of-block tree targets names b = strays_on (number_of (file_of tree)) (index_columns tree) targets b (held_block names tree b)
 
 abbrev keys-of : SoundTree → Names → ℕ → List (Entry Value Tid)
-keys-of tree names b = leaf_keys (specs_of tree) (held_block names tree b)
+keys-of tree names b = leaf_keys (index_columns tree) (held_block names tree b)
 
 -- one read more
 passed-more : {D E U : Type 0} {n : ℕ} {a b d : Seen} {y : U} {e : D} {f : E} → AskedWithin {T = Failed} {E = D} (Some n) a b (Ok failed) e → AskedWithin {T = U} {E = E} (Some 1) b d (Ok y) f
@@ -45,7 +45,7 @@ pub loop-k-init : goal.loop-k-init
 loop-k-init g c = record {
   lists = λ names told. upto-none report_lists (of-block c.args.tree.now (option_copied c.args.targets) names) c.args.report.now;
   met = λ names told. none c.args.slots.now;
-  hand = λ names told. c.new-ahead.ensures names (relation_of (file_of c.args.tree.now));
+  hand = λ names told. c.new.ensures names (relation_of (file_of c.args.tree.now));
   asked = PassedAtMost-none;
 }
 

@@ -1,10 +1,11 @@
-use Rattle.std.proofs.Common.{◌≡◌, ◌∙◌, ◌+◌, ◌-◌, ◌++◌, ℕ, List, [], ap, append-nil, arith, subst, sym}
+use Rattle.std.proofs.Common.{◌≡◌, ◌∙◌, ◌+◌, ◌-◌, ◌++◌, ℕ, List, ap, append-nil, arith, subst, sym}
 use Rattle.std.specs.List.{flat_map}
 use Rattle.page_layout.specs.Page.{count_of}
 use Rattle.page_layout.specs.View.{page_bytes}
 use Rattle.tree_search.specs.Keys.{Entry}
 use Rattle.key_orders.specs.declared.columns.Value.{Value}
 use Rattle.key_orders.specs.declared.Tid.{Tid}
+use Rattle.varlena_attrs.specs.Columns.{tree_columns}
 use Rattle.tree_image.specs.Image.{first_data, item_at, keys_in, numbers_from}
 use Rattle.bt_steps.specs.Entries.{keys_at}
 use Rattle.bt_steps.proofs.OnLeaf.{item-read, live-parts}
@@ -20,14 +21,14 @@ pub loop-k-preserved : goal.loop-k-preserved
 unfolding keys_at
 loop-k-preserved c = λ readable leaf.
     let page = page_bytes c.args.page in
-    let specs = c.args.specs.now in
+    let columns = tree_columns c.args.columns.now in
     let parts = live-parts page leaf in
     let k = c.loop-k.k in
-    let keys : ℕ → List (Entry Value Tid) = λ i. keys_in (item_at specs [] page i) in
+    let keys : ℕ → List (Entry Value Tid) = λ i. keys_in (item_at columns.specs columns.more page i) in
     let from : c.first_data-first.result ≡ first_data page = c.first_data-first.ensures in
     let i : ℕ = first_data page + k in
     let here : c.first_data-first.result + k ≡ i = omega arith in
-    let read = item-read specs page readable parts.0 parts.2 (c.first_data-first.result + k) (omega arith) (omega (arith, c.loop-k-test.true)) in
+    let read = item-read columns page readable parts.0 parts.2 (c.first_data-first.result + k) (omega arith) (omega (arith, c.loop-k-test.true)) in
     let met : HaveMet (keys i) c.loop-k.slots c.meet_item.new.slots =
     subst (λ (n : ℕ). HaveMet (keys n) c.loop-k.slots c.meet_item.new.slots) here (c.meet_item.ensures read) in
     let next : flat_map keys (numbers_from (first_data page) (k + 1)) ≡ flat_map keys (numbers_from (first_data page) k) ++ keys i =
@@ -38,6 +39,6 @@ loop-k-preserved c = λ readable leaf.
 pub returns : goal.returns
 returns c = λ readable leaf.
     let page = page_bytes c.args.page in
-    let specs = c.args.specs.now in
+    let columns = tree_columns c.args.columns.now in
     let whole : c.loop-k.k ≡ count_of page + 1 - first_data page = omega (arith, c.loop-k-test.false, c.first_data-first.ensures) in
-    subst (λ (n : ℕ). HaveMet (flat_map (λ i. keys_in (item_at specs [] page i)) (numbers_from (first_data page) n)) c.args.slots.now c.loop-k.slots) whole (c.loop-k.invariant readable leaf)
+    subst (λ (n : ℕ). HaveMet (flat_map (λ i. keys_in (item_at columns.specs columns.more page i)) (numbers_from (first_data page) n)) c.args.slots.now c.loop-k.slots) whole (c.loop-k.invariant readable leaf)

@@ -15,21 +15,21 @@ use Rattle.varlena_attrs.proofs.same.has_stored_key.Goals as goal
 
 pub loop-k-init : goal.loop-k-init
 loop-k-init c = record {
-  told = sym (told_none (key_types c.args.specs.now) (length c.args.specs.now) c.args.body.now None (length-map c.args.specs.now (λ k. k.ctype)));
+  told = sym (told_none (key_types c.args.columns.now.specs.now) (length c.args.columns.now.specs.now) c.args.body.now None (length-map c.args.columns.now.specs.now (λ k. k.ctype)));
   within = omega arith;
   left = ap (λ n. values_read n c.args.stored.now) (omega arith);
 }
 
 pub plain_piece-requires-clause-known : goal.plain_piece-requires-clause-known
-plain_piece-requires-clause-known c = key_aligned c.args.specs.now c.loop-k.k _ c.loop-k-test.true c.requires.aligned
+plain_piece-requires-clause-known c = key_aligned c.args.columns.now.specs.now c.loop-k.k _ c.loop-k-test.true c.args.columns.now.aligned
 
 pub value_at-requires-clause-long : goal.value_at-requires-clause-long
 value_at-requires-clause-long c =
-    long_there (get_or c.args.specs.now c.loop-k.k _).ctype c.args.body.now c.loop-k.place c.in-Some.piece.start c.in-Some.piece.len c.found-found.result (key_aligned c.args.specs.now c.loop-k.k _ c.loop-k-test.true c.requires.aligned) c.in-Some.ensures.within c.in-Some.ensures.step c.found-found.ensures
+    long_there (get_or c.args.columns.now.specs.now c.loop-k.k _).ctype c.args.body.now c.loop-k.place c.in-Some.piece.start c.in-Some.piece.len c.found-found.result (key_aligned c.args.columns.now.specs.now c.loop-k.k _ c.loop-k-test.true c.args.columns.now.aligned) c.in-Some.ensures.within c.in-Some.ensures.step c.found-found.ensures
 
 pub loop-k-preserved : goal.loop-k-preserved
 loop-k-preserved c =
-    let specs = c.args.specs.now in
+    let specs = c.args.columns.now.specs.now in
     let body = c.args.body.now in
     let k = c.loop-k.k in
     let none : KeySpec = record { column = 0; ctype = BoolType; desc = false; nulls_first = false } in
@@ -54,7 +54,7 @@ loop-k-preserved c =
 
 pub returns : goal.returns
 returns c =
-    let specs = c.args.specs.now in
+    let specs = c.args.columns.now.specs.now in
     let key = values_read (length specs) c.args.stored.now in
     let k = c.loop-k.k in
     let end : length specs ≤ k = omega (arith, c.loop-k-test.false) in

@@ -11,34 +11,34 @@ abbrev none : KeySpec
 none = record { column = 0; ctype = BoolType; desc = false; nulls_first = false }
 
 pub plain_piece-requires-clause-known : goal.plain_piece-requires-clause-known
-plain_piece-requires-clause-known c = key_aligned c.args.specs.now 0 none (grind arith) c.requires.aligned
+plain_piece-requires-clause-known c = key_aligned c.args.columns.now.specs.now 0 none (grind arith) c.args.columns.now.aligned
 
 pub value_at-value-requires-clause-long : goal.value_at-value-requires-clause-long
 value_at-value-requires-clause-long c =
     let piece = c.in_ok-plain_piece.field-0 in
-    long_there (get_or c.args.specs.now 0 none).ctype c.args.body.now 0 piece.start piece.len c.found-found.result (key_aligned c.args.specs.now 0 none (grind arith) c.requires.aligned) c.in_ok-plain_piece.ensures.within c.in_ok-plain_piece.ensures.step c.found-found.ensures
+    long_there (get_or c.args.columns.now.specs.now 0 none).ctype c.args.body.now 0 piece.start piece.len c.found-found.result (key_aligned c.args.columns.now.specs.now 0 none (grind arith) c.args.columns.now.aligned) c.in_ok-plain_piece.ensures.within c.in_ok-plain_piece.ensures.step c.found-found.ensures
 
 pub loop-k-init : goal.loop-k-init
 loop-k-init c =
     let piece = c.in_ok-plain_piece.field-0 in
     record {
-      begins = begins_first c.args.specs.now none c.args.body.now piece.start piece.len (value_shown c.value_at-value.result) c.found-found.result (grind arith) c.in_ok-plain_piece.ensures.step c.found-found.ensures c.value_at-value.ensures.value;
+      begins = begins_first c.args.columns.now.specs.now none c.args.body.now piece.start piece.len (value_shown c.value_at-value.result) c.found-found.result (grind arith) c.in_ok-plain_piece.ensures.step c.found-found.ensures c.value_at-value.ensures.value;
       within = rw c.found-found.ensures c.in_ok-plain_piece.ensures.within;
     }
 
 pub plain_piece-requires-in-loop-k-clause-known : goal.plain_piece-requires-in-loop-k-clause-known
-plain_piece-requires-in-loop-k-clause-known c = key_aligned c.args.specs.now c.loop-k.k none c.loop-k-test.true c.requires.aligned
+plain_piece-requires-in-loop-k-clause-known c = key_aligned c.args.columns.now.specs.now c.loop-k.k none c.loop-k-test.true c.args.columns.now.aligned
 
 pub plain_piece-requires-in-loop-k-clause-within : goal.plain_piece-requires-in-loop-k-clause-within
 plain_piece-requires-in-loop-k-clause-within c = c.loop-k.invariant.within
 
 pub loop-k-preserved : goal.loop-k-preserved
 loop-k-preserved c = record {
-  begins = begins_next c.args.specs.now none c.args.body.now c.loop-k.k c.loop-k.place c.in_ok-piece.piece.start c.in_ok-piece.piece.len (value_shown c.value_at-value.result) c.loop-k-test.true c.loop-k.invariant.begins c.in_ok-piece.ensures.step;
+  begins = begins_next c.args.columns.now.specs.now none c.args.body.now c.loop-k.k c.loop-k.place c.in_ok-piece.piece.start c.in_ok-piece.piece.len (value_shown c.value_at-value.result) c.loop-k-test.true c.loop-k.invariant.begins c.in_ok-piece.ensures.step;
   within = c.in_ok-piece.ensures.within;
 }
 
 pub returns : goal.returns
 returns c =
-    let some : 0 < length c.args.specs.now = grind arith in
-    begins_all c.args.specs.now none c.args.body.now c.loop-k.k c.loop-k.place (value_shown c.value_at-value.result) c.loop-k.invariant.begins (omega arith) (omega (arith, some)) some c.value_at-value.ensures.fits
+    let some : 0 < length c.args.columns.now.specs.now = grind arith in
+    begins_all c.args.columns.now.specs.now none c.args.body.now c.loop-k.k c.loop-k.place (value_shown c.value_at-value.result) c.loop-k.invariant.begins (omega arith) (omega (arith, some)) some c.value_at-value.ensures.fits

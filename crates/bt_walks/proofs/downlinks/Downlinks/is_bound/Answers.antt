@@ -15,8 +15,8 @@ pub returns-then-i-first_data : goal.returns-then-i-first_data
 returns-then-i-first_data c hand =
     let d = c.args.self.now in
     let tree = c.args.tree.now in
-    let specs = tree.specs.now in
-    let more = tree.more.now in
+    let specs = tree.columns.specs.now in
+    let more = tree.columns.more.now in
     let i = c.in-Item.i in
     let n = next specs more d i c.in-Item.is hand in
     let first : i ≡ first_data d.page = c.if-i-first_data.true ∙ c.first_data.ensures ∙ ap first_data c.new-page.ensures in
@@ -27,8 +27,8 @@ pub returns-else-i-first_data : goal.returns-else-i-first_data
 returns-else-i-first_data c hand =
     let d = c.args.self.now in
     let tree = c.args.tree.now in
-    let specs = tree.specs.now in
-    let more = tree.more.now in
+    let specs = tree.columns.specs.now in
+    let more = tree.columns.more.now in
     let i = c.in-Item.i in
     let k = inner specs more d i c.in-Item.is hand in
     let n = next specs more d i c.in-Item.is hand in

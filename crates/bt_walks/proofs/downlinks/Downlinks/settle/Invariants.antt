@@ -9,7 +9,7 @@ use Rattle.bt_walks.proofs.downlinks.Downlinks.settle.Given as goal
 -- the same downlinks are left
 abbrev pub invariant-loop-self : goal.invariant-loop-self
 invariant-loop-self g l = record {
-  readable : AreReadableDownlinks l.tree.specs.now l.self;
+  readable : AreReadableDownlinks l.tree.columns.specs.now l.self;
   reads : IfTold g.F.Files.seen l.fn.files (λ names. (level : ℕ) (left : List TreeDownlink)
       → Reads (tree_seen names l.tree) (is_in l.dead) (suc level) (turns_of l.fn.self) l.fn.self left
       → Reads (tree_seen names l.tree) (is_in l.dead) (suc level) (turns_of l.self) l.self left);

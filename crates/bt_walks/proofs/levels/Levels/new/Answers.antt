@@ -7,8 +7,7 @@ use Rattle.bt_walks.proofs.levels.Levels.new.Goals as goal
 
 pub returns-clause-ready : goal.returns-clause-ready
 returns-clause-ready c = record {
-  columns = c.requires.columns;
-  upper = c.to_root.ensures.readable c.args.tree.specs.now;
+  upper = c.to_root.ensures.readable c.args.tree.columns.specs.now;
   lower = tt;
   dead = c.in_ok-dead.ensures.sized ∙ c.blocks-blocks.ensures;
   stands = c.in_ok-stands.ensures.sized ∙ c.blocks-blocks.ensures;

@@ -15,7 +15,7 @@ pub loop-self-init : goal.loop-self-init
 loop-self-init g c =
     let none : 0 ≡ walks_of c.args.self.now - walks_of c.args.self.now = omega arith in
     record {
-      ready = record { columns = c.requires.ready.columns; upper = c.requires.ready.upper; lower = tt; dead = c.requires.ready.dead; stands = c.requires.ready.stands; steps = c.requires.ready.steps; right_halves = c.requires.ready.right_halves; half_dead = c.requires.ready.half_dead };
+      ready = record { upper = c.requires.ready.upper; lower = tt; dead = c.requires.ready.dead; stands = c.requires.ready.stands; steps = c.requires.ready.steps; right_halves = c.requires.ready.right_halves; half_dead = c.requires.ready.half_dead };
       same = record { tree = refl; fastroot = refl };
       fewer = omega arith;
       steps = refl;

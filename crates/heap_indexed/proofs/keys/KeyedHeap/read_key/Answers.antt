@@ -24,7 +24,7 @@ pub returns-in-Packed-clause-key : goal.returns-in-Packed-clause-key
 returns-in-Packed-clause-key c = λ names row rows are is.
     let specs = specs_of c.args.self.at.tree.now in
     let k = c.loop-k.k in
-    let lt : k < length specs = omega (arith, ap length c.specs-k-end.ensures) in
+    let lt : k < length specs = omega (arith, ap length c.columns-columns.ensures.specs) in
     so-far-packed specs row.cells k any-spec c.loop-k.key lt
     (ap (slice_get row.cells) (sym (asked-column c.args.self.first specs _ k any-spec c.requires.index.asked lt)) ∙ c.in-Packed.ensures.cell names row (rows ++ rows_unread names c.args.cursor.now) are (ahead names c.args.cursor.now row rows is))
     (c.loop-k.invariant.values names row rows are is)
@@ -35,7 +35,7 @@ loop-k-preserved c =
     let specs = specs_of index.at.tree.now in
     let k = c.loop-k.k in
     let v = value_shown c.in-Held.v in
-    let lt : k < length specs = omega (arith, ap length c.specs-k-end.ensures) in
+    let lt : k < length specs = omega (arith, ap length c.columns-columns.ensures.specs) in
     let at = asked-column index.first specs _ k any-spec c.requires.index.asked lt in
     let columns = c.args.cursor.now.case.now.columns in
     let belongs = c.requires.index.belong.index in
@@ -57,14 +57,14 @@ loop-k-preserved c =
 pub returns-clause-key : goal.returns-clause-key
 returns-clause-key c = λ names row rows are is.
     let specs = specs_of c.args.self.at.tree.now in
-    let end : length specs ≤ c.loop-k.k = omega (arith, ap length c.specs-k-end.ensures) in
+    let end : length specs ≤ c.loop-k.k = omega (arith, ap length c.columns-columns.ensures.specs) in
     so-far-all specs row.cells c.loop-k.k c.loop-k.key (drop_of_length-le specs end) (c.loop-k.invariant.values names row rows are is)
 
 pub returns-clause-fits : goal.returns-clause-fits
 returns-clause-fits c =
     let specs = specs_of c.args.self.at.tree.now in
-    let end : length specs ≤ c.loop-k.k = omega (arith, ap length c.specs-k-end.ensures) in
+    let end : length specs ≤ c.loop-k.k = omega (arith, ap length c.columns-columns.ensures.specs) in
     record {
       fits = fit-all specs c.loop-k.k c.loop-k.key c.loop-k.invariant.fits;
-      whole = omega (arith, c.loop-k.invariant.each, ap length c.specs-k-end.ensures);
+      whole = omega (arith, c.loop-k.invariant.each, ap length c.columns-columns.ensures.specs);
     }

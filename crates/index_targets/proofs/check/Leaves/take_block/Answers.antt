@@ -2,10 +2,10 @@ use Rattle.std.proofs.Common.{◌≡◌, ◌≢◌, ◌∙◌, ◌<◌, ℕ, Lis
 use Rattle.std.specs.Option.{option_copied}
 use Rattle.outside.specs.Outside.{Names}
 use Rattle.outside.proofs.Adding.{Adds-exit, Begins-none}
-use Rattle.key_orders.specs.declared.columns.KeySpec.{KeySpec}
+use Rattle.varlena_attrs.specs.Columns.{TreeColumns, tree_columns}
 use Rattle.bt_levels.specs.declared.sound.SoundTree.{SoundTree}
 use Rattle.bt_levels.specs.Files.{number_of}
-use Rattle.bt_levels.specs.Sound.{HoldsTree, block_count, file_of, held_block, specs_of}
+use Rattle.bt_levels.specs.Sound.{HoldsTree, block_count, file_of, held_block, index_columns}
 use Rattle.bt_steps.specs.Pages.{IsReadable, is_live_leaf}
 use Rattle.bt_steps.proofs.OnLeaf.{live-parts, page-readable}
 use Rattle.leaf_meets.specs.Meeting.{HaveMet, leaf_keys}
@@ -14,20 +14,20 @@ use Rattle.index_targets.specs.Passes.{strays_on}
 use Rattle.index_targets.proofs.check.Leaves.take_block.Goals as goal
 
 -- a leaf of the index can be read
-block-readable : (names : Names) (sound : SoundTree) → HoldsTree names sound → (b : ℕ) → b ≢ 0 → b < block_count sound → is_live_leaf (held_block names sound b) ≡ true → IsReadable (specs_of sound) (held_block names sound b)
+block-readable : (names : Names) (sound : SoundTree) → HoldsTree names sound → (b : ℕ) → b ≢ 0 → b < block_count sound → is_live_leaf (held_block names sound b) ≡ true → IsReadable (index_columns sound) (held_block names sound b)
 block-readable names sound holds b some inside live =
-    page-readable (specs_of sound) (block_count sound) (held_block names sound) b (holds.pages.pages b some inside (live-parts (held_block names sound b) live).1)
+    page-readable (index_columns sound) (block_count sound) (held_block names sound) b (holds.pages.pages b some inside (live-parts (held_block names sound b) live).1)
 
 -- what is known of a page is known of it by another name
-readable-by : (s t : List KeySpec) (p q : List ℕ) → s ≡ t → p ≡ q → (is_live_leaf q ≡ true → IsReadable t q) → is_live_leaf p ≡ true → IsReadable s p
+readable-by : (s t : TreeColumns) (p q : List ℕ) → s ≡ t → p ≡ q → (is_live_leaf q ≡ true → IsReadable t q) → is_live_leaf p ≡ true → IsReadable s p
 readable-by s t p q same-specs same-page h =
-    subst (λ (x : List KeySpec). is_live_leaf p ≡ true → IsReadable x p) (sym same-specs)
+    subst (λ (x : TreeColumns). is_live_leaf p ≡ true → IsReadable x p) (sym same-specs)
     (subst (λ (x : List ℕ). is_live_leaf x ≡ true → IsReadable t x) (sym same-page) h)
 
 pub returns-in_err-take_ahead-clause-lists : goal.returns-in_err-take_ahead-clause-lists
 returns-in_err-take_ahead-clause-lists g c names told =
     let tree = c.args.self.tree.now in
-    let owed = strays_on (number_of (file_of tree)) (specs_of tree) (option_copied c.args.self.targets) c.args.b (held_block names tree c.args.b) in
+    let owed = strays_on (number_of (file_of tree)) (index_columns tree) (option_copied c.args.self.targets) c.args.b (held_block names tree c.args.b) in
     Adds-exit report_lists c.from_residual.result _ c.args.report.now c.args.report.now owed c.from_residual.ensures.1
     (Begins-none report_lists c.args.report.now owed)
 
@@ -37,9 +37,9 @@ returns-clause-lists g c names told =
     let page = c.page-page.ensures ∙ c.in_ok-take_ahead.ensures.bytes names told in
     let not-meta = c.requires.not_meta in
     let some : c.args.b ≢ 0 = λ e. absurd (omega (arith, not-meta, e)) in
-    let readable = readable-by (specs_of tree) (specs_of tree) c.page-page.result.now (held_block names tree c.args.b) (λ i. specs_of tree) page (block-readable names tree (c.requires.holds names told) c.args.b some c.requires.below) in
+    let readable = readable-by (index_columns tree) (index_columns tree) c.page-page.result.now (held_block names tree c.args.b) (λ i. index_columns tree) page (block-readable names tree (c.requires.holds names told) c.args.b some c.requires.below) in
     c.in_ok-judge_page.ensures readable
-    ∙ (λ i. report_lists.join c.args.report.now (strays_on (number_of (file_of tree)) (specs_of tree) (option_copied c.args.self.targets) c.args.b (page i)))
+    ∙ (λ i. report_lists.join c.args.report.now (strays_on (number_of (file_of tree)) (index_columns tree) (option_copied c.args.self.targets) c.args.b (page i)))
 
 pub returns-clause-met : goal.returns-clause-met
 returns-clause-met g c names told =
@@ -47,6 +47,6 @@ returns-clause-met g c names told =
     let page = c.page-page.ensures ∙ c.in_ok-take_ahead.ensures.bytes names told in
     let not-meta = c.requires.not_meta in
     let some : c.args.b ≢ 0 = λ e. absurd (omega (arith, not-meta, e)) in
-    let readable = readable-by c.specs.result.now (specs_of tree) c.page-page.result.now (held_block names tree c.args.b) c.specs.ensures page (block-readable names tree (c.requires.holds names told) c.args.b some c.requires.below) in
-    subst (λ (s : List KeySpec). HaveMet (leaf_keys s (held_block names tree c.args.b)) c.args.slots.now c.meet_page.new.slots) c.specs.ensures
-    (subst (λ (p : List ℕ). HaveMet (leaf_keys c.specs.result.now p) c.args.slots.now c.meet_page.new.slots) page (c.meet_page.ensures readable))
+    let readable = readable-by (tree_columns c.columns.result) (index_columns tree) c.page-page.result.now (held_block names tree c.args.b) c.columns.ensures.lists page (block-readable names tree (c.requires.holds names told) c.args.b some c.requires.below) in
+    subst (λ (s : TreeColumns). HaveMet (leaf_keys s (held_block names tree c.args.b)) c.args.slots.now c.meet_page.new.slots) c.columns.ensures.lists
+    (subst (λ (p : List ℕ). HaveMet (leaf_keys (tree_columns c.columns.result) p) c.args.slots.now c.meet_page.new.slots) page (c.meet_page.ensures readable))

@@ -2,7 +2,7 @@ use Rattle.std.proofs.Common.{◌≡◌, ◌+◌, ◌≤◌, ℕ, List, true, su
 use Rattle.outside.proofs.Adding.{Adds-exit}
 use Rattle.page_layout.specs.Page.{count_of}
 use Rattle.page_layout.specs.View.{page_bytes}
-use Rattle.key_orders.specs.declared.columns.KeySpec.{KeySpec}
+use Rattle.varlena_attrs.specs.Columns.{TreeColumns, tree_columns}
 use Rattle.tree_image.specs.Image.{first_data}
 use Rattle.bt_steps.specs.Entries.{IsRead}
 use Rattle.bt_steps.specs.Pages.{IsReadable, is_live_leaf}
@@ -14,14 +14,14 @@ use Rattle.indexed_rules.specs.Lists.{item_lists, items_lists}
 use Rattle.index_targets.proofs.leaf.Named.judge_items.Goals as goal
 
 -- the items of a leaf that is judged can be read
-read-at : (specs : List KeySpec) (page : List ℕ) (i : ℕ) → IsReadable specs page → is_live_leaf page ≡ true → i ≤ count_of page → first_data page ≤ i → IsRead specs page i
-read-at specs page i readable leaf to from =
+read-at : (columns : TreeColumns) (page : List ℕ) (i : ℕ) → IsReadable columns page → is_live_leaf page ≡ true → i ≤ count_of page → first_data page ≤ i → IsRead columns page i
+read-at columns page i readable leaf to from =
     let parts = live-parts page leaf in
-    item-read specs page readable parts.0 parts.2 i from to
+    item-read columns page readable parts.0 parts.2 i from to
 
 pub loop-i-init : goal.loop-i-init
 loop-i-init c = record {
-  lists = λ readable leaf. upto-none report_lists (item_lists c.args.self.number c.args.self.specs.now (is_in c.args.self.targets.now) c.args.block (page_bytes c.args.page)) c.args.report.now;
+  lists = λ readable leaf. upto-none report_lists (item_lists c.args.self.number (tree_columns c.args.self.columns) (is_in c.args.self.targets.now) c.args.block (page_bytes c.args.page)) c.args.report.now;
 }
 
 pub loop-i-preserved : goal.loop-i-preserved
@@ -29,22 +29,22 @@ loop-i-preserved c =
     let page = page_bytes c.args.page in
     record {
       lists = λ readable leaf.
-          upto-next report_lists (item_lists c.args.self.number c.args.self.specs.now (is_in c.args.self.targets.now) c.args.block page) c.loop-i.i c.args.report.now c.loop-i.report c.judge_item.new.report (c.loop-i.invariant.lists readable leaf)
-          (c.in_ok-judge_item.ensures (λ from. read-at c.args.self.specs.now page (c.loop-i.i + 1) readable leaf (omega arith) from));
+          upto-next report_lists (item_lists c.args.self.number (tree_columns c.args.self.columns) (is_in c.args.self.targets.now) c.args.block page) c.loop-i.i c.args.report.now c.loop-i.report c.judge_item.new.report (c.loop-i.invariant.lists readable leaf)
+          (c.in_ok-judge_item.ensures (λ from. read-at (tree_columns c.args.self.columns) page (c.loop-i.i + 1) readable leaf (omega arith) from));
     }
 
 pub returns-in_err-judge_item : goal.returns-in_err-judge_item
 unfolding items_lists
 returns-in_err-judge_item c readable leaf =
     let page = page_bytes c.args.page in
-    let of = item_lists c.args.self.number c.args.self.specs.now (is_in c.args.self.targets.now) c.args.block page in
+    let of = item_lists c.args.self.number (tree_columns c.args.self.columns) (is_in c.args.self.targets.now) c.args.block page in
     Adds-exit report_lists c.from_residual.result _ c.args.report.now c.judge_item.new.report (each_upto report_lists of (count_of page)) c.from_residual.ensures.1
     (upto-cut report_lists of c.loop-i.i (count_of page) c.args.report.now c.loop-i.report c.judge_item.new.report (omega arith) (c.loop-i.invariant.lists readable leaf)
-    (c.in_err-judge_item.ensures (λ from. read-at c.args.self.specs.now page (c.loop-i.i + 1) readable leaf (omega arith) from)))
+    (c.in_err-judge_item.ensures (λ from. read-at (tree_columns c.args.self.columns) page (c.loop-i.i + 1) readable leaf (omega arith) from)))
 
 pub returns : goal.returns
 unfolding items_lists
 returns c readable leaf =
     let page = page_bytes c.args.page in
     let whole : c.loop-i.i ≡ count_of page = omega arith in
-    subst (λ (n : ℕ). c.loop-i.report ≡ joined c.args.report.now (each_upto report_lists (item_lists c.args.self.number c.args.self.specs.now (is_in c.args.self.targets.now) c.args.block page) n)) whole (c.loop-i.invariant.lists readable leaf)
+    subst (λ (n : ℕ). c.loop-i.report ≡ joined c.args.report.now (each_upto report_lists (item_lists c.args.self.number (tree_columns c.args.self.columns) (is_in c.args.self.targets.now) c.args.block page) n)) whole (c.loop-i.invariant.lists readable leaf)

@@ -3,6 +3,7 @@ use Rattle.std.specs.Prelude.{is_some}
 use Rattle.outside.specs.Adds.{AddsIn}
 use Rattle.page_layout.specs.Page.{page_rule_of}
 use Rattle.page_layout.specs.declared.page.PageKind.TheVariants.{Tree}
+use Rattle.varlena_attrs.specs.Columns.{tree_columns}
 use Rattle.bt_steps.specs.Pages.{IsReadable, is_live_leaf}
 use Rattle.reports.specs.Added.{joined, report_lists}
 use Rattle.reports.specs.Lists.{Lists}
@@ -20,7 +21,7 @@ returns-then-not-is_live_leaf c readable =
     elim c.then-not-is_live_leaf.branch [
       | then-not-is_live_leaf-via-then-not-is_live_leaf w ↦
           sym (report_lists.with_none c.args.report.now)
-          ∙ ap (joined c.args.report.now) (sym (no-leaf self.number self.specs.now (is_in self.targets.now) c.args.block page (told ∙ w.if-not-is_live_leaf.true)))
+          ∙ ap (joined c.args.report.now) (sym (no-leaf self.number (tree_columns self.columns) (is_in self.targets.now) c.args.block page (told ∙ w.if-not-is_live_leaf.true)))
       | then-not-is_live_leaf-via-else-not-is_live_leaf+then-is_some w ↦
           let laid_out = (readable (told ∙ w.if-not-is_live_leaf.false)).laid_out in
           let rule = w.page_rule.ensures.value ∙ ap (page_rule_of Tree) c.new-page.ensures ∙ laid_out in
@@ -34,6 +35,6 @@ returns c readable =
     let may = is_in self.targets.now in
     let live = sym (c.is_live_leaf.ensures ∙ ap is_live_leaf c.new-page.ensures) ∙ c.if-not-is_live_leaf.false in
     subst (λ (l : Lists). AddsIn report_lists c.judge_items.result c.args.report.now c.judge_items.new.report l)
-    (sym (a-leaf self.number self.specs.now may c.args.block page live))
-    (subst (λ (p : List ℕ). IsReadable self.specs.now p → is_live_leaf p ≡ true → AddsIn report_lists c.judge_items.result c.args.report.now c.judge_items.new.report (items_lists self.number self.specs.now may c.args.block p)) c.new-page.ensures
+    (sym (a-leaf self.number (tree_columns self.columns) may c.args.block page live))
+    (subst (λ (p : List ℕ). IsReadable (tree_columns self.columns) p → is_live_leaf p ≡ true → AddsIn report_lists c.judge_items.result c.args.report.now c.judge_items.new.report (items_lists self.number (tree_columns self.columns) may c.args.block p)) c.new-page.ensures
     c.judge_items.ensures (readable live) live)

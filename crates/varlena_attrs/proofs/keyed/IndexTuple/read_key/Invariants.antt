@@ -4,7 +4,7 @@ use Rattle.key_orders.specs.Keys.{fits_columns}
 use Rattle.key_orders.specs.declared.columns.ColType.{ColType as Column}
 use Rattle.varlena_attrs.specs.Keyed.{key_types}
 use Rattle.varlena_attrs.specs.KeyedShown.{told_by}
-use Rattle.varlena_attrs.proofs.keyed.IndexColumns.read_key.Given as goal
+use Rattle.varlena_attrs.proofs.keyed.IndexTuple.read_key.Given as goal
 
 -- the values so far and the columns that are left tell what all columns do
 abbrev pub invariant-loop-spec : goal.invariant-loop-spec

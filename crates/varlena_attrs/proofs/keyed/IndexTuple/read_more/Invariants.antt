@@ -2,7 +2,7 @@ use Rattle.std.proofs.Common.{◌≡◌, ◌≤◌, ◌+◌, ◌++◌, List, len
 use Rattle.key_orders.specs.declared.columns.Value.{Value}
 use Rattle.varlena_attrs.specs.Keyed.{more_types}
 use Rattle.varlena_attrs.specs.KeyedShown.{told_by}
-use Rattle.varlena_attrs.proofs.keyed.IndexColumns.read_more.Given as goal
+use Rattle.varlena_attrs.proofs.keyed.IndexTuple.read_more.Given as goal
 
 -- the values so far and the columns that are left tell what all columns do
 abbrev pub invariant-loop-m : goal.invariant-loop-m

@@ -2,7 +2,7 @@ use Rattle.std.specs.Option.{option_copied}
 use Rattle.std.proofs.lemmas.Result.{err_from_is_err_and}
 use Rattle.varlena_attrs.specs.Shown.{shown_at}
 use Rattle.varlena_attrs.proofs.Keying.{failed_column, past_column}
-use Rattle.varlena_attrs.proofs.keyed.IndexColumns.read.Goals as goal
+use Rattle.varlena_attrs.proofs.keyed.IndexTuple.read.Goals as goal
 
 pub returns-in_err-found-clause-fault : goal.returns-in_err-found-clause-fault
 returns-in_err-found-clause-fault c =

@@ -3,7 +3,7 @@ use Rattle.std.proofs.lemmas.List.{length-append}
 use Rattle.varlena_attrs.specs.Keyed.{key_types}
 use Rattle.varlena_attrs.specs.KeyedShown.{told_by}
 use Rattle.varlena_attrs.proofs.Keying.{fits_push, key_aligned, key_types-drop}
-use Rattle.varlena_attrs.proofs.keyed.IndexColumns.read_key.Goals as goal
+use Rattle.varlena_attrs.proofs.keyed.IndexTuple.read_key.Goals as goal
 
 pub read-requires-clause-known : goal.read-requires-clause-known
 read-requires-clause-known c = key_aligned c.args.specs.now c.loop-spec.spec-index _ c.loop-spec-test.true c.requires.aligned

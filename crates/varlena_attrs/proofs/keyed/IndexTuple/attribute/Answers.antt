@@ -12,7 +12,7 @@ use Rattle.varlena_attrs.specs.Reading.{attribute_at}
 use Rattle.varlena_attrs.specs.Shown.{shown_at}
 use Rattle.varlena_attrs.proofs.Ends.{stored_there}
 use Rattle.varlena_attrs.proofs.Keying.{plain_fits}
-use Rattle.varlena_attrs.proofs.keyed.IndexColumns.attribute.Goals as goal
+use Rattle.varlena_attrs.proofs.keyed.IndexTuple.attribute.Goals as goal
 
 long_too : (ctype : ColType) (r : Result Found KeyFault) (found : Found) → IfOk r (λ f. f ≡ found) → HasPlainLength ctype found.place → IfOk r (λ f. HasPlainLength ctype f.place)
 long_too ctype (Ok f) found e h = subst (λ (g : Found). HasPlainLength ctype g.place) (sym e) h

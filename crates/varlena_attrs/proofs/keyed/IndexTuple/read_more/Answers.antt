@@ -3,7 +3,7 @@ use Rattle.std.proofs.lemmas.List.{length-append}
 use Rattle.varlena_attrs.specs.Keyed.{more_types}
 use Rattle.varlena_attrs.specs.KeyedShown.{told_by}
 use Rattle.varlena_attrs.proofs.Keying.{more_aligned, more_types-drop}
-use Rattle.varlena_attrs.proofs.keyed.IndexColumns.read_more.Goals as goal
+use Rattle.varlena_attrs.proofs.keyed.IndexTuple.read_more.Goals as goal
 
 pub read-requires-clause-known : goal.read-requires-clause-known
 read-requires-clause-known c = more_aligned c.args.more.now c.loop-m.m-index _ c.loop-m-test.true c.requires.aligned
