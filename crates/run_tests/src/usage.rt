@@ -145,7 +145,7 @@ fn cases_are_refused(rt: HostRuntime) -> Result<(), Fail> {
             "C4 column[0].missing",
         ),
         ("", oldest, "", "type = \"real\"\n", "C5 column[0].type"),
-        ("", oldest, "", "type = \"oid\"\n", "C5 column[0].type"),
+        ("", oldest, "", "type = \"Oid\"\n", "C5 column[0].type"),
         ("colour = 1\n", oldest, "", int, "C6 top"),
         ("", oldest, "colour = 1\n", int, "C6 heap"),
         ("", oldest, "", "type = \"int4\"\nlen = 4\n", "C6 column[0]"),
