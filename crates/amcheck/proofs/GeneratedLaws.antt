@@ -175,6 +175,8 @@ sound_index name file m n column ctype named least most stored first last key = 
   file = path_of file n stored first last;
   count = (omega arith, omega arith);
   keys = (key, record {});
+  few_more = omega arith;
+  more = record {};
 }
 
 pub sound_generated : IsSoundCase generated_case

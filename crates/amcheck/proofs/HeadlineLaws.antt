@@ -28,6 +28,7 @@ use Rattle.bt_steps.specs.Pages.{is_killed}
 use Rattle.bt_steps.specs.Sought.{HasAlive}
 use Rattle.bt_steps.proofs.Members.{either-in, first-in, none-in, other-in}
 use Rattle.indexed_rules.specs.Broken.{AreJoined, IsIndexed}
+use Rattle.indexed_rules.proofs.Alive.{searched}
 use Rattle.indexed_rules.specs.Rows.{keys_of}
 use Rattle.amcheck.specs.Headline.{Finds, IsAnswered, IsFound, IsTrueIndex, just_at, pages_of}
 use Rattle.amcheck.specs.Laws.{AreLaws}
@@ -103,6 +104,7 @@ module _ (laws : AreLaws) (case : CaseRecord) (names : Names) (n : ℕ) (sound :
   found_by : (tid : Tid) (has : HasRowAt (rows_of case names) tid) → IsIndexed case names n has.row → IsFound case names n tid
   found_by tid has is =
       let answer = answered (just_at is.key) in
+      let entry = searched (tree_of case names n) is.key is.more has.row.root is.entry in
       record {
         row = has.row;
         at = has.at;
@@ -111,9 +113,9 @@ module _ (laws : AreLaws) (case : CaseRecord) (names : Names) (n : ℕ) (sound :
         values = is.values;
         entries = answer.entries;
         finds = answer.finds;
-        entry = is.entry.entry;
-        among = comes is.key has.row.root answer.entries answer.finds is.entry;
-        root = is.entry.sought.tid_is;
+        entry = entry.entry;
+        among = comes is.key has.row.root answer.entries answer.finds entry;
+        root = entry.sought.tid_is;
       }
 
   pub index_is_true : IsTrueIndex case names n

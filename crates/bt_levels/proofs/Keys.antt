@@ -1,4 +1,4 @@
--- The key columns of an index of a case.
+-- The columns of an index of a case.
 use Rattle.std.proofs.Common.{◌≡◌, ℕ, ◌-◌, ◌<◌, ◌≤◌, true, List, [], ◌∷◌, length, get_or, refl, sym, ap, subst, arith}
 use Rattle.std.specs.Prelude.{All, slice_get, unwrap_or, option_map, Option, Some, None}
 use Rattle.std.specs.List.{AllByRecursion}
@@ -8,10 +8,11 @@ use Rattle.key_orders.specs.declared.columns.ColType.{ColType}
 use Rattle.key_orders.specs.declared.columns.ColType.TheVariants.{Bool as BoolType, Int2, Int4, Int8, Uuid, Text, Bytea, Oid, Date, Timestamp, Timestamptz, Fixed, Varlena}
 use Rattle.key_orders.specs.declared.columns.KeySpec.{KeySpec}
 use Rattle.key_orders.specs.Types.{HasAlignment, may_be_key}
-use Rattle.varlena_attrs.specs.Keyed.{key_types}
+use Rattle.varlena_attrs.specs.Keyed.{key_types, more_types}
 use Rattle.case_file.specs.declared.case.Column.{Column}
 use Rattle.case_file.specs.Record.{CaseRecord, IndexRecord}
 use Rattle.case_file.specs.Sound.{IsSound, IsSoundIndex, IsSoundKey}
+use Rattle.case_file.proofs.Aligned.{more_aligned}
 use Rattle.bt_levels.specs.Index.{index_of, no_index}
 
 keyed-aligned : (t : ColType) → may_be_key t ≡ true → HasAlignment t
@@ -44,6 +45,12 @@ few-keys case n sound first last = let s = index-sound case n sound first last i
 
 pub aligned-keys : (case : CaseRecord) (n : ℕ) → IsSound case → 1 ≤ n → n ≤ length case.indexes → All HasAlignment (key_types (index_of case n).keys)
 aligned-keys case n sound first last = keys-aligned case.columns (index_of case n).keys (index-sound case n sound first last).keys
+
+pub few-more : (case : CaseRecord) (n : ℕ) → IsSound case → 1 ≤ n → n ≤ length case.indexes → length (index_of case n).more ≤ 24
+few-more case n sound first last = (index-sound case n sound first last).few_more
+
+pub aligned-more : (case : CaseRecord) (n : ℕ) → IsSound case → 1 ≤ n → n ≤ length case.indexes → All HasAlignment (more_types (index_of case n).more)
+aligned-more case n sound first last = more_aligned case.columns (index_of case n).more sound.columns (index-sound case n sound first last).more
 
 -- what an index is asked for
 pub index-has : {X : Type 0} (f : IndexRecord → X) (case : CaseRecord) (n : ℕ) (x : X) → option_map f (slice_get case.indexes (n - 1)) ≡ Some x → x ≡ f (index_of case n)

@@ -1,5 +1,5 @@
 -- The index that the code's rules stand for is that of the case.
-use Rattle.std.proofs.Common.{◌≡◌, ℕ, []}
+use Rattle.std.proofs.Common.{◌≡◌, ℕ}
 use Rattle.outside.specs.Outside.{Names}
 use Rattle.rel_files.specs.Blocks.{block_of}
 use Rattle.rel_files.specs.Relation.{IsRelationOf, long_of}
@@ -10,7 +10,7 @@ use Rattle.bt_pages.specs.declared.tree.TreeRules.{TreeRules}
 use Rattle.bt_levels.specs.Index.{index_of, tree_lists, tree_of}
 use Rattle.bt_levels.specs.Lists.{index_lists}
 
-module _ (case : CaseRecord) (names : Names) (n : ℕ) (rules : TreeRules) (number : rules.number ≡ n) (specs : rules.columns.specs.now ≡ (index_of case n).keys) (more : rules.columns.more.now ≡ [])
+module _ (case : CaseRecord) (names : Names) (n : ℕ) (rules : TreeRules) (number : rules.number ≡ n) (specs : rules.columns.specs.now ≡ (index_of case n).keys) (more : rules.columns.more.now ≡ (index_of case n).more)
     (named : IsNamed (index_of case n).file case.segment_blocks rules.relation.now) (is : IsRelationOf names (index_of case n).file case.segment_blocks block_limit rules.relation.now) where
   pub tree-seen : tree_seen names rules ≡ tree_of case names n
   tree-seen = λ i. record {

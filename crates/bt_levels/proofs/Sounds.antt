@@ -9,7 +9,7 @@ use Rattle.key_orders.specs.declared.columns.KeySpec.{KeySpec}
 use Rattle.key_orders.specs.declared.columns.Value.{Value}
 use Rattle.key_orders.specs.declared.Tid.{Tid}
 use Rattle.key_orders.specs.Keys.{columns_of, tid_order}
-use Rattle.std.proofs.Common.{List, [], sym, subst}
+use Rattle.std.proofs.Common.{List, sym, subst}
 use Rattle.std.specs.Prelude.{None}
 use Rattle.outside.specs.Outside.{Names}
 use Rattle.rel_files.specs.Blocks.{block_of}
@@ -20,8 +20,8 @@ use Rattle.bt_walks.specs.Trees.{first_broken_in, image_of, order_in, same_in}
 use Rattle.bt_levels.specs.declared.sound.SoundTree.{SoundTree}
 use Rattle.bt_levels.specs.Broken.{IsTrueTree}
 use Rattle.bt_levels.specs.Files.{BelongsTo, IsFileOf, number_of}
-use Rattle.bt_levels.specs.Index.{index_of, tree_of}
-use Rattle.bt_levels.specs.Sound.{HoldsTree, block_count, file_of, held_block, specs_of}
+use Rattle.bt_levels.specs.Index.{case_columns, tree_of}
+use Rattle.bt_levels.specs.Sound.{HoldsTree, block_count, file_of, held_block, index_columns, more_of, specs_of}
 
 eq_equal : (a : Ordering) → is_eq a ≡ true → a ≡ Equal
 eq_equal Less h = absurd cc
@@ -37,15 +37,15 @@ pub same_law : (specs : List KeySpec) → ((s t : Separator Value Tid) → (comp
 same_law specs same_key s t = (λ e. (same_key s t).0 (eq_equal _ e), λ e. equal_eq _ ((same_key s t).1 e))
 
 -- an index of a case in which nothing was found is what a search of it asks for
-pub holds-from : (case : CaseRecord) (names : Names) (sound : SoundTree) → specs_of sound ≡ (index_of case (number_of (file_of sound))).keys → IsFileOf case names (file_of sound) → BelongsTo case (file_of sound)
+pub holds-from : (case : CaseRecord) (names : Names) (sound : SoundTree) → index_columns sound ≡ case_columns case (number_of (file_of sound)) → IsFileOf case names (file_of sound) → BelongsTo case (file_of sound)
     → IsTrueTree (tree_of case names (number_of (file_of sound))) → first_broken_in (tree_of case names (number_of (file_of sound))) ≡ None → IsShapeOf (tree_of case names (number_of (file_of sound))) sound.shape → HoldsTree names sound
-holds-from case names sound specs file belongs true_tree none shape =
+holds-from case names sound columns file belongs true_tree none shape =
     let n = number_of (file_of sound) in
-    let own : Tree = record { number = n; specs = specs_of sound; more = []; blocks = block_count sound; block = held_block names sound } in
+    let own : Tree = record { number = n; specs = specs_of sound; more = more_of sound; blocks = block_count sound; block = held_block names sound } in
     let same : tree_of case names n ≡ own = λ i. record {
       number = n;
-      specs = sym specs i;
-      more = [];
+      specs = (sym columns i).specs;
+      more = (sym columns i).more;
       blocks = sym file.count i;
       block = block_of names (sym belongs.named.named i) (sym belongs.named.sized i);
     } in

@@ -11,14 +11,14 @@ use Rattle.bt_levels.specs.Lists.{index_lists}
 
 -- index n, counted from 1
 abbrev pub no_index : IndexRecord
-no_index = record { name = []; file = []; keys = [] }
+no_index = record { name = []; file = []; keys = []; more = [] }
 
 abbrev pub index_of : CaseRecord → ℕ → IndexRecord
 index_of case n = unwrap_or (slice_get case.indexes (n - 1)) no_index
 
--- its columns; none are included, since a case lists none
+-- its columns: those of its key, and those that it includes
 abbrev pub case_columns : CaseRecord → ℕ → TreeColumns
-case_columns case n = record { specs = (index_of case n).keys; more = [] }
+case_columns case n = record { specs = (index_of case n).keys; more = (index_of case n).more }
 
 -- its columns and its blocks, as these names hold them
 abbrev pub tree_of : CaseRecord → Names → ℕ → Tree

@@ -1,7 +1,8 @@
 -- An index in which nothing was found.
-use Rattle.std.specs.Prelude.{◌≡◌, ℕ, List, []}
+use Rattle.std.specs.Prelude.{◌≡◌, ℕ, List}
 use Rattle.outside.specs.Outside.{Names}
 use Rattle.key_orders.specs.declared.columns.KeySpec.{KeySpec}
+use Rattle.key_orders.specs.declared.more.MoreSpec.{MoreSpec}
 use Rattle.key_orders.specs.Scans.{order_of}
 use Rattle.case_file.specs.Record.{CaseRecord}
 use Rattle.rel_files.specs.Blocks.{block_of}
@@ -14,18 +15,20 @@ use Rattle.bt_walks.specs.Counts.{half_dead_in, right_halves_in}
 use Rattle.bt_levels.specs.declared.files.TreeFile.{TreeFile}
 use Rattle.bt_levels.specs.declared.sound.SoundTree.{SoundTree}
 use Rattle.bt_levels.specs.Files.{BelongsTo, number_of, relation_of}
-use Rattle.bt_levels.specs.Index.{case_columns, index_of}
+use Rattle.bt_levels.specs.Index.{case_columns}
 
--- its file, and the columns of its key
+-- its file, the columns of its key, and those that it includes
 abbrev pub file_of : SoundTree → TreeFile
 file_of sound = sound.file
 
 abbrev pub specs_of : SoundTree → List KeySpec
 specs_of sound = sound.specs.items
 
--- all its columns; none are included, since a case lists none
+abbrev pub more_of : SoundTree → List MoreSpec
+more_of sound = sound.more.items
+
 abbrev pub index_columns : SoundTree → TreeColumns
-index_columns sound = record { specs = specs_of sound; more = [] }
+index_columns sound = record { specs = specs_of sound; more = more_of sound }
 
 -- what it keeps of its levels
 abbrev pub fastroot_of : SoundTree → ℕ
@@ -44,7 +47,6 @@ half_dead_of sound = sound.shape.half_dead
 pub record IsSoundIndexOf (case : CaseRecord) (n : ℕ) (sound : SoundTree) : Type 0 where
   pub number : number_of (file_of sound) ≡ n
   pub belongs : BelongsTo case (file_of sound)
-  pub keys : specs_of sound ≡ (index_of case n).keys
   pub columns : index_columns sound ≡ case_columns case n
 
 -- its blocks, as these names hold them

@@ -1,5 +1,5 @@
 //! Judges an index of a case.
-ghost use Rattle.std.specs.Prelude.{◌≡◌, ◌≤◌, ◌↔◌, ◌⊎◌, ◌*◌, [], IfErr, IfOk, IfSome, IsSome, length};
+ghost use Rattle.std.specs.Prelude.{◌≡◌, ◌≤◌, ◌↔◌, ◌⊎◌, ◌*◌, IfErr, IfOk, IfSome, IsSome, length};
 ghost use Rattle.outside.specs.Adds.{AddsIn};
 ghost use Rattle.outside.specs.Outside.{AskedAtMost, IfTold, Tells};
 ghost use Rattle.rel_files.specs.Relation.{count_of};
@@ -17,22 +17,22 @@ use crate::sound::SoundTree;
 use bt_pages::TreeRules;
 use bt_walks::TreeShape;
 use case_file::Case;
-use key_orders::{KeySpec, key_orders_are_total};
+use key_orders::{KeySpec, MoreSpec, key_orders_are_total};
 use outside::{Files, NoMemory};
 use reports::{CheckFault, PageFault, Report};
 use std::alloc::Global;
 use tree_image::kept_rules_make_a_sound_image;
 use varlena_attrs::IndexColumns;
 
-// The columns of index `n` of a case, which lists none that are included.
+// The columns of index `n` of a case.
 fn case_columns(case: &Case, n: u16) -> IndexColumns<'_>
     requires first { 1 ≤ n }
     requires last { n ≤ length case.now.indexes }
     ensures specs { result.specs.now ≡ (index_of case.now n).keys }
-    ensures more { result.more.now ≡ [] }
+    ensures more { result.more.now ≡ (index_of case.now n).more }
 {
     case.sound();
-    IndexColumns::new(case.index_keys(n), &[])
+    IndexColumns::new(case.index_keys(n), case.index_more(n))
 }
 
 // What the rules of the index need to know.
@@ -40,7 +40,7 @@ fn rules_of<'p>(case: &'p Case, at: &'p TreeFile) -> TreeRules<'p>
     requires { BelongsTo case.now at.now }
     ensures number { result.number ≡ number_of at.now }
     ensures specs { result.columns.specs.now ≡ (index_of case.now (number_of at.now)).keys }
-    ensures more { result.columns.more.now ≡ [] }
+    ensures more { result.columns.more.now ≡ (index_of case.now (number_of at.now)).more }
     ensures relation { result.relation.now ≡ relation_of at.now }
 {
     TreeRules {
@@ -82,6 +82,14 @@ fn keys_of(alloc: Global, specs: &[KeySpec]) -> Result<Vec<KeySpec>, NoMemory>
     Ok(keys)
 }
 
+// The columns beside it, in memory of their own.
+fn included_of(alloc: Global, more: &[MoreSpec]) -> Result<Vec<MoreSpec>, NoMemory>
+    ensures { IfOk result (λ columns. columns.items ≡ more.now) }
+{
+    let columns = more.to_vec(alloc)?;
+    Ok(columns)
+}
+
 /// Judges an index of a case, and adds to the report all that is found of it and all that can't be
 /// judged: its segments (S1); block 0 (P1 to P4, M1, M2, U4); where nothing came up there, each other
 /// block by its number (P1 to P4, B1 to B13, U5); and where nothing came up at all, the first of the
@@ -119,10 +127,12 @@ pub fn check_tree<F: Files>(
         return Ok(None);
     };
     let specs = keys_of(alloc, case.index_keys(at.index))?;
+    let more = included_of(alloc, case.index_more(at.index))?;
     case.sound();
     Ok(Some(SoundTree {
         file: at,
         specs,
+        more,
         shape,
     }))
 }

@@ -1,25 +1,27 @@
 //! An index in which nothing was found.
 ghost use Rattle.std.specs.Prelude.{◌≤◌, All, length};
 ghost use Rattle.key_orders.specs.Types.{HasAlignment};
-ghost use Rattle.varlena_attrs.specs.Keyed.{key_types};
+ghost use Rattle.varlena_attrs.specs.Keyed.{key_types, more_types};
 
 use crate::files::TreeFile;
 use bt_walks::TreeShape;
-use key_orders::KeySpec;
+use key_orders::{KeySpec, MoreSpec};
 use outside::Files;
 use rel_files::{Ahead, ReadFault};
 use varlena_attrs::IndexColumns;
 
-/// The file of an index, in which nothing was found and nothing stayed unjudged, with the columns of its
-/// key and what its levels have. It stores none of its bytes: it is used with the files and the case that
-/// it was made with.
+/// The file of an index, in which nothing was found and nothing stayed unjudged, with its columns and what
+/// its levels have. It stores none of its bytes: it is used with the files and the case that it was made with.
 #[derive(Drop)]
 pub struct SoundTree {
     pub(crate) file: TreeFile,
     pub(crate) specs: Vec<KeySpec>,
+    pub(crate) more: Vec<MoreSpec>,
     pub(crate) shape: TreeShape,
     ghost few: { length specs.items ≤ 8 },
+    ghost few_more: { length more.items ≤ 24 },
     ghost aligned: { All HasAlignment (key_types specs.items) },
+    ghost aligned_more: { All HasAlignment (more_types more.items) },
 }
 
 impl SoundTree {
@@ -32,7 +34,7 @@ impl SoundTree {
     ghost use Rattle.rel_files.specs.Relation.{IsAttached, base_of, count_of, size_of};
     ghost use Rattle.bt_levels.specs.Files.{number_of, relation_of};
     ghost use Rattle.bt_levels.specs.Sound.{fastlevel_of, fastroot_of, file_of, half_dead_of, right_halves_of};
-    ghost use Rattle.bt_levels.specs.Sound.{index_columns, specs_of};
+    ghost use Rattle.bt_levels.specs.Sound.{index_columns, more_of, specs_of};
 
     /// The number of its blocks, the metapage among them.
     pub fn blocks(&self) -> u32
@@ -70,12 +72,13 @@ impl SoundTree {
         self.shape.half_dead
     }
 
-    /// Its columns. It has no included ones, since a case lists none.
+    /// Its columns: those of its key, and those that it includes.
     pub fn columns(&self) -> IndexColumns<'_>
         ensures lists { tree_columns result ≡ index_columns self.now }
         ensures specs { result.specs.now ≡ specs_of self.now }
+        ensures more { result.more.now ≡ more_of self.now }
     {
-        IndexColumns::new(&self.specs, &[])
+        IndexColumns::new(&self.specs, &self.more)
     }
 
     /// The columns of its key, at most 8.
@@ -83,6 +86,13 @@ impl SoundTree {
         ensures { result.now ≡ specs_of self.now }
     {
         &self.specs
+    }
+
+    /// The columns that it includes beside its key, at most 24.
+    pub fn more(&self) -> &[MoreSpec]
+        ensures { result.now ≡ more_of self.now }
+    {
+        &self.more
     }
 
     /// Its number in the case, counted from 1.

@@ -1,5 +1,5 @@
 -- A leaf of plain entries with rising numbers.
-use Rattle.std.proofs.Common.{◌≡◌, ◌∙◌, ℕ, ◌+◌, ◌-◌, ◌<◌, ◌≤◌, true, false, List, [], ◌∷◌, sym, ap, subst, arith}
+use Rattle.std.proofs.Common.{◌≡◌, ◌∙◌, ℕ, ◌+◌, ◌-◌, ◌<◌, ◌≤◌, true, false, List, ◌∷◌, sym, ap, subst, arith}
 use Rattle.std.specs.Prelude.{◌||◌, nat_le, nat_lt, not, Ok}
 use Rattle.std.specs.Ordering.{is_lt, ordering_then}
 use Rattle.std.specs.declared.cmp.Ordering.{Ordering}
@@ -51,52 +51,52 @@ module _ (specs : List KeySpec) (more : List MoreSpec) (page : List ℕ) where
   unfolding pass_of
   rise-pass live all high = λ i. pass_by (live i) (all.plain i) (all.order i || high i)
 
--- THE ENTRIES OF A LEAF WITHOUT INCLUDED COLUMNS
+-- THE ENTRIES OF A LEAF
 
-module _ (specs : List KeySpec) (page : List ℕ) (live : is_half_dead (opaque_of page) ≡ false) (leaf : is_leaf (opaque_of page) ≡ true) where
-  module _ (i number : ℕ) (from : first_data page ≤ i) (e : IsPlainEntry specs page i number) where
+module _ (specs : List KeySpec) (more : List MoreSpec) (page : List ℕ) (live : is_half_dead (opaque_of page) ≡ false) (leaf : is_leaf (opaque_of page) ≡ true) where
+  module _ (i number : ℕ) (from : first_data page ≤ i) (e : IsPlainEntry specs more page i number) where
     entry : Item
-    entry = Plain (e.first ∷ e.rest) [] e.tid (is_dead (item_of page i).flag)
+    entry = Plain (e.first ∷ e.rest) e.included e.tid (is_dead (item_of page i).flag)
 
-    entry-read : item_outcome specs [] (spot_of page i) page i ≡ Ok entry
+    entry-read : item_outcome specs more (spot_of page i) page i ≡ Ok entry
     unfolding entry
-    entry-read = ap (λ (s : Spot3). item_outcome specs [] s page i) (leaf_spot page i leaf from) ∙ e.is
+    entry-read = ap (λ (s : Spot3). item_outcome specs more s page i) (leaf_spot page i leaf from) ∙ e.is
 
-    pub entry-plain : is_without_fault specs [] page i ≡ true
-    entry-plain = plain-read specs [] page i entry live entry-read
+    pub entry-plain : is_without_fault specs more page i ≡ true
+    entry-plain = plain-read specs more page i entry live entry-read
 
-    entry-is : item_at specs [] page i ≡ entry
-    entry-is = sym (item-means specs [] page i live entry entry-read)
+    entry-is : item_at specs more page i ≡ entry
+    entry-is = sym (item-means specs more page i live entry entry-read)
 
-    pub entry-last : last_key (item_at specs [] page i) ≡ key_with (e.first ∷ e.rest) e.tid
+    pub entry-last : last_key (item_at specs more page i) ≡ key_with (e.first ∷ e.rest) e.tid
     unfolding entry
     entry-last = ap last_key entry-is
 
-    pub entry-first : first_key (item_at specs [] page i) ≡ key_with (e.first ∷ e.rest) e.tid
+    pub entry-first : first_key (item_at specs more page i) ≡ key_with (e.first ∷ e.rest) e.tid
     unfolding entry
     entry-first = ap first_key entry-is
 
   -- the first values tell it, so that the others don't count
-  values_below : (i m n : ℕ) (e : IsPlainEntry specs page i m) (f : IsPlainEntry specs page (i + 1) n) → m < n → compare_values (columns_of specs) 0 (e.first ∷ e.rest) (f.first ∷ f.rest) ≡ Less
+  values_below : (i m n : ℕ) (e : IsPlainEntry specs more page i m) (f : IsPlainEntry specs more page (i + 1) n) → m < n → compare_values (columns_of specs) 0 (e.first ∷ e.rest) (f.first ∷ f.rest) ≡ Less
   values_below i m n e f lt = ap (λ (o : Ordering). ordering_then o (compare_values (columns_of specs) 1 e.rest f.rest)) (e.below f.first n f.prefix lt f.fits)
 
-  entry-below : (i m n : ℕ) → first_data page ≤ i → (e : IsPlainEntry specs page i m) (f : IsPlainEntry specs page (i + 1) n) → m < n
-      → is_key_below specs (last_key (item_at specs [] page i)) (first_key (item_at specs [] page (i + 1))) ≡ true
+  entry-below : (i m n : ℕ) → first_data page ≤ i → (e : IsPlainEntry specs more page i m) (f : IsPlainEntry specs more page (i + 1) n) → m < n
+      → is_key_below specs (last_key (item_at specs more page i)) (first_key (item_at specs more page (i + 1))) ≡ true
   entry-below i m n from e f lt =
       (λ k. is_key_below specs (entry-last i m from e k) (entry-first (i + 1) n (omega (arith, from)) f k))
       ∙ ap (λ (o : Ordering). is_lt (ordering_then o (tid_order e.tid f.tid))) (values_below i m n e f lt)
 
-  entry-order : (i m n : ℕ) → first_data page ≤ i → IsPlainEntry specs page i m → IsPlainEntry specs page (i + 1) n → m < n → breaks_order specs [] page (i + 1) ≡ false
+  entry-order : (i m n : ℕ) → first_data page ≤ i → IsPlainEntry specs more page i m → IsPlainEntry specs more page (i + 1) n → m < n → breaks_order specs more page (i + 1) ≡ false
   unfolding breaks_order
   entry-order i m n from e f lt =
       let before : i + 1 - 1 ≡ i = omega arith in
       second_false (nat_le (first_compared page) (i + 1)) _
-      (ap (λ (j : ℕ). not (is_key_below specs (last_key (item_at specs [] page j)) (first_key (item_at specs [] page (i + 1))))) before
+      (ap (λ (j : ℕ). not (is_key_below specs (last_key (item_at specs more page j)) (first_key (item_at specs more page (i + 1))))) before
       ∙ ap not (entry-below i m n from e f lt))
 
-  pub rise-entry : (i m n : ℕ) → first_data page ≤ i → IsPlainEntry specs page i m → IsPlainEntry specs page (i + 1) n → m < n → RiseTo specs [] page i → RiseTo specs [] page (i + 1)
+  pub rise-entry : (i m n : ℕ) → first_data page ≤ i → IsPlainEntry specs more page i m → IsPlainEntry specs more page (i + 1) n → m < n → RiseTo specs more page i → RiseTo specs more page (i + 1)
   rise-entry i m n from e f lt so =
-      rise-next specs [] page i so (entry-plain (i + 1) n (omega (arith, from)) f) (entry-order i m n from e f lt)
+      rise-next specs more page i so (entry-plain (i + 1) n (omega (arith, from)) f) (entry-order i m n from e f lt)
 
 -- THE HIGH KEY
 

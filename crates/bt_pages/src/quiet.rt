@@ -1,6 +1,6 @@
 //! Leaves of plain entries that rise by their first values, as nearly all do: each item is asked once, by its bytes as
 //! they lie. A second way to what a pass over the items tells, for its speed alone.
-ghost use Rattle.std.specs.Prelude.{◌≡◌, ◌≤◌, ◌-◌, [], true, false, None};
+ghost use Rattle.std.specs.Prelude.{◌≡◌, ◌≤◌, ◌-◌, true, false, None};
 ghost use Rattle.std.specs.Bool.{OnTrue};
 ghost use Rattle.page_layout.specs.Page.{count_of, page_rule_of};
 ghost use Rattle.page_layout.specs.View.{page_bytes};
@@ -17,16 +17,17 @@ use page_layout::{PageKind, PageView};
 use tree_image::{breaks_high_key, first_data, has_high_key};
 use varlena_attrs::IndexColumns;
 
-// Whether the data items of a leaf in an index without included columns are plain entries, of which each has a greater
-// number than the one before.
+// Whether the data items of a leaf are plain entries, of which each has a greater number than the one before.
 fn do_entries_rise(page: PageView<'_>, first: u16, columns: &IndexColumns<'_>) -> bool
     requires page { page_rule_of PageKind.Tree (page_bytes page) ≡ None }
     requires live { is_half_dead (opaque_of (page_bytes page)) ≡ false }
     requires leaf { is_leaf (opaque_of (page_bytes page)) ≡ true }
     requires first { first ≡ first_data (page_bytes page) }
     requires some { first ≤ count_of (page_bytes page) }
-    ensures { OnTrue result (RiseTo columns.now.specs.now [] (page_bytes page.entry) (first - 1)
-        → RiseTo columns.now.specs.now [] (page_bytes page.entry) (count_of (page_bytes page.entry))) }
+    ensures { OnTrue result
+        (RiseTo columns.now.specs.now columns.now.more.now (page_bytes page.entry) (first - 1)
+        → RiseTo columns.now.specs.now columns.now.more.now (page_bytes page.entry)
+        (count_of (page_bytes page.entry))) }
 {
     let Some(mut last) = plain_entry_prefix(page, first, columns) else {
         return false;
@@ -72,7 +73,7 @@ pub fn is_quiet_leaf(page: PageView<'_>, columns: &IndexColumns<'_>) -> bool
     ensures { OnTrue result (pass_of columns.now.specs.now columns.now.more.now (page_bytes page.entry) ≡ Ordered) }
 {
     let first = first_data(page);
-    if !columns.more.is_empty() || !opaque(page).is_leaf() || page.item_count() < first {
+    if !opaque(page).is_leaf() || page.item_count() < first {
         return false;
     }
     if !do_entries_rise(page, first, columns) {

@@ -1,11 +1,12 @@
 -- The entries of a leaf by its items: where they stand among those of the page, and how one is read.
-use Rattle.std.specs.Prelude.{◌≡◌, ℕ, ◌<◌, ◌≤◌, List, length, None, Option, slice_get}
+use Rattle.std.specs.Prelude.{◌≡◌, ℕ, ◌<◌, ◌≤◌, List, [], length, None, Option, Some, slice_get}
 use Rattle.page_layout.specs.Page.{count_of, page_rule_of}
 use Rattle.page_layout.specs.declared.page.PageKind.TheVariants.{Tree}
 use Rattle.tree_search.specs.Keys.{Entry}
 use Rattle.key_orders.specs.declared.columns.Value.{Value}
 use Rattle.key_orders.specs.declared.Tid.{Tid}
 use Rattle.varlena_attrs.specs.Columns.{TreeColumns}
+use Rattle.tree_image.specs.Image.{LeafEntry, entries_in, item_at}
 use Rattle.bt_search.specs.declared.spot.EntryRef.{EntryRef}
 use Rattle.bt_search.specs.declared.spot.Spot.{Spot}
 use Rattle.bt_steps.specs.Entries.{IsRead, keys_at}
@@ -21,6 +22,15 @@ pub record IsEntryAt (columns : TreeColumns) (page : List ℕ) (at : Spot) : Typ
 -- it is this one
 abbrev pub entry_on : TreeColumns → List ℕ → Spot → Option (Entry Value Tid)
 entry_on columns page at = slice_get (keys_at columns page at.item) at.nth
+
+-- its included values
+abbrev pub included_in : Option LeafEntry → List Value
+included_in None = []
+included_in (Some e) = e.more
+
+abbrev pub included_on : TreeColumns → List ℕ → Spot → List Value
+included_on columns page at =
+    included_in (slice_get (entries_in (item_at columns.specs columns.more page at.item)) at.nth)
 
 -- an entry as it lies on a page
 pub record Shows (shown : EntryRef) (e : Entry Value Tid) : Type 0 where

@@ -8,6 +8,7 @@
 mod cache;
 mod descent;
 mod entry;
+mod included;
 mod kept;
 mod laws;
 mod leaf;
@@ -18,6 +19,7 @@ mod spot;
 pub use cache::PageCache;
 pub use descent::descend;
 pub use entry::entry_at;
+pub use included::has_included;
 pub use laws::searches_go_in_steps;
 pub use look_up::{entries_have_a_leaf, find, probe, spots_are_of_entries, ways_are_short};
 pub use next::next_entry;

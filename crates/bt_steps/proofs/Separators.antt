@@ -67,7 +67,7 @@ values-parts : (types : List ColType) (o : Inlines) (values : List Value) → va
 values-parts types (Ok list) values e = (list, refl, unpacked (first_packed 0 list) (attribute_values types list) values e)
 values-parts types (Err f) values e = absurd cc
 
-values-count : (types : List ColType) (body : List ℕ) (nulls : Option (List ℕ)) (values : List Value) → key_values types body nulls ≡ Ok values → length values ≡ length types
+pub values-count : (types : List ColType) (body : List ℕ) (nulls : Option (List ℕ)) (values : List Value) → key_values types body nulls ≡ Ok values → length values ≡ length types
 unfolding key_values
 values-count types body nulls values e =
     let p = values-parts types (read_inline types nulls (length types) body 0 0) values e in

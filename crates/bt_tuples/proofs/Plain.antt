@@ -1,9 +1,8 @@
 -- A plain tuple of a leaf without null bits, whose values are told.
-use Rattle.std.proofs.Common.{◌≡◌, ◌≢◌, ℕ, ◌≤◌, Bool, false, List, [], ◌++◌, length, take, drop, refl, ap, sym, subst, ◌∙◌, append-nil, true}
+use Rattle.std.proofs.Common.{◌≡◌, ◌≢◌, ℕ, ◌≤◌, Bool, false, List, ◌++◌, length, take, drop, refl, ap, sym, subst, ◌∙◌, true}
 use Rattle.std.specs.Prelude.{not, nat_lt, ◌&&◌, ◌||◌, None, Ok, Some}
 use Rattle.std.proofs.Math.Seq.{drop-append_seam, take-append_seam}
 use Rattle.std.proofs.lemmas.Bool.{cond-false, eq-eqb, le-ltb, ne_eqb}
-use Rattle.key_orders.specs.declared.columns.ColType.{ColType}
 use Rattle.key_orders.specs.declared.columns.KeySpec.{KeySpec}
 use Rattle.key_orders.specs.declared.columns.Value.{Value}
 use Rattle.key_orders.specs.declared.more.MoreSpec.{MoreSpec}
@@ -79,11 +78,3 @@ module _ (specs : List KeySpec) (more : List MoreSpec) (tuple : List ℕ) (head 
         ∙ cond-false (begins_past_end tuple) (Err (Broken B8)) _ begins
         ∙ sym (outcome-read (values_in specs more tuple) (key ++ rest) (breaks_tids tuple) (meaning_of specs more tuple killed) values right_tid)
         ∙ ap Ok (meaning killed tid count is)
-
--- and so it is in an index without included columns
-pub outcome-alone : (specs : List KeySpec) (tuple : List ℕ) (head : TreeHead) → IsPlainHead tuple head → 8 ≤ length tuple → (key : List Value) → key_values (key_types specs) (body_in tuple) None ≡ Ok key
-    → (killed : Bool) (tid : Tid) → length key ≡ length specs → plain_tid (tree_head_of tuple) ≡ tid → tuple_outcome specs [] LeafItem tuple killed ≡ Ok (Plain key [] tid killed)
-outcome-alone specs tuple head h long key told killed tid count is =
-    outcome specs [] tuple head h long key []
-    (ap (λ (types : List ColType). key_values types (body_in tuple) None) (append-nil (key_types specs)) ∙ told ∙ ap Ok (sym (append-nil key)))
-    killed tid count is

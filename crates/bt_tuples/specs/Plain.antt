@@ -41,19 +41,20 @@ pub record LiesPlain (page : List ℕ) (i : ℕ) (tid : Tid) (body : List ℕ) :
   pub tuple : IsPlainTuple (tuple_of page i) tid body
   pub placed : breaks_place page i ≡ false
 
--- What is read is one entry without included values, and this is the number of its key by its first value, which fits
--- its column. In the order of that column the value is below each that has a greater number.
+-- What is read is one entry, and this is the number of its key by its first value, which fits its column. In the order
+-- of that column the value is below each that has a greater number.
 pub record HasPrefix (specs : List KeySpec) (outcome : ItemOutcome) (killed : Bool) (number : ℕ) : Type 0 where
   pub first : Value
   pub rest : List Value
+  pub included : List Value
   pub tid : Tid
-  pub is : outcome ≡ Ok (Plain (first ∷ rest) [] tid killed)
+  pub is : outcome ≡ Ok (Plain (first ∷ rest) included tid killed)
   pub fits : fits_columns specs (first ∷ []) ≡ true
   pub prefix : IsPrefix specs (first ∷ []) number
   pub below : (other : Value) (greater : ℕ) → IsPrefix specs (other ∷ []) greater → number < greater
       → fits_columns specs (other ∷ []) ≡ true → columns_of specs 0 first other ≡ Less
 
--- so it is of item i of a leaf, in an index without included columns
-abbrev pub IsPlainEntry : List KeySpec → List ℕ → (i number : ℕ) → Type 0
-IsPlainEntry specs page i number =
-    HasPrefix specs (item_outcome specs [] LeafItem page i) (is_dead (item_of page i).flag) number
+-- so it is of item i of a leaf
+abbrev pub IsPlainEntry : List KeySpec → List MoreSpec → List ℕ → (i number : ℕ) → Type 0
+IsPlainEntry specs more page i number =
+    HasPrefix specs (item_outcome specs more LeafItem page i) (is_dead (item_of page i).flag) number

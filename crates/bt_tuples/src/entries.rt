@@ -1,6 +1,6 @@
 //! What the bytes of an item of a leaf tell as they lie: whether it is an entry that is known, and a number by which it
 //! stands to others.
-ghost use Rattle.std.specs.Prelude.{◌≡◌, ◌≤◌, [], Bool, None, IfSome, length};
+ghost use Rattle.std.specs.Prelude.{◌≡◌, ◌≤◌, Bool, None, IfSome, length};
 ghost use Rattle.page_layout.specs.Page.{count_of, item_of, page_rule_of};
 ghost use Rattle.page_layout.specs.View.{page_bytes};
 ghost use Rattle.bt_tuples.specs.Items.{is_dead, tuple_outcome};
@@ -60,7 +60,7 @@ fn plain_prefix(tuple: &[u8], columns: &IndexColumns<'_>) -> Option<u64>
     requires long { 8 ≤ length tuple.now }
     ensures { IfSome result (λ number. (killed : Bool)
         → HasPrefix columns.now.specs.now
-        (tuple_outcome columns.now.specs.now [] Spot3.LeafItem tuple.now killed) killed number) }
+        (tuple_outcome columns.now.specs.now columns.now.more.now Spot3.LeafItem tuple.now killed) killed number) }
 {
     let head = plain_head(tuple)?;
     let first = plain_first_value(columns, body_of(tuple, head))?;
@@ -68,16 +68,16 @@ fn plain_prefix(tuple: &[u8], columns: &IndexColumns<'_>) -> Option<u64>
 }
 
 /// The number of the key of item i of a leaf, counted from 1, by its first value
-/// ([`key_prefix`](key_orders::key_prefix)), where the item is one entry in an index without included columns and that
-/// is told by its bytes as they lie: it is no list of TIDs, has no nulls, and each value is of a fixed length or a
-/// varlena with a header of one byte. `None` says nothing.
+/// ([`key_prefix`](key_orders::key_prefix)), where the item is one entry and that is told by its bytes as they lie: it
+/// is no list of TIDs, has no nulls, and each value, an included one too, is of a fixed length or a varlena with a
+/// header of one byte. `None` says nothing.
 #[inline(always)]
 #[tactic(auto, unfolding(crate::specs::Items::item_outcome))]
 pub fn plain_entry_prefix(page: PageView<'_>, i: u16, columns: &IndexColumns<'_>) -> Option<u64>
     requires page { page_rule_of PageKind.Tree (page_bytes page) ≡ None }
     requires first { 1 ≤ i }
     requires last { i ≤ count_of (page_bytes page) }
-    ensures { IfSome result (IsPlainEntry columns.now.specs.now (page_bytes page.entry) i) }
+    ensures { IfSome result (IsPlainEntry columns.now.specs.now columns.now.more.now (page_bytes page.entry) i) }
 {
     let at = page.item(i);
     if at.is_misplaced_tree_item(page.upper()) {

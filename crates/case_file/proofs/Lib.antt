@@ -6,4 +6,5 @@ pub mod Rows
 pub mod MissingValues
 pub mod SoundColumns
 pub mod SoundIndexes
+pub mod Aligned
 pub mod Soundness

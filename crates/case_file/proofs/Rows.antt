@@ -1,5 +1,5 @@
 -- What a key has whose spot passes the rules: if it is needed it is there, of its kind and in its range.
-use Rattle.std.proofs.Common.{◌≡◌, ℕ, ℤ, pos, negsuc, ◌<◌, List, [], length, Bool, true, false, not, cond, nat_lt, Option, Some, None, is_some, option_and_then}
+use Rattle.std.proofs.Common.{◌≡◌, ℕ, ℤ, pos, negsuc, ◌<◌, ◌≤◌, List, [], length, Bool, true, false, not, cond, nat_lt, Option, Some, None, is_some, option_and_then}
 use Rattle.std.proofs.Common.{unwrap_or, refl, sym, arith}
 use Rattle.std.proofs.lemmas.Bool.{false≢true, not-false}
 use Rattle.std.proofs.lemmas.Bool.Decides.{nat_tests}
@@ -17,7 +17,7 @@ use Rattle.case_file.specs.Keys.{row_of}
 use Rattle.case_file.specs.Rules.{applies, breaks, fails, has_other_kind, is_absent, is_align, is_between, is_fit, is_needed, is_of, is_out_of_range}
 use Rattle.case_file.specs.Rules.{number_is_in_range}
 use Rattle.case_file.specs.Spots.{listed}
-use Rattle.case_file.specs.Tables.{as_tables, below_2_32, has, is_table, number_at, tables_in, text_at, text_in, values_of}
+use Rattle.case_file.specs.Tables.{as_tables, below_2_32, has, is_table, number_at, tables_in, text_at, text_in, values_in, values_of}
 use Rattle.case_file.proofs.Passing.{Passes}
 
 pub in_range : (low high n : ℕ) → is_in_range low high n ≡ true → IsInRange low high n
@@ -164,3 +164,15 @@ needed_tables low high (Some d) there kind range = tables_found low high d kind 
 pub optional_tables : (high : ℕ) (o : Option Data) → fails (is_of Tables) o ≡ false → fails (is_between 0 high) o ≡ false → HasTables 0 high o
 optional_tables high None kind range = record { are_tables = refl; count = (omega arith, omega arith) }
 optional_tables high (Some d) kind range = tables_found 0 high d kind range
+
+-- the values of an array that may be left out
+pub few_values : (high : ℕ) (o : Option Data) → fails (is_between 0 high) o ≡ false → length (values_in o) ≤ high
+unfolding is_between
+few_values high None range = omega arith
+few_values high (Some (array ds)) range = (in_range 0 high (length (values_of ds)) (not-false _ range)).1
+few_values high (Some (string s)) range = omega arith
+few_values high (Some (integer z)) range = omega arith
+few_values high (Some (float x)) range = omega arith
+few_values high (Some (boolean b)) range = omega arith
+few_values high (Some (datetime dt)) range = omega arith
+few_values high (Some (table ms)) range = omega arith

@@ -7,18 +7,21 @@ use Rattle.std.proofs.lemmas.Option.{slice_get-map}
 use Rattle.std.specs.List.{AllByRecursion, list_all, list_any, position, position_or_len, slice_get}
 use Rattle.std.specs.Option.{option_map_or}
 use Rattle.key_orders.specs.Types.{may_be_key}
-use Rattle.toml.specs.Data.{Data, Members, get_member, as_table}
+use Rattle.toml.specs.Data.{Data, Members, get_member, as_str, as_table}
+use Rattle.case_file.specs.declared.keys.Place.{Place}
 use Rattle.case_file.specs.declared.keys.Place.TheVariants.{Index, IndexKey}
-use Rattle.case_file.specs.declared.keys.Key.TheVariants.{IndexName, IndexFile, IndexKeys, KeyColumn}
+use Rattle.case_file.specs.declared.keys.Key.{Key}
+use Rattle.case_file.specs.declared.keys.Key.TheVariants.{IndexName, IndexFile, IndexKeys, IndexInclude, KeyColumn}
 use Rattle.case_file.specs.Columns.{column_of, stored_type, told_type}
-use Rattle.case_file.specs.Indexes.{column_named, index_of, key_of}
+use Rattle.case_file.specs.Indexes.{any_column_named, column_named, index_of, key_of, more_of}
 use Rattle.case_file.specs.Keys.{keys_of, row_of}
-use Rattle.case_file.specs.Rules.{breaks, has_name, is_fit, is_key_column, is_needed, is_told, is_unknown, key_type, key_types, has_key_type}
-use Rattle.case_file.specs.Sound.{IsSoundIndex, IsSoundKey}
-use Rattle.case_file.specs.Spots.{flat_map_from, in_table, index_keys_spots, index_spots, key_spots, listed}
-use Rattle.case_file.specs.Tables.{is_table, tables_at, text_at, text_in}
+use Rattle.case_file.specs.Rules.{applies, breaks, has_name, is_fit, is_key_column, is_needed, is_out_of_range, is_told, is_unknown, key_type}
+use Rattle.case_file.specs.Rules.{key_types, has_key_type, names_no_column}
+use Rattle.case_file.specs.Sound.{IsSoundIndex, IsSoundKey, IsSoundMore}
+use Rattle.case_file.specs.Spots.{element, element_spots, flat_map_from, in_table, include_spots, index_keys_spots, index_spots, key_spots, listed}
+use Rattle.case_file.specs.Tables.{is_table, tables_at, text_at, text_in, values_at}
 use Rattle.case_file.proofs.Passing.{EachPasses, Passes, passes_after, passes_before}
-use Rattle.case_file.proofs.Rows.{needed_key, needed_tables, text_found, text_in_range}
+use Rattle.case_file.proofs.Rows.{few_values, needed_key, needed_tables, text_found, text_in_range}
 use Rattle.case_file.proofs.SoundColumns.{below-kept, found_or}
 
 -- the first element that passes a test
@@ -88,21 +91,49 @@ sound_keys top k j (d ∷ ds) few tables all =
       sound_keys top k (j + 1) ds few parts.1 (passes_after top (key_spots k j d) _ all),
     )
 
+-- an included column
+sound_more : (top : Members) (p : Place) (key : Key) (j : ℕ) (d : Data) → length (tables_at (codes "column") top) ≤ 64
+    → Passes top (element p key j d)
+    → IsSoundMore (map column_of (tables_at (codes "column") top)) (more_of (tables_at (codes "column") top) d)
+unfolding breaks names_no_column more_of any_column_named column_of
+sound_more top p key j d few passes =
+    let columns : List Data = tables_at (codes "column") top in
+    let test : Data → Bool = has_name (as_str d) in
+    let found = first_found test columns (not-false (list_any test columns) passes.c5) in
+    let place : any_column_named columns (as_str d) ≡ position_or_len test columns = at_position test columns found.below in
+    let kept = below-kept 65536 (position_or_len test columns) (omega (arith, found.below)) in
+    let at = slice_get-map column_of columns (position_or_len test columns) in
+    record { is_there = rw (place, kept, at, found.at) refl }
+
+all_sound_more : (top : Members) (p : Place) (key : Key) (j : ℕ) (ds : List Data) → length (tables_at (codes "column") top) ≤ 64
+    → EachPasses top (flat_map_from (element_spots p key) j ds)
+    → AllByRecursion (IsSoundMore (map column_of (tables_at (codes "column") top))) (map (more_of (tables_at (codes "column") top)) ds)
+all_sound_more top p key j [] few all = tt
+all_sound_more top p key j (d ∷ ds) few all = (sound_more top p key j d few all.0, all_sound_more top p key (j + 1) ds few all.1)
+
+few_included : (top : Members) (k : ℕ) (t : Members) → Passes top (listed (Index k) IndexInclude t) → length (values_at (codes "include") t) ≤ 24
+unfolding breaks is_out_of_range applies row_of is_fit values_at
+few_included top k t passes = few_values 24 (get_member (codes "include") t) passes.c4
+
 sound_index : (top : Members) (k : ℕ) (d : Data) (o : Option Members) → as_table d ≡ o → is_some o ≡ true → length (tables_at (codes "column") top) ≤ 64
-    → EachPasses top (in_table (Index k) o ++ index_keys_spots k o)
+    → EachPasses top (in_table (Index k) o ++ index_keys_spots k o ++ include_spots k o)
     → IsSoundIndex (map column_of (tables_at (codes "column") top)) (index_of (tables_at (codes "column") top) d)
 unfolding in_table keys_of index_of row_of is_needed is_fit tables_at
 sound_index top k d None is there few all = absurd (false≢true there)
 sound_index top k d (Some t) is there few all =
-    let name = needed_key top (Index k) IndexName t all.1.0 refl in
-    let file = needed_key top (Index k) IndexFile t all.1.1.0 refl in
-    let keys = needed_key top (Index k) IndexKeys t all.1.1.1.0 refl in
+    let up_to_keys = passes_before top (in_table (Index k) (Some t) ++ index_keys_spots k (Some t)) (include_spots k (Some t)) all in
+    let included = passes_after top (in_table (Index k) (Some t) ++ index_keys_spots k (Some t)) (include_spots k (Some t)) all in
+    let name = needed_key top (Index k) IndexName t up_to_keys.1.0 refl in
+    let file = needed_key top (Index k) IndexFile t up_to_keys.1.1.0 refl in
+    let keys = needed_key top (Index k) IndexKeys t up_to_keys.1.1.1.0 refl in
     let tables = needed_tables 1 8 (get_member (codes "key") t) keys.is_there keys.kind keys.range in
     rw is (record {
       name = text_in_range IndexName t 1 63 name refl refl;
       file = text_in_range IndexFile t 1 200 file refl refl;
       count = rw (length-map (tables_at (codes "key") t) (key_of (tables_at (codes "column") top))) tables.count;
-      keys = sound_keys top k 0 (tables_at (codes "key") t) few tables.are_tables all.1.1.1.1;
+      keys = sound_keys top k 0 (tables_at (codes "key") t) few tables.are_tables up_to_keys.1.1.1.1;
+      few_more = rw (length-map (values_at (codes "include") t) (more_of (tables_at (codes "column") top))) (few_included top k t included.0);
+      more = all_sound_more top (Index k) IndexInclude 0 (values_at (codes "include") t) few included.1;
     })
 
 pub sound_indexes : (top : Members) (k : ℕ) (ds : List Data) → length (tables_at (codes "column") top) ≤ 64 → list_all is_table ds ≡ true

@@ -63,9 +63,15 @@ position_or_len-view : (test : Data → Bool) (vs : List Value) → position_or_
 position_or_len-view test [] = refl
 position_or_len-view test (v ∷ vs) = ap (λ n. cond (not (test (view v))) (1 + n) 0) (position_or_len-view test vs)
 
+position-any : (test : Data → Bool) (vs : List Value) → position test (map view vs) ≡ position (λ v. test (view v)) vs
+position-any test vs = rw (position_or_len-view test vs, length-map vs view) refl
+
 pub position-view : (name : List ℕ) (vs : List Value)
     → position (is_key_column (Some name)) (map view vs) ≡ position (λ v. is_key_column (Some name) (view v)) vs
-position-view name vs = rw (position_or_len-view (is_key_column (Some name)) vs, length-map vs view) refl
+position-view name vs = position-any (is_key_column (Some name)) vs
+
+pub position-named : (name : Option (List ℕ)) (vs : List Value) → position (has_name name) (map view vs) ≡ position (λ v. has_name name (view v)) vs
+position-named name vs = position-any (has_name name) vs
 
 pub slice_get-view : (vs : List Value) (k : ℕ) → slice_get (map view vs) k ≡ option_map view (slice_get vs k)
 slice_get-view vs k = slice_get-map view vs k
@@ -82,6 +88,6 @@ pub ruleset any_laws = (has_name-view, is_key_column-view)
 
 pub ruleset names_laws = (has_unlisted-view)
 
-pub ruleset position_laws = (position-view)
+pub ruleset position_laws = (position-view, position-named)
 
 pub ruleset gets_laws = (slice_get-view)

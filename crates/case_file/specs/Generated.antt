@@ -21,9 +21,9 @@ abbrev pub rising_key : ℕ → ColType → KeySpec
 rising_key column ctype = record { column = column; ctype = ctype; desc = false; nulls_first = false }
 
 abbrev pub index_on : List ℕ → List ℕ → ℕ → ColType → IndexRecord
-index_on name file column ctype = record { name = name; file = file; keys = rising_key column ctype ∷ [] }
+index_on name file column ctype = record { name = name; file = file; keys = rising_key column ctype ∷ []; more = [] }
 
--- the columns `id` and `grp`, with an index on each
+-- the columns `id` and `grp`, with an index on each that includes no other
 abbrev pub generated_case : CaseRecord
 generated_case = record {
   segment_blocks = 131072;

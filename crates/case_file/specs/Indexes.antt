@@ -2,15 +2,20 @@
 use Rattle.std.specs.Prelude.{ℕ, List, [], map, false, Option, Some, None, option_and_then, unwrap_or, position, codes}
 use Rattle.std.specs.List.{slice_get}
 use Rattle.key_orders.specs.declared.columns.KeySpec.{KeySpec}
-use Rattle.toml.specs.Data.{Data, Members, as_table}
+use Rattle.key_orders.specs.declared.more.MoreSpec.{MoreSpec}
+use Rattle.toml.specs.Data.{Data, Members, as_str, as_table}
 use Rattle.case_file.specs.Columns.{below_or_zero, told_type}
 use Rattle.case_file.specs.Record.{IndexRecord}
-use Rattle.case_file.specs.Rules.{is_key_column}
-use Rattle.case_file.specs.Tables.{flag_in, tables_at, text_in}
+use Rattle.case_file.specs.Rules.{has_name, is_key_column}
+use Rattle.case_file.specs.Tables.{flag_in, tables_at, text_in, values_at}
 
 -- the number, from 0, of the first column of a name that may be a key
 unfoldable pub column_named : List Data → List ℕ → ℕ
 column_named columns name = unwrap_or (position (is_key_column (Some name)) columns) 0
+
+-- the same of a column of any type
+unfoldable pub any_column_named : List Data → Option (List ℕ) → ℕ
+any_column_named columns name = unwrap_or (position (has_name name) columns) 0
 
 abbrev pub table_of : List Data → ℕ → Option Members
 table_of columns k = option_and_then as_table (slice_get columns k)
@@ -31,9 +36,20 @@ abbrev pub keys_in : Option Members → List Data
 keys_in (Some t) = tables_at (codes "key") t
 keys_in None = []
 
+-- a column that is included beside the key
+unfoldable pub more_of : List Data → Data → MoreSpec
+more_of columns d =
+    let column = any_column_named columns (as_str d) in
+    record { column = below_or_zero 65536 column; ctype = told_type (table_of columns column) }
+
+abbrev pub more_in : Option Members → List Data
+more_in (Some t) = values_at (codes "include") t
+more_in None = []
+
 unfoldable pub index_of : List Data → Data → IndexRecord
 index_of columns d = record {
   name = text_in (as_table d) (codes "name");
   file = text_in (as_table d) (codes "file");
   keys = map (key_of columns) (keys_in (as_table d));
+  more = map (more_of columns) (more_in (as_table d));
 }

@@ -7,10 +7,10 @@ use Rattle.case_file.specs.declared.keys.Key.TheVariants.{SegmentBlocks, Cluster
 use Rattle.case_file.specs.declared.keys.Key.TheVariants.{OldestMulti, NextMember, XactDir, OffsetsDir, MembersDir}
 use Rattle.case_file.specs.declared.keys.Key.TheVariants.{HeapTable, HeapFile, ToastFile, ToastOid, Columns, ColumnName}
 use Rattle.case_file.specs.declared.keys.Key.TheVariants.{ColumnType, ColumnLen, ColumnAlign, ColumnMissing, Indexes}
-use Rattle.case_file.specs.declared.keys.Key.TheVariants.{IndexName, IndexFile, IndexKeys, KeyColumn, KeyDesc}
-use Rattle.case_file.specs.declared.keys.Key.TheVariants.{KeyNullsFirst}
+use Rattle.case_file.specs.declared.keys.Key.TheVariants.{IndexName, IndexFile, IndexKeys, IndexInclude, KeyColumn}
+use Rattle.case_file.specs.declared.keys.Key.TheVariants.{KeyDesc, KeyNullsFirst}
 use Rattle.case_file.specs.declared.keys.Kind.{Kind}
-use Rattle.case_file.specs.declared.keys.Kind.TheVariants.{Text, Integer, Boolean, Table, Tables}
+use Rattle.case_file.specs.declared.keys.Kind.TheVariants.{Text, Integer, Boolean, Array, Table, Tables}
 use Rattle.case_file.specs.declared.keys.Need.{Need}
 use Rattle.case_file.specs.declared.keys.Need.TheVariants.{Always, Optional, WithToastFile, WithToastOid, OfFixed}
 use Rattle.case_file.specs.declared.keys.Need.TheVariants.{OfStored}
@@ -18,8 +18,7 @@ use Rattle.case_file.specs.declared.keys.Range.{Range}
 use Rattle.case_file.specs.declared.keys.Range.TheVariants.{Any, Between, Alignment, StoredBytes}
 
 -- a row of the key table: the key as it stands in the text, the kind of its value, when it has to be there, and which
--- values
--- of that kind it may have
+-- values of that kind it may have
 pub record Row : Type 0 where
   pub word : List ℕ
   pub kind : Kind
@@ -54,11 +53,12 @@ row_of Indexes = row (codes "index") Tables Optional (Between 0 32)
 row_of IndexName = row (codes "name") Text Always (Between 1 63)
 row_of IndexFile = row (codes "file") Text Always (Between 1 200)
 row_of IndexKeys = row (codes "key") Tables Always (Between 1 8)
+row_of IndexInclude = row (codes "include") Array Optional (Between 0 24)
 row_of KeyColumn = row (codes "column") Text Always Any
 row_of KeyDesc = row (codes "desc") Boolean Optional Any
 row_of KeyNullsFirst = row (codes "nulls_first") Boolean Optional Any
 
--- the keys that a table may have
+-- the keys that a table may have; of an index those that are asked before its key columns
 unfoldable pub keys_of : Place → List Key
 keys_of Top = SegmentBlocks ∷ ClusterTable ∷ HeapTable ∷ Columns ∷ Indexes ∷ []
 keys_of Cluster = NextXid ∷ OldestXid ∷ NextMulti ∷ OldestMulti ∷ NextMember ∷ XactDir ∷ OffsetsDir ∷ MembersDir ∷ []
@@ -67,8 +67,16 @@ keys_of (Column k) = ColumnName ∷ ColumnType ∷ ColumnLen ∷ ColumnAlign ∷
 keys_of (Index k) = IndexName ∷ IndexFile ∷ IndexKeys ∷ []
 keys_of (IndexKey k j) = KeyColumn ∷ KeyDesc ∷ KeyNullsFirst ∷ []
 
+-- and those that are asked behind them
+unfoldable pub late_keys_of : Place → List Key
+late_keys_of (Index k) = IndexInclude ∷ []
+late_keys_of _ = []
+
+abbrev pub bracketed : ℕ → List ℕ
+bracketed k = codes "[" ++ decimal k ++ codes "]"
+
 abbrev pub numbered_text : List ℕ → ℕ → List ℕ
-numbered_text word k = word ++ codes "[" ++ decimal k ++ codes "]"
+numbered_text word k = word ++ bracketed k
 
 -- how a refusal names a table
 unfoldable pub place_text : Place → List ℕ
@@ -79,7 +87,10 @@ place_text (Column k) = numbered_text (codes "column") k
 place_text (Index k) = numbered_text (codes "index") k
 place_text (IndexKey k j) = numbered_text (codes "index") k ++ codes "." ++ numbered_text (codes "key") j
 
--- how a refusal names a key of a table
+-- how a refusal names a key of a table, and an element of the array at a key
 unfoldable pub key_text : Place → Key → List ℕ
 key_text Top key = (row_of key).word
 key_text place key = place_text place ++ codes "." ++ (row_of key).word
+
+abbrev pub element_text : Place → Key → ℕ → List ℕ
+element_text place key j = numbered_text (key_text place key) j

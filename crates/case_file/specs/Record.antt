@@ -2,14 +2,16 @@
 use Rattle.std.specs.Prelude.{ℕ, ◌+◌, List, Option, option_map, position}
 use Rattle.std.specs.Str.{bytes_eq}
 use Rattle.key_orders.specs.declared.columns.KeySpec.{KeySpec}
+use Rattle.key_orders.specs.declared.more.MoreSpec.{MoreSpec}
 use Rattle.rel_files.specs.declared.cluster.Cluster.{Cluster}
 use Rattle.case_file.specs.declared.case.Column.{Column}
 
--- an index: its name, the base name of its file, and its key columns in order
+-- an index: its name, the base name of its file, its key columns in order, and the columns that it includes beside them
 pub record IndexRecord : Type 0 where
   pub name : List ℕ
   pub file : List ℕ
   pub keys : List KeySpec
+  pub more : List MoreSpec
 
 -- the number of the first index of a name; they are numbered from 1
 abbrev pub index_named : List IndexRecord → List ℕ → Option ℕ

@@ -6,7 +6,7 @@ use Rattle.std.specs.Int.{is_in_range}
 use Rattle.std.specs.List.{list_all, list_any}
 use Rattle.std.specs.Str.{bytes_eq}
 use Rattle.toml.specs.Data.{Data, string, integer, array, Members, no_members, member, get_member, as_str, as_integer}
-use Rattle.toml.specs.Data.{as_bool, as_table}
+use Rattle.toml.specs.Data.{as_array, as_bool, as_table}
 use Rattle.hex.specs.Hex.{is_hex_digit}
 use Rattle.key_orders.specs.declared.columns.ColType.{ColType}
 use Rattle.key_orders.specs.declared.columns.ColType.TheVariants.{Bool as BoolType, Int2, Int4, Int8, Uuid}
@@ -20,7 +20,7 @@ use Rattle.case_file.specs.declared.keys.Place.TheVariants.{Cluster, Column, Ind
 use Rattle.case_file.specs.declared.keys.Key.{Key}
 use Rattle.case_file.specs.declared.keys.Key.TheVariants.{ColumnName, ColumnType, IndexName, KeyColumn}
 use Rattle.case_file.specs.declared.keys.Kind.{Kind}
-use Rattle.case_file.specs.declared.keys.Kind.TheVariants.{Text, Integer, Boolean, Table, Tables}
+use Rattle.case_file.specs.declared.keys.Kind.TheVariants.{Text, Integer, Boolean, Array, Table, Tables}
 use Rattle.case_file.specs.declared.keys.Need.{Need}
 use Rattle.case_file.specs.declared.keys.Need.TheVariants.{Always, Optional, WithToastFile, WithToastOid, OfFixed}
 use Rattle.case_file.specs.declared.keys.Need.TheVariants.{OfStored}
@@ -28,9 +28,9 @@ use Rattle.case_file.specs.declared.keys.Range.{Range}
 use Rattle.case_file.specs.declared.keys.Range.TheVariants.{Any, Between, Alignment, StoredBytes}
 use Rattle.case_file.specs.declared.fault.CaseRule.{CaseRule}
 use Rattle.case_file.specs.declared.fault.CaseRule.TheVariants.{C1, C2, C3, C4, C5, C6, C7}
-use Rattle.case_file.specs.Keys.{row_of, keys_of}
+use Rattle.case_file.specs.Keys.{row_of, keys_of, late_keys_of}
 use Rattle.case_file.specs.Tables.{as_tables, below_2_32, has, number_at, tables_at, text_at, values_of}
-use Rattle.case_file.specs.Spots.{Spot, whole, listed}
+use Rattle.case_file.specs.Spots.{Spot, whole, listed, element}
 
 -- the code of each rule, as a refusal prints it
 unfoldable pub rule_code : CaseRule → List ℕ
@@ -112,11 +112,15 @@ unfoldable pub is_of : Kind → Data → Bool
 is_of Text d = is_some (as_str d)
 is_of Integer d = is_some (as_integer d)
 is_of Boolean d = is_some (as_bool d)
+is_of Array d = is_some (as_array d)
 is_of Table d = is_some (as_table d)
 is_of Tables d = is_some (as_tables d)
 
 unfoldable pub has_other_kind : Key → Members → Bool
 has_other_kind key t = fails (is_of (row_of key).kind) (get_member (row_of key).word t)
+
+abbrev pub is_no_text : Data → Bool
+is_no_text d = not (is_some (as_str d))
 
 -- C4: a number, the length of a text in bytes or the count of an array is out of range
 abbrev pub number_is_in_range : ℕ → ℕ → ℤ → Bool
@@ -194,13 +198,20 @@ is_unknown top p KeyColumn t =
     not (list_any (is_key_column (text_at (codes "column") t)) (tables_at (codes "column") top))
 is_unknown top p _ t = false
 
+-- no column has the text as its name
+unfoldable pub names_no_column : Members → Data → Bool
+names_no_column top d = not (list_any (has_name (as_str d)) (tables_at (codes "column") top))
+
 -- C6: the table has a key that isn't listed, or that it has no use for
 abbrev pub member_names : Members → List (List ℕ)
 member_names no_members = []
 member_names (member name d ms) = name ∷ member_names ms
 
+abbrev pub is_among : List Key → Members → List ℕ → Bool
+is_among keys t name = list_any (λ key. bytes_eq (row_of key).word name && applies (row_of key).need t) keys
+
 unfoldable pub is_listed : Place → Members → List ℕ → Bool
-is_listed p t name = list_any (λ key. bytes_eq (row_of key).word name && applies (row_of key).need t) (keys_of p)
+is_listed p t name = is_among (keys_of p) t name || is_among (late_keys_of p) t name
 
 unfoldable pub has_unlisted : Place → Members → Bool
 has_unlisted p t = list_any (λ name. not (is_listed p t name)) (member_names t)
@@ -222,8 +233,10 @@ has_too_old _ t = false
 unfoldable pub breaks : Members → CaseRule → Spot → Bool
 breaks top C2 (listed p key t) = is_absent key t
 breaks top C3 (listed p key t) = has_other_kind key t
+breaks top C3 (element p key j d) = is_no_text d
 breaks top C4 (listed p key t) = is_out_of_range key t
 breaks top C5 (listed p key t) = is_unknown top p key t
+breaks top C5 (element p key j d) = names_no_column top d
 breaks top C6 (whole p t) = has_unlisted p t
 breaks top C7 (whole p t) = has_too_old p t
 breaks top _ _ = false

@@ -1,5 +1,5 @@
--- What every case has: each number and length is in its range, each missing value may stand in its column, and each key
--- column is a column that may be one.
+-- What every case has: each number and length is in its range, each missing value may stand in its column, each key
+-- column is a column that may be one, and each included column is a column.
 use Rattle.std.specs.Prelude.{◌≡◌, ◌≤◌, ◌<◌, ◌==◌, ◌&&◌, ◌||◌, ℕ, Bool, true, List, length, Option, Some, None}
 use Rattle.std.specs.Prelude.{option_map}
 use Rattle.std.specs.Int.{is_in_range, IsInRange}
@@ -8,6 +8,7 @@ use Rattle.std.specs.Option.{ForSome}
 use Rattle.key_orders.specs.declared.columns.ColType.{ColType}
 use Rattle.key_orders.specs.declared.columns.KeySpec.{KeySpec}
 use Rattle.key_orders.specs.declared.columns.Value.{Value}
+use Rattle.key_orders.specs.declared.more.MoreSpec.{MoreSpec}
 use Rattle.key_orders.specs.declared.columns.Value.TheVariants.{Null, Bool as BoolValue, Int, Bytes}
 use Rattle.key_orders.specs.Orders.{fits_type}
 use Rattle.key_orders.specs.Types.{alignment_of, fixed_length, is_alignment, may_be_key}
@@ -55,11 +56,17 @@ pub record IsSoundKey (columns : List Column) (key : KeySpec) : Type 0 where
   pub is_there : option_map (λ c. c.ctype) (slice_get columns key.column) ≡ Some key.ctype
   pub may_be_key : may_be_key key.ctype ≡ true
 
+-- an included column is a column of the case, of any type
+pub record IsSoundMore (columns : List Column) (more : MoreSpec) : Type 0 where
+  pub is_there : option_map (λ c. c.ctype) (slice_get columns more.column) ≡ Some more.ctype
+
 pub record IsSoundIndex (columns : List Column) (index : IndexRecord) : Type 0 where
   pub name : IsInRange 1 63 (length index.name)
   pub file : IsPath index.file
   pub count : IsInRange 1 8 (length index.keys)
   pub keys : AllByRecursion (IsSoundKey columns) index.keys
+  pub few_more : length index.more ≤ 24
+  pub more : AllByRecursion (IsSoundMore columns) index.more
 
 pub record IsSound (case : CaseRecord) : Type 0 where
   pub segment_blocks : IsInRange 1 131072 case.segment_blocks

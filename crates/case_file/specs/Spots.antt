@@ -1,22 +1,24 @@
--- The spots of a document, where its rules are asked: each of its tables as a whole, and each listed key of each table,
--- in
--- the order of the key table.
+-- The spots of a document, where its rules are asked: each of its tables as a whole, each listed key of each table, and
+-- each element of an array of names, in the order of the key table.
 use Rattle.std.specs.Prelude.{ℕ, ◌+◌, List, [], ◌∷◌, ◌++◌, map, Option, Some, None, codes}
 use Rattle.toml.specs.Data.{Data, Members, as_table}
-use Rattle.toml.specs.View.{table_view}
+use Rattle.toml.specs.View.{table_view, view}
 use Rattle.case_file.specs.declared.keys.Place.{Place}
 use Rattle.case_file.specs.declared.keys.Place.TheVariants.{Top, Cluster, Heap, Column, Index, IndexKey}
 use Rattle.case_file.specs.declared.keys.Key.{Key}
 use Rattle.case_file.specs.declared.keys.Key.TheVariants.{SegmentBlocks, ClusterTable, HeapTable, Columns, Indexes}
+use Rattle.case_file.specs.declared.keys.Key.TheVariants.{IndexInclude}
 use Rattle.case_file.specs.declared.spots.Spot.{Spot as CodeSpot}
-use Rattle.case_file.specs.declared.spots.Spot.TheVariants.{Whole, Listed}
-use Rattle.case_file.specs.Keys.{keys_of, key_text, place_text}
-use Rattle.case_file.specs.Tables.{table_at, tables_at}
+use Rattle.case_file.specs.declared.spots.Spot.TheVariants.{Whole, Listed, Element}
+use Rattle.case_file.specs.Keys.{element_text, keys_of, key_text, place_text}
+use Rattle.case_file.specs.Tables.{table_at, tables_at, values_at}
 
--- a table as a whole, or a listed key of a table, whether it is there or not
+-- a table as a whole, a listed key of a table, whether it is there or not, or an element of the array at a key, with
+-- its number
 pub data Spot : Type 0 where
   whole : Place → Members → Spot
   listed : Place → Key → Members → Spot
+  element : Place → Key → ℕ → Data → Spot
 
 abbrev pub listed_all : Place → Members → List Key → List Spot
 listed_all p t [] = []
@@ -42,8 +44,18 @@ abbrev pub index_keys_spots : ℕ → Option Members → List Spot
 index_keys_spots k (Some t) = flat_map_from (key_spots k) 0 (tables_at (codes "key") t)
 index_keys_spots k None = []
 
+abbrev pub element_spots : Place → Key → ℕ → Data → List Spot
+element_spots p key j d = element p key j d ∷ []
+
+abbrev pub include_spots : ℕ → Option Members → List Spot
+include_spots k (Some t) =
+    listed (Index k) IndexInclude t
+    ∷ flat_map_from (element_spots (Index k) IndexInclude) 0 (values_at (codes "include") t)
+include_spots k None = []
+
 abbrev pub index_spots : ℕ → Data → List Spot
-index_spots k d = in_table (Index k) (as_table d) ++ index_keys_spots k (as_table d)
+index_spots k d =
+    in_table (Index k) (as_table d) ++ index_keys_spots k (as_table d) ++ include_spots k (as_table d)
 
 -- the parts of the key table
 abbrev pub top_part : Members → List Spot
@@ -69,11 +81,13 @@ spots top = top_part top ++ cluster_part top ++ heap_part top ++ column_part top
 unfoldable pub spot_text : Spot → List ℕ
 spot_text (whole p t) = place_text p
 spot_text (listed p key t) = key_text p key
+spot_text (element p key j d) = element_text p key j
 
 -- what the code's spot stands for
 abbrev pub spot_view : CodeSpot → Spot
 spot_view (Whole p t) = whole p (table_view t.now)
 spot_view (Listed p key t) = listed p key (table_view t.now)
+spot_view (Element p key j v) = element p key j (view v.now)
 
 unfoldable pub spots_view : List CodeSpot → List Spot
 spots_view ss = map spot_view ss

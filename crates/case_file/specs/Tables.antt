@@ -51,6 +51,13 @@ tables_in o = unwrap_or (option_and_then as_tables o) []
 unfoldable pub tables_at : List ℕ → Members → List Data
 tables_at key t = tables_in (get_member key t)
 
+-- the values of the array at a key; none where there is no array
+abbrev pub values_in : Option Data → List Data
+values_in o = option_map_or values_of (option_and_then as_array o) []
+
+unfoldable pub values_at : List ℕ → Members → List Data
+values_at key t = values_in (get_member key t)
+
 -- what a table holds at a key, with a value for where the table or the key isn't there
 unfoldable pub number_in : Option Members → List ℕ → ℕ
 number_in t key = option_map_or (number_at key) t 0

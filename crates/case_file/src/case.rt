@@ -5,7 +5,7 @@ ghost use Rattle.std.specs.Str.{bytes_eq};
 ghost use Rattle.case_file.specs.Record.{index_named};
 ghost use Rattle.case_file.specs.Sound.{IsSound};
 
-use key_orders::{ColType, KeySpec, Value};
+use key_orders::{ColType, KeySpec, MoreSpec, Value};
 use rel_files::Cluster;
 use std::marker::Model;
 
@@ -27,6 +27,7 @@ pub struct Index {
     name: String,
     file: String,
     keys: Vec<KeySpec>,
+    more: Vec<MoreSpec>,
 }
 
 impl Model for Index {
@@ -35,7 +36,12 @@ impl Model for Index {
 
     ghost Value = { IndexRecord };
 
-    ghost view = { λ i. record { name = string_bytes i.name; file = string_bytes i.file; keys = i.keys.items } };
+    ghost view = { λ i. record {
+      name = string_bytes i.name;
+      file = string_bytes i.file;
+      keys = i.keys.items;
+      more = i.more.items;
+    } };
 }
 
 /// The TOAST table of the case.
@@ -108,10 +114,20 @@ impl Model for Case {
 }
 
 impl Index {
-    pub fn new(name: String, file: String, keys: Vec<KeySpec>) -> Index
-        ensures { result ≡ record { name = string_bytes name; file = string_bytes file; keys = keys.items } }
+    pub fn new(name: String, file: String, keys: Vec<KeySpec>, more: Vec<MoreSpec>) -> Index
+        ensures { result ≡ record {
+          name = string_bytes name;
+          file = string_bytes file;
+          keys = keys.items;
+          more = more.items;
+        } }
     {
-        Index { name, file, keys }
+        Index {
+            name,
+            file,
+            keys,
+            more,
+        }
     }
 
     fn is_named(&self, name: &str) -> bool
@@ -130,6 +146,12 @@ impl Index {
         ensures { result.now ≡ self.now.keys }
     {
         &self.keys
+    }
+
+    fn more(&self) -> &[MoreSpec]
+        ensures { result.now ≡ self.now.more }
+    {
+        &self.more
     }
 }
 
@@ -150,8 +172,8 @@ impl Toast {
 
 impl Case {
     /// A law: every case is sound. Each number and length is in its range, each missing value is one
-    /// that its column may have, of at most 8000 bytes, and each column of a key is a column of the
-    /// case, of a type that may be a key's.
+    /// that its column may have, of at most 8000 bytes, each column of a key is a column of the
+    /// case, of a type that may be a key's, and each included column is a column of the case.
     pub fn sound(&self)
         ensures { IsSound self.now }
     {
@@ -246,6 +268,15 @@ impl Case {
         ensures { option_map (λ i. i.keys) (slice_get self.now.indexes (n - 1)) ≡ Some result.now }
     {
         self.indexes[n as usize - 1].keys()
+    }
+
+    /// The columns that index `n` includes beside its key, in the order of the text, where `n` counts
+    /// from 1; at most 24. One column may be there more than once.
+    pub fn index_more(&self, n: u16) -> &[MoreSpec]
+        requires { (1 ≤ n) × (n ≤ length self.now.indexes) }
+        ensures { option_map (λ i. i.more) (slice_get self.now.indexes (n - 1)) ≡ Some result.now }
+    {
+        self.indexes[n as usize - 1].more()
     }
 
     /// The number of the index of a name, from 1; `None` exactly where no index has it.

@@ -15,13 +15,13 @@ pub enum CaseRule {
     C1,
     /// A key is absent that has to be there.
     C2,
-    /// A key's value is of another kind.
+    /// A key's value is of another kind, or an element of an array of names is no text.
     C3,
     /// A number, the length of a text or the count of an array is out of range, or a missing
     /// value isn't written in hexadecimal or has a length that its type can't have.
     C4,
-    /// A type is unknown, the name of a column or an index is used twice, or a key column is no
-    /// column of the table or may not be one of a key.
+    /// A type is unknown, the name of a column or an index is used twice, a key column is no
+    /// column of the table or may not be one of a key, or an included column is none of the table.
     C5,
     /// A table has a key that a case file doesn't know, or a column has a length or an alignment
     /// that its type doesn't take.
@@ -56,7 +56,8 @@ pub enum CaseFault {
         rule: CaseRule,
         /// The first place where it is broken, in the order of the key table: a table as `top`,
         /// `cluster`, `heap`, `column[0]`, `index[0]` or `index[0].key[0]`, a key as
-        /// `column[0].type`, or `text` for the whole. Numbers count from 0.
+        /// `column[0].type`, an element of an array as `index[0].include[0]`, or `text` for the
+        /// whole. Numbers count from 0.
         place: Octets,
     },
     /// Memory ran out before the text was judged.

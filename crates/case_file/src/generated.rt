@@ -54,6 +54,7 @@ fn generated_index(
       name = name.now;
       file = file.now;
       keys = rising_key column ctype ∷ [];
+      more = [];
     }) }
 {
     let mut keys = Vec::new(alloc);
@@ -65,7 +66,7 @@ fn generated_index(
     })?;
     let name = String::from_str(alloc, name)?;
     let file = String::from_str(alloc, file)?;
-    Ok(Index::new(name, file, keys))
+    Ok(Index::new(name, file, keys, Vec::new(alloc)))
 }
 
 // The two indexes, one on each column.
@@ -82,8 +83,9 @@ impl Case {
     /// The case of the generated table: its columns are `id`, an int8, and `grp`, an int4, without missing
     /// values; its heap is the file `t`, with full segments of 131072 blocks, and it has no TOAST table. Its
     /// indexes are `t_id` in the file `i1`, on the first column, and `t_grp` in the file `i2`, on the second,
-    /// both rising with nulls last. Of its cluster transaction 3 is the oldest and 4 the next, multixact 1 the
-    /// oldest and the next, and 0 the next member; the folders are `xact`, `offsets` and `members`.
+    /// both rising with nulls last; neither includes another column. Of its cluster transaction 3 is the oldest
+    /// and 4 the next, multixact 1 the oldest and the next, and 0 the next member; the folders are `xact`,
+    /// `offsets` and `members`.
     pub fn generated(alloc: Global) -> Result<Case, NoMemory>
         ensures { IfOk result (λ c. c ≡ generated_case) }
     {

@@ -1,14 +1,15 @@
 //! The indexes of a document that breaks no rule.
-ghost use Rattle.std.specs.Prelude.{◌≡◌, map, option_map, IfOk, position, Some};
+ghost use Rattle.std.specs.Prelude.{◌≡◌, map, option_copied, option_map, IfOk, position, Some};
 ghost use Rattle.toml.specs.View.{view, table_view};
-ghost use Rattle.case_file.specs.Indexes.{column_named, index_of, key_of, keys_in, table_of};
-ghost use Rattle.case_file.specs.Rules.{is_key_column};
+ghost use Rattle.case_file.specs.Indexes.{any_column_named, column_named, index_of, key_of, keys_in, more_in, more_of};
+ghost use Rattle.case_file.specs.Indexes.{table_of};
+ghost use Rattle.case_file.specs.Rules.{has_name, is_key_column};
 
 use crate::case::Index;
 use crate::columns::{below_2_16, told_type};
-use crate::rules::is_key_column;
-use crate::tables::{flag_in, string_in, tables_at, text_in};
-use key_orders::KeySpec;
+use crate::rules::{has_name, is_key_column};
+use crate::tables::{flag_in, string_in, tables_at, text_in, values_at};
+use key_orders::{KeySpec, MoreSpec};
 use outside::NoMemory;
 use std::alloc::Global;
 use toml::{Table, Value};
@@ -26,6 +27,22 @@ fn column_named(columns: &[Value], name: &str) -> usize
     ensures { result ≡ column_named (map view columns.now) name.now }
 {
     match position_of(columns, name) {
+        Some(k) => k,
+        None => 0,
+    }
+}
+
+fn any_position_of(columns: &[Value], name: Option<&str>) -> Option<usize>
+    ensures { result ≡ position (λ v. has_name (option_copied name.entry) (view v)) columns.now }
+{
+    columns.iter().position(|column| has_name(name, column))
+}
+
+#[tactic(auto, unfolding(crate::specs::Indexes::any_column_named), using(crate::proofs::Values::position_laws))]
+fn any_column_named(columns: &[Value], name: Option<&str>) -> usize
+    ensures { result ≡ any_column_named (map view columns.now) (option_copied name.entry) }
+{
+    match any_position_of(columns, name) {
         Some(k) => k,
         None => 0,
     }
@@ -75,6 +92,36 @@ fn keys_in(index: Option<&Table>) -> &[Value]
     }
 }
 
+#[tactic(auto, unfolding(crate::specs::Indexes::more_of))]
+fn more_of(columns: &[Value], name: &Value) -> MoreSpec
+    ensures { result ≡ more_of (map view columns.now) (view name.now) }
+{
+    let column = any_column_named(columns, name.as_str());
+    MoreSpec {
+        column: below_2_16(column),
+        ctype: told_type(table_of(columns, column)),
+    }
+}
+
+fn all_more_of(alloc: Global, columns: &[Value], names: &[Value]) -> Result<Vec<MoreSpec>, NoMemory>
+    ensures { IfOk result (λ v. v.items ≡ map (more_of (map view columns.now)) (map view names.now)) }
+{
+    let mut out = Vec::new(alloc);
+    for name in names {
+        out.push(more_of(columns, name))?;
+    }
+    Ok(out)
+}
+
+fn more_in(index: Option<&Table>) -> &[Value]
+    ensures { map view result.now ≡ more_in (option_map (λ t. table_view t.now) index.entry) }
+{
+    match index {
+        Some(table) => values_at(table, "include"),
+        None => &[],
+    }
+}
+
 #[tactic(auto, unfolding(crate::specs::Indexes::index_of))]
 fn index_of(alloc: Global, columns: &[Value], index: &Value) -> Result<Index, NoMemory>
     ensures { IfOk result (λ i. i ≡ index_of (map view columns.now) (view index.now)) }
@@ -83,7 +130,8 @@ fn index_of(alloc: Global, columns: &[Value], index: &Value) -> Result<Index, No
     let name = string_in(alloc, table, "name")?;
     let file = string_in(alloc, table, "file")?;
     let keys = keys_of(alloc, columns, keys_in(table))?;
-    Ok(Index::new(name, file, keys))
+    let more = all_more_of(alloc, columns, more_in(table))?;
+    Ok(Index::new(name, file, keys, more))
 }
 
 /// The indexes of a document, in order.

@@ -1,6 +1,6 @@
 //! The key table: the tables of a case file, the keys of each, and what is asked of each value.
 ghost use Rattle.std.specs.Prelude.{◌≡◌};
-ghost use Rattle.case_file.specs.Keys.{keys_of, row_of};
+ghost use Rattle.case_file.specs.Keys.{keys_of, late_keys_of, row_of};
 
 /// A table of the document. Columns, indexes and keys of an index count from 0.
 #[derive(Clone, Copy, Debug, PartialEq, Eq)]
@@ -42,6 +42,7 @@ pub enum Key {
     IndexName,
     IndexFile,
     IndexKeys,
+    IndexInclude,
     KeyColumn,
     KeyDesc,
     KeyNullsFirst,
@@ -53,6 +54,7 @@ pub enum Kind {
     Text,
     Integer,
     Boolean,
+    Array,
     Table,
     /// An array of which all members are tables.
     Tables,
@@ -122,7 +124,7 @@ pub fn row(key: Key) -> KeyRow
     ensures need { result.need ≡ (row_of key).need }
     ensures range { result.range ≡ (row_of key).range }
 {
-    use Kind::{Boolean, Integer, Table, Tables, Text};
+    use Kind::{Array, Boolean, Integer, Table, Tables, Text};
     use Need::{Always, OfFixed, OfStored, Optional, WithToastFile, WithToastOid};
     use Range::{Alignment, Any, Between, StoredBytes};
     match key {
@@ -150,13 +152,14 @@ pub fn row(key: Key) -> KeyRow
         Key::IndexName => key_row("name", Text, Always, Between(1, 63)),
         Key::IndexFile => key_row("file", Text, Always, Between(1, 200)),
         Key::IndexKeys => key_row("key", Tables, Always, Between(1, 8)),
+        Key::IndexInclude => key_row("include", Array, Optional, Between(0, 24)),
         Key::KeyColumn => key_row("column", Text, Always, Any),
         Key::KeyDesc => key_row("desc", Boolean, Optional, Any),
         Key::KeyNullsFirst => key_row("nulls_first", Boolean, Optional, Any),
     }
 }
 
-/// The keys that a table may have.
+/// The keys that a table may have; of an index those that are asked before its key columns.
 #[tactic(auto, unfolding(crate::specs::Keys::keys_of))]
 pub fn place_keys(place: Place) -> &'static [Key]
     ensures { result.now ≡ keys_of place }
@@ -189,5 +192,16 @@ pub fn place_keys(place: Place) -> &'static [Key]
         ],
         Place::Index(_) => &[Key::IndexName, Key::IndexFile, Key::IndexKeys],
         Place::IndexKey(_, _) => &[Key::KeyColumn, Key::KeyDesc, Key::KeyNullsFirst],
+    }
+}
+
+/// And those that are asked behind them.
+#[tactic(auto, unfolding(crate::specs::Keys::late_keys_of))]
+pub fn late_keys(place: Place) -> &'static [Key]
+    ensures { result.now ≡ late_keys_of place }
+{
+    match place {
+        Place::Index(_) => &[Key::IndexInclude],
+        _ => &[],
     }
 }

@@ -8,18 +8,19 @@ ghost use Rattle.std.specs.Str.{bytes_eq};
 ghost use Rattle.hex.specs.Hex.{is_hex_digit};
 ghost use Rattle.toml.specs.Data.{as_integer, as_table, get_member};
 ghost use Rattle.toml.specs.View.{view, table_view};
-ghost use Rattle.case_file.specs.Keys.{keys_of, row_of};
+ghost use Rattle.case_file.specs.Keys.{keys_of, late_keys_of, row_of};
 ghost use Rattle.case_file.specs.Rules.{applies, at_least_one, breaks, fails, has_known_type, has_name, has_other_kind};
 ghost use Rattle.case_file.specs.Rules.{has_stored_type, has_too_old, has_type, has_unlisted, is_absent, is_align};
-ghost use Rattle.case_file.specs.Rules.{is_between, is_fit, is_key_column, is_len, is_listed, is_missing_text};
-ghost use Rattle.case_file.specs.Rules.{is_name_taken, is_needed, is_of, is_out_of_range, is_stored_len, is_told};
-ghost use Rattle.case_file.specs.Rules.{is_too_old, is_unknown, key_type, has_key_type, member_names};
-ghost use Rattle.case_file.specs.Rules.{number_is_in_range, number_of, same_text, word_of};
+ghost use Rattle.case_file.specs.Rules.{is_among, is_between, is_fit, is_key_column, is_len, is_listed};
+ghost use Rattle.case_file.specs.Rules.{is_missing_text, is_name_taken, is_needed, is_no_text, is_of, is_out_of_range};
+ghost use Rattle.case_file.specs.Rules.{is_stored_len, is_told, is_too_old, is_unknown, key_type, has_key_type};
+ghost use Rattle.case_file.specs.Rules.{member_names, names_no_column, number_is_in_range, number_of, same_text};
+ghost use Rattle.case_file.specs.Rules.{word_of};
 ghost use Rattle.case_file.specs.Spots.{spot_view};
 ghost use Rattle.case_file.specs.Tables.{has, number_at, tables_at, text_at};
 
 use crate::fault::CaseRule;
-use crate::keys::{Key, Kind, Need, Place, Range, place_keys, row};
+use crate::keys::{Key, Kind, Need, Place, Range, late_keys, place_keys, row};
 use crate::spots::Spot;
 use crate::tables::{as_tables, below_2_32, has, number_at, tables_at, text_at, value_at};
 use key_orders::ColType;
@@ -153,6 +154,7 @@ fn is_of(kind: Kind, value: &Value) -> bool
         Kind::Text => value.is_str(),
         Kind::Integer => value.is_integer(),
         Kind::Boolean => value.is_bool(),
+        Kind::Array => value.is_array(),
         Kind::Table => value.is_table(),
         Kind::Tables => as_tables(value).is_some(),
     }
@@ -168,6 +170,13 @@ fn has_other_kind(key: Key, table: &Table) -> bool
         Some(value) => !is_of(row.kind, value),
         None => false,
     }
+}
+
+// C3 of an element of an array of names
+fn is_no_text(value: &Value) -> bool
+    ensures { result ≡ is_no_text (view value.now) }
+{
+    !value.is_str()
 }
 
 fn is_in_range(low: u64, high: u64, n: u64) -> bool
@@ -296,7 +305,8 @@ fn is_out_of_range(key: Key, table: &Table) -> bool
         }
 }
 
-fn has_name(name: Option<&str>, value: &Value) -> bool
+/// Whether a value is a table of that name.
+pub fn has_name(name: Option<&str>, value: &Value) -> bool
     ensures { result ≡ has_name (option_copied name.entry) (view value.now) }
 {
     match value.as_table() {
@@ -366,14 +376,28 @@ fn is_unknown(top: &Table, place: Place, key: Key, table: &Table) -> bool
     }
 }
 
+// C5 of an element of an array of names
+#[tactic(auto, unfolding(crate::specs::Rules::names_no_column), using(crate::proofs::Values::any_laws))]
+fn names_no_column(top: &Table, value: &Value) -> bool
+    ensures { result ≡ names_no_column (table_view top.now) (view value.now) }
+{
+    !any_has_name(tables_at(top, "column"), value.as_str())
+}
+
+fn is_among(keys: &[Key], table: &Table, name: &str) -> bool
+    ensures { result ≡ is_among keys.now (table_view table.now) name.now }
+{
+    keys.iter().any(|key| {
+        let row = row(*key);
+        row.word == name && applies(row.need, table)
+    })
+}
+
 #[tactic(auto, unfolding(crate::specs::Rules::is_listed))]
 fn is_listed(place: Place, table: &Table, name: &str) -> bool
     ensures { result ≡ is_listed place (table_view table.now) name.now }
 {
-    place_keys(place).iter().any(|key| {
-        let row = row(*key);
-        row.word == name && applies(row.need, table)
-    })
+    is_among(place_keys(place), table, name) || is_among(late_keys(place), table, name)
 }
 
 // C6
@@ -425,8 +449,10 @@ pub fn breaks(top: &Table, rule: CaseRule, spot: Spot<'_>) -> bool
     match (rule, spot) {
         (CaseRule::C2, Spot::Listed(_, key, table)) => is_absent(key, table),
         (CaseRule::C3, Spot::Listed(_, key, table)) => has_other_kind(key, table),
+        (CaseRule::C3, Spot::Element(_, _, _, value)) => is_no_text(value),
         (CaseRule::C4, Spot::Listed(_, key, table)) => is_out_of_range(key, table),
         (CaseRule::C5, Spot::Listed(place, key, table)) => is_unknown(top, place, key, table),
+        (CaseRule::C5, Spot::Element(_, _, _, value)) => names_no_column(top, value),
         (CaseRule::C6, Spot::Whole(place, table)) => has_unlisted(place, table),
         (CaseRule::C7, Spot::Whole(place, table)) => has_too_old(place, table),
         _ => false,

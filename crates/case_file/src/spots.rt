@@ -3,11 +3,12 @@ ghost use Rattle.std.specs.Prelude.{◌≡◌, ◌++◌, [], ◌∷◌, OnOk, If
 ghost use Rattle.toml.specs.Data.{as_table};
 ghost use Rattle.toml.specs.View.{view, table_view};
 ghost use Rattle.case_file.specs.Keys.{keys_of};
-ghost use Rattle.case_file.specs.Spots.{column_spots, flat_map_from, in_table, index_keys_spots, index_spots};
-ghost use Rattle.case_file.specs.Spots.{key_spots, listed, listed_all, spot_view, spots_view, spots};
+ghost use Rattle.case_file.specs.Spots.{column_spots, element_spots, flat_map_from, in_table, include_spots};
+ghost use Rattle.case_file.specs.Spots.{index_keys_spots, index_spots, key_spots, listed, listed_all, spot_view};
+ghost use Rattle.case_file.specs.Spots.{spots_view, spots};
 
 use crate::keys::{Key, Place, place_keys};
-use crate::tables::{table_at, tables_at};
+use crate::tables::{table_at, tables_at, values_at};
 use outside::NoMemory;
 use std::alloc::Global;
 use toml::{Table, Value};
@@ -19,6 +20,8 @@ pub enum Spot<'a> {
     Whole(Place, &'a Table),
     /// A listed key of a table, whether it is there or not, with the table's place.
     Listed(Place, Key, &'a Table),
+    /// An element of the array at a key, with its number and the table's place.
+    Element(Place, Key, usize, &'a Value),
 }
 
 #[tactic(auto, unfolding(crate::specs::Spots::spots_view), using(crate::proofs::Walk::spots_view_laws))]
@@ -117,12 +120,44 @@ fn add_keys_of_index<'a>(
     }
 }
 
+fn add_elements<'a>(
+    spots: &mut Vec<Spot<'a>>,
+    place: Place,
+    key: Key,
+    values: &'a [Value],
+) -> Result<(), NoMemory>
+    ensures { OnOk result (spots_view spots.new.items
+        ≡ spots_view spots.old.items ++ flat_map_from (element_spots place key) 0 (map view values.now)) }
+{
+    for (j, value) in values.iter().enumerate() {
+        add(spots, Spot::Element(place, key, j, value))?;
+    }
+    Ok(())
+}
+
+fn add_included<'a>(
+    spots: &mut Vec<Spot<'a>>,
+    k: usize,
+    index: Option<&'a Table>,
+) -> Result<(), NoMemory>
+    ensures { OnOk result (spots_view spots.new.items
+        ≡ spots_view spots.old.items ++ include_spots k (option_map (λ t. table_view t.now) index.entry)) }
+{
+    if let Some(table) = index {
+        let place = Place::Index(k);
+        add(spots, Spot::Listed(place, Key::IndexInclude, table))?;
+        add_elements(spots, place, Key::IndexInclude, values_at(table, "include"))?;
+    }
+    Ok(())
+}
+
 fn add_index<'a>(spots: &mut Vec<Spot<'a>>, k: usize, index: &'a Value) -> Result<(), NoMemory>
     ensures { OnOk result (spots_view spots.new.items ≡ spots_view spots.old.items ++ index_spots k (view index.now)) }
 {
     let table = index.as_table();
     add_table(spots, Place::Index(k), table)?;
-    add_keys_of_index(spots, k, table)
+    add_keys_of_index(spots, k, table)?;
+    add_included(spots, k, table)
 }
 
 fn add_indexes<'a>(spots: &mut Vec<Spot<'a>>, indexes: &'a [Value]) -> Result<(), NoMemory>

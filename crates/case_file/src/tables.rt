@@ -4,7 +4,7 @@ ghost use Rattle.std.specs.List.{list_all};
 ghost use Rattle.toml.specs.Data.{get_member};
 ghost use Rattle.toml.specs.View.{view, table_view};
 ghost use Rattle.case_file.specs.Tables.{as_tables, below_2_32, flag_in, has, is_table, number_at, number_in, table_at};
-ghost use Rattle.case_file.specs.Tables.{tables_at, text_at, text_in};
+ghost use Rattle.case_file.specs.Tables.{tables_at, text_at, text_in, values_at};
 
 use outside::NoMemory;
 use std::alloc::Global;
@@ -89,6 +89,20 @@ pub fn tables_at<'a>(table: &'a Table, key: &str) -> &'a [Value]
 {
     match value_at(table, key) {
         Some(value) => match as_tables(value) {
+            Some(values) => values,
+            None => &[],
+        },
+        None => &[],
+    }
+}
+
+/// The values of the array at a key; none where there is no array.
+#[tactic(auto, unfolding(crate::specs::Tables::values_at), using(crate::proofs::Values::view_laws))]
+pub fn values_at<'a>(table: &'a Table, key: &str) -> &'a [Value]
+    ensures { map view result.now ≡ values_at key.now (table_view table.now) }
+{
+    match value_at(table, key) {
+        Some(value) => match value.as_array() {
             Some(values) => values,
             None => &[],
         },

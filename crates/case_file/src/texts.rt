@@ -1,6 +1,6 @@
 //! How a refusal names a spot.
-ghost use Rattle.std.specs.Prelude.{◌≡◌, ◌++◌, decimal, IfOk, OnOk};
-ghost use Rattle.case_file.specs.Keys.{key_text, numbered_text, place_text};
+ghost use Rattle.std.specs.Prelude.{◌≡◌, ◌++◌, IfOk, OnOk};
+ghost use Rattle.case_file.specs.Keys.{bracketed, element_text, key_text, numbered_text, place_text};
 ghost use Rattle.case_file.specs.Spots.{spot_text, spot_view};
 
 use crate::keys::{Key, Place, row};
@@ -15,13 +15,19 @@ fn push_text(out: &mut Octets, text: &str) -> Result<(), NoMemory>
     out.push_slice(text.as_bytes())
 }
 
+fn push_bracketed(out: &mut Octets, n: usize) -> Result<(), NoMemory>
+    ensures { OnOk result (out.new ≡ out.old ++ bracketed n) }
+{
+    push_text(out, "[")?;
+    out.push_decimal(n as u64)?;
+    push_text(out, "]")
+}
+
 fn push_numbered(out: &mut Octets, word: &str, n: usize) -> Result<(), NoMemory>
     ensures { OnOk result (out.new ≡ out.old ++ numbered_text word.now n) }
 {
     push_text(out, word)?;
-    push_text(out, "[")?;
-    out.push_decimal(n as u64)?;
-    push_text(out, "]")
+    push_bracketed(out, n)
 }
 
 #[tactic(auto, unfolding(crate::specs::Keys::place_text))]
@@ -56,6 +62,13 @@ fn push_key(out: &mut Octets, place: Place, key: Key) -> Result<(), NoMemory>
     }
 }
 
+fn push_element(out: &mut Octets, place: Place, key: Key, j: usize) -> Result<(), NoMemory>
+    ensures { OnOk result (out.new ≡ out.old ++ element_text place key j) }
+{
+    push_key(out, place, key)?;
+    push_bracketed(out, j)
+}
+
 #[tactic(auto, unfolding(crate::specs::Spots::spot_text))]
 fn push_spot(out: &mut Octets, spot: Spot<'_>) -> Result<(), NoMemory>
     ensures { OnOk result (out.new ≡ out.old ++ spot_text (spot_view spot.entry)) }
@@ -63,10 +76,12 @@ fn push_spot(out: &mut Octets, spot: Spot<'_>) -> Result<(), NoMemory>
     match spot {
         Spot::Whole(place, _) => push_place(out, place),
         Spot::Listed(place, key, _) => push_key(out, place, key),
+        Spot::Element(place, key, j, _) => push_element(out, place, key, j),
     }
 }
 
-/// How a refusal names a spot: a table as `column[0]`, a key as `column[0].type`.
+/// How a refusal names a spot: a table as `column[0]`, a key as `column[0].type`, an element of an
+/// array as `index[0].include[0]`.
 pub fn spot_text(alloc: Global, spot: Spot<'_>) -> Result<Octets, NoMemory>
     ensures { IfOk result (λ text. text ≡ spot_text (spot_view spot.entry)) }
 {

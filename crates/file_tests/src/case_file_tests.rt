@@ -2,7 +2,7 @@
 use crate::case_texts::{EDITS, FULL};
 use crate::checks::{holds, same};
 use case_file::{Case, CaseFault, Column, read_case};
-use key_orders::{KeySpec, Value};
+use key_orders::{KeySpec, MoreSpec, Value};
 use std::alloc::Global;
 use std::process::Abort;
 use std::test::Fail;
@@ -12,7 +12,7 @@ const CLUSTER: &str =
     xact = 'x'\noffsets = 'o'\nmembers = 'm'";
 
 // What marks stand for: so many of a piece.
-const MARKS: [(&str, &str, usize); 10] = [
+const MARKS: [(&str, &str, usize); 12] = [
     ("<none>", "", 1),
     ("\\n", "\n", 1),
     ("<cluster>", CLUSTER, 1),
@@ -31,6 +31,8 @@ const MARKS: [(&str, &str, usize); 10] = [
     ),
     ("<7 keys>", "[[index.key]]\ncolumn = 'id'\n", 7),
     ("<8 keys>", "[[index.key]]\ncolumn = 'id'\n", 8),
+    ("<24 names>", "'id', ", 24),
+    ("<24 included>", " MoreSpec { column: 0, ctype: Int8 }", 24),
 ];
 
 // A text with so many of a piece for each mark.
@@ -65,6 +67,10 @@ fn describe_key(alloc: Global, key: &KeySpec) -> Result<String, Fail> {
     Ok(format!(in alloc; " {key:?}")?)
 }
 
+fn describe_more(alloc: Global, more: &MoreSpec) -> Result<String, Fail> {
+    Ok(format!(in alloc; " {more:?}")?)
+}
+
 fn describe_index(alloc: Global, case: &Case, n: u16) -> Result<String, Fail> {
     if n < 1 || case.index_count() < n {
         return Err(Fail::from("no such index"));
@@ -72,6 +78,9 @@ fn describe_index(alloc: Global, case: &Case, n: u16) -> Result<String, Fail> {
     let mut out = format!(in alloc; " index {n} {}", case.index_file(n))?;
     for key in case.index_keys(n) {
         push(&mut out, describe_key(alloc, key))?;
+    }
+    for more in case.index_more(n) {
+        push(&mut out, describe_more(alloc, more))?;
     }
     out.push_str(",")?;
     Ok(out)

@@ -42,6 +42,7 @@ column = "id"
 [[index]]
 name = "t_note"
 file = "i2"
+include = ["sum", "day"]
 [[index.key]]
 column = "note"
 desc = true
@@ -102,6 +103,13 @@ C3 column[1].missing | missing = "01" -> missing = 1
 C3 index[0].key | [[index.key]]\ncolumn = "id" -> key = "id"
 C3 index[1].key[0].desc | desc = true -> desc = 1
 C3 index[1].key[1].nulls_first | nulls_first = true -> nulls_first = "true"
+C3 index[0].include | file = "i1" -> file = "i1"\ninclude = "id"
+C3 index[0].include | file = "i1" -> file = "i1"\ninclude = true
+C3 index[1].include | include = ["sum", "day"] -> include = { name = "sum" }
+C3 index[0].include[0] | file = "i1" -> file = "i1"\ninclude = [1]
+C3 index[0].include[1] | file = "i1" -> file = "i1"\ninclude = ["id", ["id"], 1]
+C3 index[1].include[2] | include = ["sum", "day"] -> include = ["sum", "day", { name = "id" }]
+C3 index[0].include[0] | file = "i1" -> file = "i1"\n[[index.include]]\nname = "id"
 C4 segment_blocks | segment_blocks = 1024 -> segment_blocks = 0
 C4 segment_blocks | segment_blocks = 1024 -> segment_blocks = 131073
 C4 cluster.next_xid | next_xid = 1000 -> next_xid = 2
@@ -153,6 +161,8 @@ C4 index[0].file | file = "i1" -> file = ""
 C4 index[0].file | file = "i1" -> file = "<200x>x"
 C4 index[0].key | [[index.key]]\ncolumn = "id" -> key = []
 C4 index[0].key | column = "id"\n -> column = "id"\n<8 keys>
+C4 index[0].include | file = "i1" -> file = "i1"\ninclude = [<24 names>"id"]
+C4 index[1].include | include = ["sum", "day"] -> include = [<24 names>"note"]
 C5 column[0].type | type = "int8" -> type = "real"
 C5 column[0].type | type = "int8" -> type = "INT8"
 C5 column[0].type | type = "int8" -> type = "Oid"
@@ -165,6 +175,10 @@ C5 index[1].name | name = "t_note" -> name = "t_pkey"
 C5 index[0].key[0].column | column = "id" -> column = "ID"
 C5 index[0].key[0].column | column = "id" -> column = "day"
 C5 index[1].key[1].column | column = "flag" -> column = "sum"
+C5 index[0].include[0] | file = "i1" -> file = "i1"\ninclude = ["ID"]
+C5 index[0].include[0] | file = "i1" -> file = "i1"\ninclude = ["int8"]
+C5 index[0].include[1] | file = "i1" -> file = "i1"\ninclude = ["id", ""]
+C5 index[1].include[2] | include = ["sum", "day"] -> include = ["sum", "sum", "t_note"]
 C6 top | segment_blocks = 1024 -> colour = 1
 C6 top | segment_blocks = 1024 -> "" = 1
 C6 cluster | next_member = 4 -> next_member = 4\nnext_oid = 4
@@ -175,6 +189,9 @@ C6 column[2] | type = "text" -> type = "text"\nalign = 4
 C6 column[4] | type = "varlena" -> type = "varlena"\nlen = 4
 C6 index[0] | file = "i1" -> file = "i1"\nunique = true
 C6 index[1].key[0] | desc = true -> desc = true\ncollation = "C"
+C6 index[0] | file = "i1" -> file = "i1"\nincludes = ["id"]
+C6 index[1].key[0] | desc = true -> desc = true\ninclude = ["id"]
+C6 column[0] | type = "int8" -> type = "int8"\ninclude = []
 C7 cluster | oldest_xid = 700 -> oldest_xid = 2000
 C7 cluster | oldest_xid = 700 -> oldest_xid = 1001
 C7 cluster | next_xid = 1000\noldest_xid = 700 -> next_xid = 2147483651\noldest_xid = 3
@@ -192,10 +209,21 @@ C5 index[0].key[0].column | name = "t_note" -> name = "t_pkey" | column = "id" -
 C6 index[1].key[0] | oldest_xid = 700 -> oldest_xid = 2000 | desc = true -> desc = true\nnulls = 1
 C6 index[0].key[0] | column = "id" -> column = "id"\nnulls = 1 | file = "i2" -> file = "i2"\nunique = true
 C6 cluster | next_member = 4 -> next_member = 4\nx = 1 | file = "t" -> file = "t"\nx = 1
+C3 index[1].key[0].desc | include = ["sum", "day"] -> include = 1 | desc = true -> desc = 1
+C3 index[0].include | file = "i1" -> file = "i1"\ninclude = 1 | name = "t_note" -> name = 1
+C3 index[1].include[0] | include = ["sum", "day"] -> include = [1, 2]
+C3 index[0].include[24] | file = "i1" -> file = "i1"\ninclude = [<24 names>1]
+C3 index[1].include[0] | file = "i1" -> file = "" | include = ["sum", "day"] -> include = [1]
+C4 index[0].key | column = "id"\n -> column = "id"\n<8 keys> | file = "i1" -> file = "i1"\ninclude = [<24 names>"id"]
+C4 index[0].include | file = "i1" -> file = "i1"\ninclude = [<24 names>"id"] | file = "i2" -> file = ""
+C4 index[0].include | file = "i1" -> file = "i1"\ninclude = [<24 names>"x"]
+C5 index[0].key[0].column | file = "i1" -> file = "i1"\ninclude = ["x"] | column = "id" -> column = "sum"
+C5 index[0].include[0] | file = "i1" -> file = "i1"\ninclude = ["x"] | column = "note" -> column = "sum"
+C5 index[1].include[1] | segment_blocks = 1024 -> colour = 1 | include = ["sum", "day"] -> include = ["sum", "x", "y"]
 ok blocks 1024, cluster 1000 700 6 1 4, dirs pg_xact pg_multixact/offsets pg_multixact/members, heap t, toast o 16400
 columns Int8 null, Bool true, Text null, Fixed { len: 4, align: 4 } 05000000, Varlena { align: 4 } null
 index 1 i1 KeySpec { column: 0, ctype: Int8, desc: false, nulls_first: false }
-index 2 i2 KeySpec { column: 2, ctype: Text, desc: true, nulls_first: true } KeySpec { column: 1, ctype: Bool, desc: false, nulls_first: true }
+index 2 i2 KeySpec { column: 2, ctype: Text, desc: true, nulls_first: true } KeySpec { column: 1, ctype: Bool, desc: false, nulls_first: true } MoreSpec { column: 4, ctype: Varlena { align: 4 } } MoreSpec { column: 3, ctype: Fixed { len: 4, align: 4 } },
 blocks 131072, | segment_blocks = 1024\n -> <none>
 blocks 131072, | segment_blocks = 1024 -> segment_blocks = 131072
 blocks 1, | segment_blocks = 1024 -> segment_blocks = 1
@@ -237,6 +265,13 @@ ctype: Text, desc: false, nulls_first: false | desc = true -> desc = false
 ctype: Text, desc: true, nulls_first: false | desc = true -> desc = true\nnulls_first = false
 ctype: Bool, desc: false, nulls_first: false | nulls_first = true\n -> <none>
 i1 KeySpec { column: 0, ctype: Int8, desc: false, nulls_first: false } KeySpec { column: 0, ctype: Int8 | column = "id"\n -> column = "id"\n<7 keys>
+ctype: Bool, desc: false, nulls_first: true }, | include = ["sum", "day"]\n -> <none>
+index 1 i1 KeySpec { column: 0, ctype: Int8, desc: false, nulls_first: false }, index 2 | file = "i1" -> file = "i1"\ninclude = []
+false } MoreSpec { column: 0, ctype: Int8 } MoreSpec { column: 1, ctype: Bool } MoreSpec { column: 0, ctype: Int8 }, index 2 | file = "i1" -> file = "i1"\ninclude = ["id", "flag", "id"]
+nulls_first: false }<24 included>, index 2 | file = "i1" -> file = "i1"\ninclude = [<24 names>]
+nulls_first: true } MoreSpec { column: 2, ctype: Text }, | include = ["sum", "day"] -> include = ['note']
+MoreSpec { column: 4, ctype: Varlena { align: 8 } } MoreSpec | type = "varlena"\nalign = 4 -> type = "varlena"\nalign = 8
 no toast, columns Int4 null, no index | * -> index = []\n[cluster]\n<cluster>\n[heap]\nfile = "t"\n[[column]]\nname = "a"\ntype = "int4"
 columns Int4 null, index 1 i KeySpec { column: 0, ctype: Int4, desc: true, nulls_first: true }, | * -> heap.file = "t"\ncolumn = [{ name = "a", type = "int4" }]\nindex = [{ name = "x", file = "i", key = [{ column = "a", desc = true }] }]\n[cluster]\n<cluster>
+columns Int4 null, index 1 i KeySpec { column: 0, ctype: Int4, desc: false, nulls_first: false } MoreSpec { column: 0, ctype: Int4 }, | * -> heap.file = "t"\ncolumn = [{ name = "a", type = "int4" }]\nindex = [{ name = "x", include = ["a"], file = "i", key = [{ column = "a" }] }]\n[cluster]\n<cluster>
 "#;

@@ -7,7 +7,7 @@ use Rattle.key_orders.specs.declared.Tid.{Tid}
 use Rattle.case_file.specs.Record.{CaseRecord}
 use Rattle.reports.specs.Added.{each_upto, joined, nothing, report_lists}
 use Rattle.root_set.specs.Targets.{is_in}
-use Rattle.tree_image.specs.Image.{index_image}
+use Rattle.tree_image.specs.Image.{index_entries}
 use Rattle.bt_levels.specs.declared.sound.SoundTree.{SoundTree}
 use Rattle.bt_levels.specs.Files.{IsFileOf, number_of}
 use Rattle.bt_levels.specs.Index.{index_of}
@@ -28,7 +28,7 @@ module _ (case : CaseRecord) (names : Names) (tree : SoundTree) (index : IsSound
   pub rows-are : (rows : List LiveRow) → rows ≡ rows_of case names → owed_for names tree rows ≡ rows_lists case names (number_of (file_of tree))
   unfolding owed_for rows_lists
   rows-are rows are = λ i.
-      of_each report_lists (row_lists (number_of (file_of tree)) (index.columns i).specs (has_alive (index.columns i).specs (index_image (index.columns i).specs (index.columns i).more (file.count i) (λ b. blocks-are b i)))) (are i)
+      of_each report_lists (row_lists (number_of (file_of tree)) (index.columns i) (has_alive (index_entries (index.columns i).specs (index.columns i).more (file.count i) (λ b. blocks-are b i)))) (are i)
 
   -- and its entries
   pub entries-are : (may : Tid → Bool) → ((tid : Tid) → may tid ≡ may_be_named case names tid) → leaves_lists (number_of (file_of tree)) (index_columns tree) may (block_count tree) (held_block names tree) ≡ entries_lists case names (number_of (file_of tree))

@@ -1,23 +1,28 @@
--- The key of a row, value by value.
-use Rattle.std.proofs.Common.{◌≡◌, ◌∙◌, ℕ, ◌+◌, ◌-◌, ◌<◌, ◌≤◌, true, false, List, [], ◌∷◌, ◌++◌, length, drop, get_or, refl, sym, ap, subst, arith, add-one, append-nil, append_assoc, drop-cons}
+-- The values of a row in an index, one after another.
+use Rattle.std.proofs.Common.{◌≡◌, ◌∙◌, ℕ, ◌+◌, ◌-◌, ◌<◌, ◌≤◌, true, false, List, [], ◌∷◌, ◌++◌, length, drop, get_or, refl, sym, ap, subst, arith, add-one, append-nil, append_assoc, drop-cons, length-append}
 use Rattle.std.specs.Prelude.{All, Option, Some, None, min, option_map, slice_get, take, unwrap_or}
 use Rattle.std.specs.List.{AllByRecursion}
 use Rattle.std.proofs.lemmas.Bool.{and_from}
 use Rattle.std.proofs.Math.Nat.{min-le_right}
 use Rattle.std.proofs.Math.Seq.{take-length}
-use Rattle.std.proofs.lemmas.List.{get_or-drop, get_or-take, get_or_default, length-drop, length-map, length-take}
-use Rattle.std.proofs.lemmas.List.Elements.{All-from_recursion, All-map}
+use Rattle.std.proofs.lemmas.List.{get_or-append_right, get_or-drop, get_or-take, length-drop, length-map, length-take}
+use Rattle.std.proofs.lemmas.List.Elements.{All-append, All-from_recursion, All-map}
 use Rattle.std.proofs.lemmas.Option.{slice_get-get_or, slice_get_within}
-use Rattle.std.proofs.Math.ListN.{get_or-map}
+use Rattle.std.proofs.Math.ListN.{get_or-append, get_or-map}
+use Rattle.key_orders.specs.declared.columns.ColType.{ColType}
 use Rattle.key_orders.specs.declared.columns.ColType.TheVariants.{Bool as BoolType}
 use Rattle.key_orders.specs.declared.columns.KeySpec.{KeySpec}
 use Rattle.key_orders.specs.declared.columns.Value.{Value}
+use Rattle.key_orders.specs.declared.more.MoreSpec.{MoreSpec}
 use Rattle.key_orders.specs.Keys.{fits_columns}
 use Rattle.key_orders.specs.Orders.{fits_type}
+use Rattle.varlena_attrs.specs.Columns.{TreeColumns}
 use Rattle.case_file.specs.Record.{CaseRecord, IndexRecord}
-use Rattle.case_file.specs.Sound.{IsSound, IsSoundIndex, IsSoundKey}
+use Rattle.case_file.specs.Sound.{IsSound, IsSoundIndex, IsSoundKey, IsSoundMore}
 use Rattle.case_file.specs.declared.case.Column.{Column}
 use Rattle.bt_levels.specs.Index.{index_of, no_index}
+use Rattle.bt_levels.specs.Sound.{IsSoundIndexOf, index_columns, specs_of}
+use Rattle.bt_levels.specs.declared.sound.SoundTree.{SoundTree}
 use Rattle.heap_check.specs.declared.row_cells.Cell.{Cell}
 use Rattle.heap_check.specs.declared.row_cells.Cell.TheVariants.{Held, Packed}
 use Rattle.heap_check.specs.declared.row_values.AskedColumns.{AskedColumns}
@@ -25,7 +30,7 @@ use Rattle.heap_check.specs.declared.row_values.AskedColumns.TheVariants.{All as
 use Rattle.heap_check.specs.RowCursor.{AreAsked}
 use Rattle.heap_check.specs.RowFits.{FitsColumn}
 use Rattle.heap_check.specs.RowValues.{column_asked, count_asked}
-use Rattle.indexed_rules.specs.Rows.{key_in, with_value}
+use Rattle.indexed_rules.specs.Rows.{key_numbers, more_numbers, values_at, with_value}
 use Rattle.heap_indexed.specs.Rows.{AreAskedFrom, columns_in}
 
 -- what stands past a list's end
@@ -39,31 +44,57 @@ pub asked-all : (columns : List ℕ) (asked : AskedColumns) → AreAsked columns
 asked-all columns Every are = are
 asked-all columns (Only numbers) are = ap (λ (ns : List ℕ). take (length columns) ns) are ∙ take-length columns
 
--- as many as the key has columns stand there
-enough : (first : ℕ) (specs : List KeySpec) (numbers : List ℕ) (k : ℕ) → take (length (columns_in specs)) (drop first numbers) ≡ columns_in specs → k < length specs → first + k < length numbers
-enough first specs numbers k are lt =
-    let many : min (length (columns_in specs)) (length numbers - first) ≡ length specs =
-    ap (λ (n : ℕ). min (length (columns_in specs)) n) (sym (length-drop first numbers)) ∙ sym (length-take (length (columns_in specs)) (drop first numbers)) ∙ ap length are ∙ length-map specs (λ k. k.column) in
-    let le : length specs ≤ length numbers - first = subst (λ (n : ℕ). n ≤ length numbers - first) many (min-le_right (length (columns_in specs)) (length numbers - first)) in
+-- as many as there are columns stand there
+enough : (first : ℕ) (columns numbers : List ℕ) (k : ℕ) → take (length columns) (drop first numbers) ≡ columns → k < length columns → first + k < length numbers
+enough first columns numbers k are lt =
+    let many : min (length columns) (length numbers - first) ≡ length columns =
+    ap (λ (n : ℕ). min (length columns) n) (sym (length-drop first numbers)) ∙ sym (length-take (length columns) (drop first numbers)) ∙ ap length are in
+    let le : length columns ≤ length numbers - first = subst (λ (n : ℕ). n ≤ length numbers - first) many (min-le_right (length columns) (length numbers - first)) in
     omega arith
 
-pub asked-count : (n first : ℕ) (specs : List KeySpec) (asked : AskedColumns) (k : ℕ) → AreAskedFrom first (columns_in specs) asked → k < length specs → first + k < count_asked n asked
-asked-count n first specs Every k are lt = absurd are
-asked-count n first specs (Only numbers) k are lt = enough first specs numbers.items k are lt
+pub asked-count : (n first : ℕ) (columns : List ℕ) (asked : AskedColumns) (k : ℕ) → AreAskedFrom first columns asked → k < length columns → first + k < count_asked n asked
+asked-count n first columns Every k are lt = absurd are
+asked-count n first columns (Only numbers) k are lt = enough first columns numbers.items k are lt
 
-pub asked-column : (first : ℕ) (specs : List KeySpec) (asked : AskedColumns) (k : ℕ) (d : KeySpec) → AreAskedFrom first (columns_in specs) asked → k < length specs → column_asked asked (first + k) ≡ (get_or specs k d).column
-asked-column first specs Every k d are lt = absurd are
-asked-column first specs (Only numbers) k d are lt =
-    let within : k < length (columns_in specs) = omega (arith, length-map specs (λ k. k.column)) in
-    sym (get_or-drop first numbers.items k 0)
-    ∙ sym (get_or-take (length (columns_in specs)) (drop first numbers.items) k 0 within)
-    ∙ ap (λ (ns : List ℕ). get_or ns k 0) are ∙ get_or_default (columns_in specs) k 0 d.column within ∙ get_or-map (λ s. s.column) specs k d
+asked-column : (first : ℕ) (columns : List ℕ) (asked : AskedColumns) (k : ℕ) → AreAskedFrom first columns asked → k < length columns → column_asked asked (first + k) ≡ get_or columns k 0
+asked-column first columns Every k are lt = absurd are
+asked-column first columns (Only numbers) k are lt =
+    sym (get_or-drop first numbers.items k 0) ∙ sym (get_or-take (length columns) (drop first numbers.items) k 0 lt) ∙ ap (λ (ns : List ℕ). get_or ns k 0) are
 
--- A key so far
+-- how many there are
+pub key-count : (columns : TreeColumns) → length (key_numbers columns) ≡ length columns.specs
+key-count columns = length-map columns.specs (λ s. s.column)
 
--- the values so far, with those that the other columns have, are the key
-abbrev pub IsKeySoFar : List KeySpec → List Cell → ℕ → List Value → Type 0
-IsKeySoFar specs cells k key = option_map (λ vs. key ++ vs) (key_in (drop k specs) cells) ≡ key_in specs cells
+pub more-count : (columns : TreeColumns) → length (more_numbers columns) ≡ length columns.more
+more-count columns = length-map columns.more (λ m. m.column)
+
+pub columns-many : (columns : TreeColumns) → length (columns_in columns) ≡ length columns.specs + length columns.more
+columns-many columns = length-append (key_numbers columns) (more_numbers columns) ∙ (λ i. key-count columns i + more-count columns i)
+
+-- those of the key, and behind them those that are included
+pub key-column : (first : ℕ) (columns : TreeColumns) (asked : AskedColumns) (k : ℕ) → AreAskedFrom first (columns_in columns) asked → k < length columns.specs → column_asked asked (first + k) ≡ get_or (key_numbers columns) k 0
+key-column first columns asked k are lt =
+    let within : k < length (key_numbers columns) = omega (arith, key-count columns) in
+    asked-column first (columns_in columns) asked k are (omega (arith, columns-many columns)) ∙ get_or-append (key_numbers columns) (more_numbers columns) 0 k within
+
+pub more-column : (first : ℕ) (columns : TreeColumns) (asked : AskedColumns) (k : ℕ) → AreAskedFrom first (columns_in columns) asked → k < length columns.more → column_asked asked (first + (length columns.specs + k)) ≡ get_or (more_numbers columns) k 0
+more-column first columns asked k are lt =
+    let n = length columns.specs in
+    let past : n ≤ n + k = omega arith in
+    let at : n + k - n ≡ k = omega arith in
+    asked-column first (columns_in columns) asked (n + k) are (omega (arith, columns-many columns))
+    ∙ get_or-append_right (key_numbers columns) (more_numbers columns) n (n + k) 0 (key-count columns) past
+    ∙ ap (λ (n : ℕ). get_or (more_numbers columns) n 0) at
+
+pub spec-column : (columns : TreeColumns) (k : ℕ) → get_or (key_numbers columns) k 0 ≡ (get_or columns.specs k any-spec).column
+unfolding any-spec
+spec-column columns k = get_or-map (λ s. s.column) columns.specs k any-spec
+
+-- Values so far
+
+-- the values so far, with those of the other columns, are those of all
+abbrev pub IsSoFar : List ℕ → List Cell → ℕ → List Value → Type 0
+IsSoFar numbers cells k values = option_map (λ vs. values ++ vs) (values_at (drop k numbers) cells) ≡ values_at numbers cells
 
 -- and fit with them
 abbrev pub FitSoFar : List KeySpec → ℕ → List Value → Type 0
@@ -73,35 +104,52 @@ map-nothing : (o : Option (List Value)) → option_map (λ vs. [] ++ vs) o ≡ o
 map-nothing None = refl
 map-nothing (Some vs) = refl
 
-pub so-far-none : (specs : List KeySpec) (cells : List Cell) → IsKeySoFar specs cells 0 []
-so-far-none specs cells = map-nothing (key_in specs cells)
+pub so-far-none : (numbers : List ℕ) (cells : List Cell) → IsSoFar numbers cells 0 []
+so-far-none numbers cells = map-nothing (values_at numbers cells)
 
-one-more : (key : List Value) (v : Value) (o : Option (List Value)) → option_map (λ vs. (key ++ v ∷ []) ++ vs) o ≡ option_map (λ vs. key ++ vs) (with_value (Some (Held v)) o)
-one-more key v None = refl
-one-more key v (Some vs) = ap Some (append_assoc key (v ∷ []) vs)
+one-more : (values : List Value) (v : Value) (o : Option (List Value)) → option_map (λ vs. (values ++ v ∷ []) ++ vs) o ≡ option_map (λ vs. values ++ vs) (with_value (Some (Held v)) o)
+one-more values v None = refl
+one-more values v (Some vs) = ap Some (append_assoc values (v ∷ []) vs)
 
-dropped : (specs : List KeySpec) (k : ℕ) (d : KeySpec) → k < length specs → drop k specs ≡ get_or specs k d ∷ drop (k + 1) specs
-dropped specs k d lt = drop-cons specs k d lt ∙ ap (λ n. get_or specs k d ∷ drop n specs) (sym (add-one k))
+dropped : {X : Type 0} (xs : List X) (k : ℕ) (d : X) → k < length xs → drop k xs ≡ get_or xs k d ∷ drop (k + 1) xs
+dropped xs k d lt = drop-cons xs k d lt ∙ ap (λ n. get_or xs k d ∷ drop n xs) (sym (add-one k))
 
 -- one more value
-pub so-far-next : (specs : List KeySpec) (cells : List Cell) (k : ℕ) (d : KeySpec) (key : List Value) (v : Value) → k < length specs → slice_get cells (get_or specs k d).column ≡ Some (Held v) → IsKeySoFar specs cells k key → IsKeySoFar specs cells (k + 1) (key ++ v ∷ [])
-so-far-next specs cells k d key v lt cell was =
-    one-more key v (key_in (drop (k + 1) specs) cells)
-    ∙ ap (λ (c : Option Cell). option_map (λ vs. key ++ vs) (with_value c (key_in (drop (k + 1) specs) cells))) (sym cell)
-    ∙ ap (λ (ks : List KeySpec). option_map (λ vs. key ++ vs) (key_in ks cells)) (sym (dropped specs k d lt))
+pub so-far-next : (numbers : List ℕ) (cells : List Cell) (k : ℕ) (values : List Value) (v : Value) → k < length numbers → slice_get cells (get_or numbers k 0) ≡ Some (Held v) → IsSoFar numbers cells k values → IsSoFar numbers cells (k + 1) (values ++ v ∷ [])
+so-far-next numbers cells k values v lt cell was =
+    one-more values v (values_at (drop (k + 1) numbers) cells)
+    ∙ ap (λ (c : Option Cell). option_map (λ vs. values ++ vs) (with_value c (values_at (drop (k + 1) numbers) cells))) (sym cell)
+    ∙ ap (λ (ns : List ℕ). option_map (λ vs. values ++ vs) (values_at ns cells)) (sym (dropped numbers k 0 lt))
     ∙ was
 
 -- a value that is compressed
-pub so-far-packed : (specs : List KeySpec) (cells : List Cell) (k : ℕ) (d : KeySpec) (key : List Value) → k < length specs → slice_get cells (get_or specs k d).column ≡ Some Packed → IsKeySoFar specs cells k key → None ≡ key_in specs cells
-so-far-packed specs cells k d key lt cell was =
-    ap (λ (c : Option Cell). option_map (λ vs. key ++ vs) (with_value c (key_in (drop (k + 1) specs) cells))) (sym cell)
-    ∙ ap (λ (ks : List KeySpec). option_map (λ vs. key ++ vs) (key_in ks cells)) (sym (dropped specs k d lt))
+pub so-far-packed : (numbers : List ℕ) (cells : List Cell) (k : ℕ) (values : List Value) → k < length numbers → slice_get cells (get_or numbers k 0) ≡ Some Packed → IsSoFar numbers cells k values → None ≡ values_at numbers cells
+so-far-packed numbers cells k values lt cell was =
+    ap (λ (c : Option Cell). option_map (λ vs. values ++ vs) (with_value c (values_at (drop (k + 1) numbers) cells))) (sym cell)
+    ∙ ap (λ (ns : List ℕ). option_map (λ vs. values ++ vs) (values_at ns cells)) (sym (dropped numbers k 0 lt))
     ∙ was
 
 -- all values
-pub so-far-all : (specs : List KeySpec) (cells : List Cell) (k : ℕ) (key : List Value) → drop k specs ≡ [] → IsKeySoFar specs cells k key → Some key ≡ key_in specs cells
-so-far-all specs cells k key end was =
-    ap Some (sym (append-nil key)) ∙ ap (λ (ks : List KeySpec). option_map (λ vs. key ++ vs) (key_in ks cells)) (sym end) ∙ was
+pub so-far-all : (numbers : List ℕ) (cells : List Cell) (k : ℕ) (values : List Value) → drop k numbers ≡ [] → IsSoFar numbers cells k values → Some values ≡ values_at numbers cells
+so-far-all numbers cells k values end was =
+    ap Some (sym (append-nil values)) ∙ ap (λ (ns : List ℕ). option_map (λ vs. values ++ vs) (values_at ns cells)) (sym end) ∙ was
+
+-- as many as there are columns
+pub values-many : (numbers : List ℕ) (cells : List Cell) (values : List Value) → values_at numbers cells ≡ Some values → length values ≡ length numbers
+values-many [] cells values is = ap length (inner is)
+  where
+    inner : ◌≡◌ {A = Option (List Value)} (Some []) (Some values) → values ≡ []
+    inner h = cc
+values-many (n ∷ ns) cells values is = by (slice_get cells n) (values_at ns cells) (λ vs e. values-many ns cells vs e) is
+  where
+    by : (c : Option Cell) (o : Option (List Value)) → ((vs : List Value) → o ≡ Some vs → length vs ≡ length ns) → with_value c o ≡ Some values → length values ≡ length (n ∷ ns)
+    by None o rest e = absurd cc
+    by (Some Packed) o rest e = absurd cc
+    by (Some (Held v)) None rest e = absurd cc
+    by (Some (Held v)) (Some vs) rest e =
+        let all : values ≡ v ∷ vs = cc in
+        let count = rest vs refl in
+        ap length all ∙ omega (arith, count)
 
 pub fit-next : (specs : List KeySpec) (k : ℕ) (d : KeySpec) (key : List Value) (v : Value) → k < length specs → fits_type (get_or specs k d).ctype v ≡ true → FitSoFar specs k key → FitSoFar specs (k + 1) (key ++ v ∷ [])
 fit-next specs k d key v lt fits was vs rest =
@@ -114,24 +162,25 @@ fit-all specs k key was = ap (fits_columns specs) (sym (append-nil key)) ∙ was
 
 -- The value of a key's column
 
-record HasColumn (columns : List Column) (spec : KeySpec) : Type 0 where
+record HasColumn (columns : List Column) (number : ℕ) (ctype : ColType) : Type 0 where
   column : Column
-  there : slice_get columns spec.column ≡ Some column
-  ctype : column.ctype ≡ spec.ctype
+  there : slice_get columns number ≡ Some column
+  type_is : column.ctype ≡ ctype
 
-has-column : (columns : List Column) (spec : KeySpec) → IsSoundKey columns spec → HasColumn columns spec
-has-column columns spec sound = go (slice_get columns spec.column) refl sound.is_there
+has-column : (columns : List Column) (number : ℕ) (ctype : ColType) → option_map (λ c. c.ctype) (slice_get columns number) ≡ Some ctype → HasColumn columns number ctype
+has-column columns number ctype sound = go (slice_get columns number) refl sound
   where
-    go : (o : Option Column) → slice_get columns spec.column ≡ o → option_map (λ c. c.ctype) o ≡ Some spec.ctype → HasColumn columns spec
+    go : (o : Option Column) → slice_get columns number ≡ o → option_map (λ c. c.ctype) o ≡ Some ctype → HasColumn columns number ctype
     go None is there = absurd cc
-    go (Some column) is there = record { column = column; there = is; ctype = cc }
+    go (Some column) is there = record { column = column; there = is; type_is = cc }
 
 pub value-fits : (columns : List Column) (specs : List KeySpec) (k : ℕ) (d : KeySpec) (v : Value) → AllByRecursion (IsSoundKey columns) specs → k < length specs → ((column : Column) → slice_get columns (get_or specs k d).column ≡ Some column → FitsColumn column (Held v)) → fits_type (get_or specs k d).ctype v ≡ true
 value-fits columns specs k d v sound lt fits =
-    let has = has-column columns (get_or specs k d) (All-from_recursion (IsSoundKey columns) specs sound k d lt) in
-    ap (λ t. fits_type t v) (sym has.ctype) ∙ fits has.column has.there
+    let spec : KeySpec = get_or specs k d in
+    let has = has-column columns spec.column spec.ctype (All-from_recursion (IsSoundKey columns) specs sound k d lt).is_there in
+    ap (λ t. fits_type t v) (sym has.type_is) ∙ fits has.column has.there
 
--- The key of an index of a case
+-- The columns of an index of a case
 
 sound-index : (case : CaseRecord) (n : ℕ) → IsSound case → 1 ≤ n → n ≤ length case.indexes → IsSoundIndex case.columns (index_of case n)
 sound-index case n sound first last =
@@ -139,12 +188,27 @@ sound-index case n sound first last =
     let at : get_or case.indexes (n - 1) no_index ≡ index_of case n = sym (ap (λ (o : Option IndexRecord). unwrap_or o no_index) (slice_get-get_or case.indexes (n - 1) no_index within)) in
     subst (IsSoundIndex case.columns) at (All-from_recursion (IsSoundIndex case.columns) case.indexes sound.indexes (n - 1) no_index within)
 
-pub sound-keys : (case : CaseRecord) (n : ℕ) (specs : List KeySpec) → IsSound case → 1 ≤ n → n ≤ length case.indexes → specs ≡ (index_of case n).keys → AllByRecursion (IsSoundKey case.columns) specs
-sound-keys case n specs sound first last is = subst (AllByRecursion (IsSoundKey case.columns)) (sym is) (sound-index case n sound first last).keys
+pub sound-keys : (case : CaseRecord) (n : ℕ) (tree : SoundTree) → IsSound case → IsSoundIndexOf case n tree → AllByRecursion (IsSoundKey case.columns) (specs_of tree)
+sound-keys case n tree sound index =
+    let first : 1 ≤ n = omega (arith, index.belongs.first, index.number) in
+    let last : n ≤ length case.indexes = omega (arith, index.belongs.last, index.number) in
+    subst (AllByRecursion (IsSoundKey case.columns)) (sym (ap (λ (c : TreeColumns). c.specs) index.columns)) (sound-index case n sound first last).keys
 
--- its columns are columns of the case
-pub columns-there : (columns : List Column) (specs : List KeySpec) → AllByRecursion (IsSoundKey columns) specs → All (λ k. k < length columns) (columns_in specs)
-columns-there columns specs sound =
-    All-map (λ k. k < length columns) (λ (s : KeySpec). s.column) specs (λ k d lt.
-    let has = has-column columns (get_or specs k d) (All-from_recursion (IsSoundKey columns) specs sound k d lt) in
-    slice_get_within columns (get_or specs k d).column has.column has.there)
+sound-more : (case : CaseRecord) (n : ℕ) (tree : SoundTree) → IsSound case → IsSoundIndexOf case n tree → AllByRecursion (IsSoundMore case.columns) (index_columns tree).more
+sound-more case n tree sound index =
+    let first : 1 ≤ n = omega (arith, index.belongs.first, index.number) in
+    let last : n ≤ length case.indexes = omega (arith, index.belongs.last, index.number) in
+    subst (AllByRecursion (IsSoundMore case.columns)) (sym (ap (λ (c : TreeColumns). c.more) index.columns)) (sound-index case n sound first last).more
+
+-- they are columns of the case
+pub columns-there : (case : CaseRecord) (n : ℕ) (tree : SoundTree) → IsSound case → IsSoundIndexOf case n tree → All (λ k. k < length case.columns) (columns_in (index_columns tree))
+columns-there case n tree sound index =
+    All-append (λ k. k < length case.columns) (key_numbers (index_columns tree)) (more_numbers (index_columns tree))
+    (All-map (λ k. k < length case.columns) (λ (s : KeySpec). s.column) (specs_of tree) (λ k d lt.
+    let spec : KeySpec = get_or (specs_of tree) k d in
+    let has = has-column case.columns spec.column spec.ctype (All-from_recursion (IsSoundKey case.columns) (specs_of tree) (sound-keys case n tree sound index) k d lt).is_there in
+    slice_get_within case.columns spec.column has.column has.there))
+    (All-map (λ k. k < length case.columns) (λ (m : MoreSpec). m.column) (index_columns tree).more (λ k d lt.
+    let spec : MoreSpec = get_or (index_columns tree).more k d in
+    let has = has-column case.columns spec.column spec.ctype (All-from_recursion (IsSoundMore case.columns) (index_columns tree).more (sound-more case n tree sound index) k d lt).is_there in
+    slice_get_within case.columns spec.column has.column has.there))

@@ -1,117 +1,70 @@
 -- The rows that entries met are those with an entry in the index.
-use Rattle.std.proofs.Common.{◌≡◌, ◌∙◌, ◌↔◌, ℕ, Bool, true, false, List, [], ◌∷◌, refl, ap, sym, arith}
-use Rattle.std.specs.Prelude.{cond, filter, if◌then◌else◌, map, not, ◌==◌, ◌&&◌, ◌||◌, Some}
-use Rattle.std.specs.List.{flat_map, list_any}
-use Rattle.std.specs.Cmp.{IsTotalOrder}
-use Rattle.std.specs.declared.cmp.Ordering.TheVariants.{Equal}
-use Rattle.std.proofs.lemmas.Bool.{and_from, and_parts, not_from_false}
-use Rattle.std.proofs.lemmas.Bool.Decides.{nat_tests}
+use Rattle.std.proofs.Common.{◌≡◌, ◌∙◌, Bool, true, false, List, [], ◌∷◌, ◌++◌, length, refl, ap, sym}
+use Rattle.std.specs.Prelude.{All, cond, filter, map, not, ◌&&◌, ◌||◌, Some}
+use Rattle.std.specs.List.{list_any}
+use Rattle.std.proofs.lemmas.List.Elements.{All-head, All-tail}
 use Rattle.outside.specs.Outside.{Names}
-use Rattle.tree_search.specs.Keys.{Entry, Separator, compare_keys}
-use Rattle.tree_search.specs.Search.{entries_of, leaf_entries, tree_blocks}
-use Rattle.key_orders.specs.declared.columns.KeySpec.{KeySpec}
 use Rattle.key_orders.specs.declared.columns.Value.{Value}
 use Rattle.key_orders.specs.declared.Tid.{Tid}
-use Rattle.key_orders.specs.Keys.{columns_of, entry_of, tid_order}
-use Rattle.key_orders.specs.Scans.{order_of}
 use Rattle.varlena_attrs.specs.Columns.{TreeColumns}
 use Rattle.stored_keys.specs.Same.{same_key}
-use Rattle.stored_keys.proofs.SameLaws.{keys_decide}
-use Rattle.bt_meta.specs.Flags.{is_half_dead, is_leaf}
-use Rattle.bt_meta.specs.Pages.{is_idle, opaque_of}
-use Rattle.tree_image.specs.Image.{index_image, page_image, page_keys}
+use Rattle.stored_keys.proofs.SameLaws.{two_parts}
+use Rattle.tree_image.specs.Image.{LeafEntry, index_entries}
 use Rattle.bt_levels.specs.declared.sound.SoundTree.{SoundTree}
-use Rattle.bt_levels.specs.Sound.{block_count, held_block, index_columns, specs_of}
-use Rattle.bt_steps.specs.Sought.{IsSought}
+use Rattle.bt_levels.specs.Sound.{HoldsTree, block_count, held_block, index_columns}
 use Rattle.row_slots.specs.Met.{keyed, has_entry as meets_entry, is_entry_of, met_after, same_tid}
 use Rattle.row_slots.specs.Slots.{Tables, keys_in, met_in}
 use Rattle.row_slots.proofs.MetLaws.{met_if_entry}
-use Rattle.leaf_meets.specs.Meeting.{HaveMet, alive_in, all_keys, is_alive, keyed_entry, leaf_keys}
+use Rattle.leaf_meets.specs.Meeting.{HaveMet, alive_in, all_entries, is_alive as is_unkilled, keyed_entry, leaf_entries}
 use Rattle.indexed_rules.specs.Entries.{has_alive, is_alive_of}
-use Rattle.indexed_rules.proofs.Alive.{passed, passes}
 use Rattle.heap_indexed.specs.Judging.{TellsOf}
+use Rattle.heap_indexed.specs.Looking.{entries_of}
+use Rattle.heap_indexed.proofs.Widths.{HasKeyOf, entries-keyed}
 
--- The entries of all leaves are those that a search sees
+-- The entries that met rows are those of the index
 
-page-same : (columns : TreeColumns) (page : List ℕ) → leaf_keys columns page ≡ leaf_entries (page_image columns.specs columns.more page)
-unfolding leaf_keys
-page-same columns page = by (is_leaf (opaque_of page)) (is_idle page) (is_half_dead (opaque_of page)) (page_keys columns.specs columns.more page)
-  where
-    by : (leaf idle half : Bool) (es : List (Entry Value Tid)) → (if leaf && (not idle && not half) then es else []) ≡ cond (leaf && (not idle && not half)) (if leaf && not half then es else []) []
-    by false idle half es = refl
-    by true true half es = refl
-    by true false true es = refl
-    by true false false es = refl
-
-all-same : (columns : TreeColumns) (blocks : ℕ) (block : ℕ → List ℕ) → all_keys columns blocks block ≡ entries_of (index_image columns.specs columns.more blocks block)
-unfolding all_keys
-all-same columns blocks block =
-    ap (λ (f : ℕ → List (Entry Value Tid)). flat_map f (tree_blocks blocks)) (λ i b. page-same columns (block b) i)
+all-same : (columns : TreeColumns) (blocks : _) (block : _) → all_entries columns blocks block ≡ index_entries columns.specs columns.more blocks block
+unfolding all_entries leaf_entries
+all-same columns blocks block = refl
 
 -- An entry that meets a row is one that is sought
 
-same-bool : (a b : Bool) → (a ≡ true → b ≡ true) → (b ≡ true → a ≡ true) → a ≡ b
-same-bool true b f g = sym (f refl)
-same-bool false true f g = g refl
-same-bool false false f g = refl
+regroup : (tid key more : Bool) → (tid && (key && more)) ≡ (((tid && key) && true) && more)
+regroup false key more = refl
+regroup true false more = refl
+regroup true true more = refl
 
-pub tid-is : (s t : Tid) → same_tid s t ≡ true → t ≡ s
-tid-is s t same =
-    let parts = and_parts (s.block == t.block) (s.item == t.item) same in
-    let block : t.block ≡ s.block = grind (arith, nat_tests, parts.0) in
-    let item : t.item ≡ s.item = grind (arith, nat_tests, parts.1) in
-    λ i. record { block = block i; item = item i }
+no-killed : (there more : Bool) → false ≡ ((there && false) && more)
+no-killed false more = refl
+no-killed true more = refl
 
-number-same : (n : ℕ) → (n == n) ≡ true
-number-same n = grind (arith, nat_tests)
+module _ (key more : List Value) (tid : Tid) where
+  one-same : (e : LeafEntry) → length key ≡ length e.entry.values → is_entry_of (keyed tid (key ++ more)) (keyed_entry e) ≡ (((same_tid tid e.entry.tid && same_key key e.entry.values) && true) && same_key more e.more)
+  one-same e count =
+      ap (λ (b : Bool). same_tid tid e.entry.tid && b) (two_parts key e.entry.values more e.more count)
+      ∙ regroup (same_tid tid e.entry.tid) (same_key key e.entry.values) (same_key more e.more)
 
-pub tid-same : (t : Tid) → same_tid t t ≡ true
-tid-same t = and_from (t.block == t.block) (t.item == t.item) (number-same t.block) (number-same t.item)
-
-module _ (specs : List KeySpec) (total : IsTotalOrder (compare_keys (columns_of specs) tid_order)) (same : (s t : Separator Value Tid) → (compare_keys (columns_of specs) tid_order s t ≡ Equal) ↔ (s ≡ t)) (key : List Value) (tid : Tid) where
-  abbrev is-there : Entry Value Tid → Bool
-  is-there e = not ((order_of specs).precedes e (entry_of key tid)) && not ((order_of specs).precedes (entry_of key tid) e)
-
-  one-same : (e : Entry Value Tid) → e.killed ≡ false → is_entry_of (keyed tid key) (keyed_entry e) ≡ is-there e
-  one-same e live = same-bool (is_entry_of (keyed tid key) (keyed_entry e)) (is-there e) forth back
+  some-same : (es : List LeafEntry) → All (HasKeyOf (length key)) es → meets_entry (alive_in es) (keyed tid (key ++ more)) ≡ list_any (is_alive_of key more tid) es
+  some-same [] all = refl
+  some-same (e ∷ es) all =
+      let there = same_tid tid e.entry.tid && same_key key e.entry.values in
+      by e.entry.killed there (same_key more e.more) (one-same e (sym (All-head (HasKeyOf (length key)) e es all))) (some-same es (All-tail (HasKeyOf (length key)) e es all))
     where
-      alive : not e.killed ≡ true
-      alive = not_from_false e.killed live
-
-      forth : is_entry_of (keyed tid key) (keyed_entry e) ≡ true → is-there e ≡ true
-      forth met =
-          let parts = and_parts (same_tid tid e.tid) (same_key key e.values) met in
-          let sought : IsSought key tid e = record {
-            values = sym ((keys_decide key e.values).0 parts.1);
-            tid_is = tid-is tid e.tid parts.0;
-          } in
-          (and_parts (not e.killed) (is-there e) (passes specs total same key tid e sought live)).1
-
-      back : is-there e ≡ true → is_entry_of (keyed tid key) (keyed_entry e) ≡ true
-      back there =
-          let sought : IsSought key tid e = (passed specs total same key tid e (and_from (not e.killed) (is-there e) alive there)).0 in
-          and_from (same_tid tid e.tid) (same_key key e.values)
-          (ap (same_tid tid) sought.tid_is ∙ tid-same tid)
-          ((keys_decide key e.values).1 (sym sought.values))
-
-  some-same : (es : List (Entry Value Tid)) → meets_entry (alive_in es) (keyed tid key) ≡ list_any (is_alive_of specs key tid) es
-  some-same [] = refl
-  some-same (e ∷ es) = by (e.killed) refl (some-same es)
-    where
-      by : (killed : Bool) → e.killed ≡ killed → meets_entry (alive_in es) (keyed tid key) ≡ list_any (is_alive_of specs key tid) es
-          → meets_entry (map keyed_entry (cond (not killed) (e ∷ filter is_alive es) (filter is_alive es))) (keyed tid key) ≡ ((not killed && is-there e) || list_any (is_alive_of specs key tid) es)
-      by true is rest = rest
-      by false is rest = λ i. one-same e is i || rest i
+      by : (killed there beside : Bool) → is_entry_of (keyed tid (key ++ more)) (keyed_entry e) ≡ ((there && true) && beside) → meets_entry (alive_in es) (keyed tid (key ++ more)) ≡ list_any (is_alive_of key more tid) es
+          → meets_entry (map keyed_entry (cond (not killed) (e ∷ filter is_unkilled es) (filter is_unkilled es))) (keyed tid (key ++ more)) ≡ (((there && not killed) && beside) || list_any (is_alive_of key more tid) es)
+      by true there beside one rest = rest ∙ (λ i. no-killed there beside i || list_any (is_alive_of key more tid) es)
+      by false there beside one rest = λ i. one i || rest i
 
 -- The law
 
-pub tells-of : (names : Names) (tree : SoundTree) → IsTotalOrder (compare_keys (columns_of (specs_of tree)) tid_order) → ((s t : Separator Value Tid) → (compare_keys (columns_of (specs_of tree)) tid_order s t ≡ Equal) ↔ (s ≡ t)) → (old new : Tables) → ((tid : Tid) → met_in old tid ≡ false) → HaveMet (all_keys (index_columns tree) (block_count tree) (held_block names tree)) old new → TellsOf names tree new
+pub tells-of : (names : Names) (tree : SoundTree) → HoldsTree names tree → (old new : Tables) → ((tid : Tid) → met_in old tid ≡ false) → HaveMet (all_entries (index_columns tree) (block_count tree) (held_block names tree)) old new → TellsOf names tree new
 unfolding has_alive
-tells-of names tree total same old new unmet met tid key kept =
-    let es : List (Entry Value Tid) = all_keys (index_columns tree) (block_count tree) (held_block names tree) in
-    let there : keys_in old tid ≡ Some key = sym (ap (λ k. k tid) met.keys) ∙ kept in
+tells-of names tree holds old new unmet met tid key more count kept =
+    let es : List LeafEntry = entries_of names tree in
+    let met-es : List LeafEntry = all_entries (index_columns tree) (block_count tree) (held_block names tree) in
+    let there : keys_in old tid ≡ Some (key ++ more) = sym (ap (λ k. k tid) met.keys) ∙ kept in
     ap (λ m. m tid) met.met
-    ∙ (λ i. met_after (keys_in old) (alive_in es) (λ (t : Tid). unmet t i) tid)
-    ∙ met_if_entry (keys_in old) (alive_in es) (keyed tid key) there
-    ∙ some-same (specs_of tree) total same key tid es
-    ∙ ap (list_any (is_alive_of (specs_of tree) key tid)) (all-same (index_columns tree) (block_count tree) (held_block names tree))
+    ∙ (λ i. met_after (keys_in old) (alive_in met-es) (λ (t : Tid). unmet t i) tid)
+    ∙ met_if_entry (keys_in old) (alive_in met-es) (keyed tid (key ++ more)) there
+    ∙ ap (λ (l : List LeafEntry). meets_entry (alive_in l) (keyed tid (key ++ more))) (all-same (index_columns tree) (block_count tree) (held_block names tree))
+    ∙ some-same key more tid es (entries-keyed names tree holds (length key) count)

@@ -16,7 +16,7 @@ use Rattle.key_orders.specs.declared.columns.Value.{Value}
 use Rattle.key_orders.specs.declared.Tid.{Tid}
 use Rattle.bt_levels.specs.declared.sound.SoundTree.{SoundTree}
 use Rattle.bt_levels.specs.Files.{number_of}
-use Rattle.bt_levels.specs.Sound.{file_of, specs_of}
+use Rattle.bt_levels.specs.Sound.{file_of, index_columns}
 use Rattle.heap_files.specs.Case.{heap_blocks}
 use Rattle.heap_check.specs.declared.row_cursor.RowCursor.{RowCursor}
 use Rattle.heap_check.specs.declared.row_cursor.RowPlace.{RowPlace}
@@ -24,8 +24,9 @@ use Rattle.heap_check.specs.declared.rows.LiveRow.{LiveRow}
 use Rattle.heap_check.specs.RowCursor.{IsCursorOf, IsPlaceOfFirst, rows_here}
 use Rattle.heap_check.specs.Rows.{block_rows, rows_of}
 use Rattle.indexed_rules.specs.Lists.{missing_rule, row_lists, row_lists_by}
-use Rattle.indexed_rules.specs.Rows.{key_in}
+use Rattle.indexed_rules.specs.Rows.{key_numbers, more_numbers, values_at}
 use Rattle.heap_indexed.specs.Looking.{has_entry}
+use Rattle.heap_indexed.specs.Meetings.{HasValues}
 use Rattle.heap_indexed.specs.Rows.{IsFound, Settles, lists_of_row, owed_for, rows_from}
 
 -- Rows
@@ -56,18 +57,24 @@ module _ (names : Names) (tree : SoundTree) where
   row-cut row rows old new begins =
       subst (λ (l : Lists). Begins report_lists old new l) (sym (owed-first row rows)) (Begins-cut report_lists (owed_for names tree rows) begins)
 
-  -- a row with a key, and one without
-  pub keyed-row : (row : LiveRow) (key : List Value) (number : ℕ) (tid root : Tid) (found : Bool) (rule : Option Rule) → key_in (specs_of tree) row.cells ≡ Some key → number ≡ number_of (file_of tree) → tid ≡ row.tid → root ≡ row.root → found ≡ has_entry names tree key root → rule ≡ missing_rule found → finding_at (Tuple number tid) rule ≡ lists_of_row names tree row
+  -- a row whose values can be read, and one of which a value of the key, or an included one, can't
+  pub valued-row : (row : LiveRow) (key more : List Value) (number : ℕ) (tid root : Tid) (found : Bool) (rule : Option Rule) → HasValues (index_columns tree) row key more → number ≡ number_of (file_of tree) → tid ≡ row.tid → root ≡ row.root → found ≡ has_entry names tree key more root → rule ≡ missing_rule found → finding_at (Tuple number tid) rule ≡ lists_of_row names tree row
   unfolding row_lists
-  keyed-row row key number tid root found rule is same at from there what =
-      (λ i. finding_at (Tuple (same i) (at i)) ((what ∙ ap missing_rule (there ∙ ap (has_entry names tree key) from)) i))
-      ∙ sym (ap (row_lists_by (number_of (file_of tree)) (has_entry names tree) row) is)
+  valued-row row key more number tid root found rule has same at from there what =
+      (λ i. finding_at (Tuple (same i) (at i)) ((what ∙ ap missing_rule (there ∙ ap (has_entry names tree key more) from)) i))
+      ∙ sym (λ i. row_lists_by (number_of (file_of tree)) (has_entry names tree) row (has.of_key i) (has.included i))
 
-  pub packed-row : (row : LiveRow) (number : ℕ) (tid : Tid) → key_in (specs_of tree) row.cells ≡ None → number ≡ number_of (file_of tree) → tid ≡ row.tid → doubt_at (Tuple number tid) (Some U6) ≡ lists_of_row names tree row
+  pub packed-key : (row : LiveRow) (tid : Tid) → values_at (key_numbers (index_columns tree)) row.cells ≡ None → tid ≡ row.tid → doubt_at (Tuple (number_of (file_of tree)) tid) (Some U6) ≡ lists_of_row names tree row
   unfolding row_lists
-  packed-row row number tid is same at =
-      (λ i. doubt_at (Tuple (same i) (at i)) (Some U6))
-      ∙ sym (ap (row_lists_by (number_of (file_of tree)) (has_entry names tree) row) is)
+  packed-key row tid is at =
+      (λ i. doubt_at (Tuple (number_of (file_of tree)) (at i)) (Some U6))
+      ∙ sym (ap (λ (o : Option (List Value)). row_lists_by (number_of (file_of tree)) (has_entry names tree) row o (values_at (more_numbers (index_columns tree)) row.cells)) is)
+
+  pub packed-more : (row : LiveRow) (key : List Value) (tid : Tid) → values_at (key_numbers (index_columns tree)) row.cells ≡ Some key → values_at (more_numbers (index_columns tree)) row.cells ≡ None → tid ≡ row.tid → doubt_at (Tuple (number_of (file_of tree)) tid) (Some U6) ≡ lists_of_row names tree row
+  unfolding row_lists
+  packed-more row key tid of_key included at =
+      (λ i. doubt_at (Tuple (number_of (file_of tree)) (at i)) (Some U6))
+      ∙ sym (λ i. row_lists_by (number_of (file_of tree)) (has_entry names tree) row (of_key i) (included i))
 
 -- what is added with a doubt
 pub doubt-is : (old : Lists) (place : Place) → record { findings = old.findings; unjudged = old.unjudged ++ record { reason = U6; place = place } ∷ [] } ≡ joined old (doubt_at place (Some U6))

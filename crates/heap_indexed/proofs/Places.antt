@@ -2,7 +2,7 @@
 use Rattle.std.proofs.Common.{◌∙◌, ℕ, ◌<◌, length, get_or, sym, subst}
 use Rattle.case_file.specs.Record.{CaseRecord}
 use Rattle.bt_levels.specs.declared.sound.SoundTree.{SoundTree}
-use Rattle.bt_levels.specs.Sound.{specs_of}
+use Rattle.bt_levels.specs.Sound.{index_columns}
 use Rattle.heap_files.specs.declared.files.SoundHeap.{SoundHeap}
 use Rattle.heap_check.specs.declared.row_cursor.RowCursor.{RowCursor}
 use Rattle.heap_check.specs.RowCursor.{IsSameCursor, asked_at}
@@ -18,7 +18,7 @@ same-index index old new same at = record {
   belong = at.belong;
   case = same.case ∙ at.case;
   heap = same.heap ∙ at.heap;
-  asked = subst (AreAskedFrom index.first (columns_in (specs_of index.at.tree.now))) (sym same.asked) at.asked;
+  asked = subst (AreAskedFrom index.first (columns_in (index_columns index.at.tree.now))) (sym same.asked) at.asked;
 }
 
 pub same-table : (ranges : Ranges) (old new : RowCursor) → IsSameCursor old new → IsOfTable ranges old → IsOfTable ranges new
@@ -28,7 +28,7 @@ same-table ranges old new same at = record {
   heap = same.heap ∙ at.heap;
   firsts = record {
     same = at.firsts.same;
-    each = λ k tree lt. subst (AreAskedFrom (get_or ranges.firsts.now k 0) (columns_in (specs_of (get_or ranges.at.trees.now k tree)))) (sym same.asked) (at.firsts.each k tree lt);
+    each = λ k tree lt. subst (AreAskedFrom (get_or ranges.firsts.now k 0) (columns_in (index_columns (get_or ranges.at.trees.now k tree)))) (sym same.asked) (at.firsts.each k tree lt);
   };
 }
 
@@ -42,12 +42,12 @@ index-at ranges cursor j index table at lt =
     let tree : SoundTree = index.at.tree.now in
     let belong : BelongTogether ranges.at.case.now ranges.at.heap.now tree =
     subst (λ (t : SoundTree). BelongTogether ranges.at.case.now ranges.at.heap.now t) (sym at.tree) (table.belong.each j tree lt) in
-    let asked : AreAskedFrom (get_or ranges.firsts.now j 0) (columns_in (specs_of tree)) (asked_at cursor) =
-    subst (λ (t : SoundTree). AreAskedFrom (get_or ranges.firsts.now j 0) (columns_in (specs_of t)) (asked_at cursor)) (sym at.tree) (table.firsts.each j tree lt) in
+    let asked : AreAskedFrom (get_or ranges.firsts.now j 0) (columns_in (index_columns tree)) (asked_at cursor) =
+    subst (λ (t : SoundTree). AreAskedFrom (get_or ranges.firsts.now j 0) (columns_in (index_columns t)) (asked_at cursor)) (sym at.tree) (table.firsts.each j tree lt) in
     record {
       belong = subst (λ (case : CaseRecord). BelongTogether case index.at.heap.now tree) (sym at.case)
           (subst (λ (heap : SoundHeap). BelongTogether ranges.at.case.now heap tree) (sym at.heap) belong);
       case = table.case ∙ sym at.case;
       heap = table.heap ∙ sym at.heap;
-      asked = subst (λ (n : ℕ). AreAskedFrom n (columns_in (specs_of tree)) (asked_at cursor)) (sym at.first) asked;
+      asked = subst (λ (n : ℕ). AreAskedFrom n (columns_in (index_columns tree)) (asked_at cursor)) (sym at.first) asked;
     }

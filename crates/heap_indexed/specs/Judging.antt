@@ -1,10 +1,10 @@
 -- Rows that are judged for an index, of which it is known of some whether an entry met them.
-use Rattle.std.specs.Prelude.{◌≡◌, List, [], Some}
+use Rattle.std.specs.Prelude.{◌≡◌, ◌++◌, List, [], Some, length}
 use Rattle.outside.specs.Outside.{Names}
 use Rattle.key_orders.specs.declared.columns.Value.{Value}
 use Rattle.key_orders.specs.declared.Tid.{Tid}
 use Rattle.bt_levels.specs.declared.sound.SoundTree.{SoundTree}
-use Rattle.bt_levels.specs.Sound.{HoldsTree}
+use Rattle.bt_levels.specs.Sound.{HoldsTree, specs_of}
 use Rattle.row_slots.specs.Slots.{Tables, keys_in, met_in}
 use Rattle.heap_check.specs.declared.row_cursor.RowCursor.{RowCursor}
 use Rattle.heap_check.specs.RowCursor.{IsCursorOf, rows_here}
@@ -14,10 +14,11 @@ use Rattle.heap_indexed.specs.declared.meeting.Meeting.{Meeting}
 use Rattle.heap_indexed.specs.declared.row_judge.RowJudge.{RowJudge}
 use Rattle.heap_indexed.specs.Looking.{AreOf, has_entry}
 
--- each row that is kept was met exactly if the index has an unkilled entry with its root's TID and its key
+-- each row that is kept, with its key and its included values behind it, was met exactly if the index has an unkilled
+-- entry with these and its root's TID
 abbrev pub TellsOf : Names → SoundTree → Tables → Type 0
-TellsOf names tree slots = (tid : Tid) (key : List Value) → keys_in slots tid ≡ Some key
-    → met_in slots tid ≡ has_entry names tree key tid
+TellsOf names tree slots = (tid : Tid) (key more : List Value) → length key ≡ length (specs_of tree)
+    → keys_in slots tid ≡ Some (key ++ more) → met_in slots tid ≡ has_entry names tree key more tid
 
 -- the names hold the index, and what is kept of rows and of pages tells of it
 pub record IsReady (names : Names) (judge : RowJudge) (look_ups : LookUps) : Type 0 where

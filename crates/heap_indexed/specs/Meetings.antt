@@ -1,12 +1,12 @@
 -- What is in work for each index of a heap while the rows of its blocks are gone through, range by range.
-use Rattle.std.specs.Prelude.{◌≡◌, ℕ, ◌-◌, ◌<◌, ◌++◌, Bool, true, false, List, All, Some, length, slice_index_or}
+use Rattle.std.specs.Prelude.{◌≡◌, ℕ, ◌-◌, ◌<◌, ◌++◌, Bool, true, false, List, All, None, Some, length, slice_index_or}
 use Rattle.std.specs.List.{flat_map}
 use Rattle.outside.specs.Outside.{Names}
-use Rattle.key_orders.specs.declared.columns.KeySpec.{KeySpec}
 use Rattle.key_orders.specs.declared.columns.Value.{Value}
 use Rattle.key_orders.specs.declared.Tid.{Tid}
+use Rattle.varlena_attrs.specs.Columns.{TreeColumns}
 use Rattle.bt_levels.specs.declared.sound.SoundTree.{SoundTree}
-use Rattle.bt_levels.specs.Sound.{specs_of}
+use Rattle.bt_levels.specs.Sound.{index_columns}
 use Rattle.case_file.specs.Record.{CaseRecord}
 use Rattle.reports.specs.Added.{joined}
 use Rattle.reports.specs.Lists.{Lists}
@@ -15,9 +15,9 @@ use Rattle.heap_files.specs.Found.{IsQuiet}
 use Rattle.heap_check.specs.declared.row_cursor.RowCursor.{RowCursor}
 use Rattle.heap_check.specs.declared.rows.LiveRow.{LiveRow}
 use Rattle.heap_check.specs.RowCursor.{asked_at, case_at, heap_at}
-use Rattle.indexed_rules.specs.Rows.{key_in}
+use Rattle.indexed_rules.specs.Rows.{key_numbers, more_numbers, values_at}
 use Rattle.index_targets.specs.Passes.{strays_of}
-use Rattle.row_slots.specs.Slots.{Tables, keys_in, met_in}
+use Rattle.row_slots.specs.Slots.{Tables, keys_in, keys_with, met_in}
 use Rattle.heap_indexed.specs.declared.joined.IndexedTable.{IndexedTable}
 use Rattle.heap_indexed.specs.declared.keys.KeyedHeap.{KeyedHeap}
 use Rattle.heap_indexed.specs.declared.meeting.Meeting.{Meeting}
@@ -40,18 +40,18 @@ pub record HoldIt (names : Names) (at : IndexedTable) : Type 0 where
   pub quiet : IsQuiet at.case.now names
   pub each : All (λ tree. HoldTogether names at.case.now at.heap.now tree) at.trees.now
 
--- the columns of the keys of indexes, one index after another
+-- the columns of indexes, one index after another
 abbrev pub columns_of_all : List SoundTree → List ℕ
-columns_of_all trees = flat_map (λ tree. columns_in (specs_of tree)) trees
+columns_of_all trees = flat_map (λ tree. columns_in (index_columns tree)) trees
 
--- for each index these say which of the values that are asked for is the first of its key
+-- for each index these say which of the values that are asked for is its first
 pub record AreFirsts (firsts : List ℕ) (trees : List SoundTree) (cursor : RowCursor) : Type 0 where
   pub same : length firsts ≡ length trees
   pub each : (k : ℕ) (tree : SoundTree) → k < length trees
-      → AreAskedFrom (slice_index_or firsts k 0) (columns_in (specs_of (slice_index_or trees k tree)))
+      → AreAskedFrom (slice_index_or firsts k 0) (columns_in (index_columns (slice_index_or trees k tree)))
       (asked_at cursor)
 
--- the cursor is one of the heap, and asked for the columns of all keys
+-- the cursor is one of the heap, and asked for the columns of all indexes
 pub record IsOfTable (ranges : Ranges) (cursor : RowCursor) : Type 0 where
   pub belong : BelongToIt ranges.at
   pub case : case_at cursor ≡ ranges.at.case.now
@@ -67,16 +67,30 @@ pub record IsIndexNo (ranges : Ranges) (j : ℕ) (index : KeyedHeap) : Type 0 wh
 
 -- Rows that are kept
 
--- the row is kept under its root, with its key
-pub record IsKeptRow (specs : List KeySpec) (slots : Tables) (row : LiveRow) : Type 0 where
+-- a row has these values in an index with these columns
+pub record HasValues (columns : TreeColumns) (row : LiveRow) (key more : List Value) : Type 0 where
+  pub of_key : values_at (key_numbers columns) row.cells ≡ Some key
+  pub included : values_at (more_numbers columns) row.cells ≡ Some more
+
+-- the row is kept under its root, with its values
+pub record IsKeptRow (columns : TreeColumns) (slots : Tables) (row : LiveRow) : Type 0 where
   pub key : List Value
-  pub is : key_in specs row.cells ≡ Some key
-  pub there : keys_in slots row.root ≡ Some key
+  pub more : List Value
+  pub values : HasValues columns row key more
+  pub there : keys_in slots row.root ≡ Some (key ++ more)
+
+-- its values were put under a root, where none were
+pub record IsPut (columns : TreeColumns) (old new : Tables) (root : Tid) (row : LiveRow) : Type 0 where
+  pub key : List Value
+  pub more : List Value
+  pub values : HasValues columns row key more
+  pub put : keys_in new ≡ keys_with (keys_in old) root (key ++ more)
+  pub fresh : keys_in old root ≡ None
 
 -- where it says so, each row of the blocks from one up to another is
 abbrev pub IsKept : Names → KeyedHeap → (first end : ℕ) → Meeting → Type 0
 IsKept names index first end meeting = meeting.is_whole ≡ true
-    → All (IsKeptRow (specs_of index.at.tree.now) meeting.slots)
+    → All (IsKeptRow (index_columns index.at.tree.now) meeting.slots)
     (rows_from index.at.case.now names first (end - first))
 
 -- what was found so far of the rows and of the entries of an index is this; none of the rows of the range was met yet,
@@ -87,7 +101,7 @@ pub record InWork (names : Names) (done strays : Lists) (range : List LiveRow) (
   pub done_is : meeting.rows ≡ done
   pub strays_are : meeting.entries ≡ strays
   pub unmet : (tid : Tid) → met_in meeting.slots tid ≡ false
-  pub kept : meeting.is_whole ≡ true → All (IsKeptRow (specs_of tree) meeting.slots) range
+  pub kept : meeting.is_whole ≡ true → All (IsKeptRow (index_columns tree) meeting.slots) range
 
 -- the names hold the heap and the index, a cursor is behind the rows of a block, and these rows of the range are in
 -- work

@@ -5,11 +5,11 @@ ghost use Rattle.outside.specs.Outside.{Asked, IfTold};
 ghost use Rattle.reports.specs.Added.{report_lists};
 ghost use Rattle.bt_levels.specs.Files.{number_of};
 ghost use Rattle.bt_levels.specs.Sound.{file_of};
-ghost use Rattle.bt_search.specs.Lookups.{most_visits, way_length};
+ghost use Rattle.bt_search.specs.Lookups.{most_visits};
 ghost use Rattle.heap_check.specs.Rows.{rows_of};
 ghost use Rattle.indexed_rules.specs.Lists.{entries_lists, indexed_lists, rows_lists};
 ghost use Rattle.heap_indexed.specs.Joined.{BelongTogether, HoldTogether};
-ghost use Rattle.heap_indexed.specs.Looking.{AreOf};
+ghost use Rattle.heap_indexed.specs.Looking.{AreOf, look_length};
 
 use crate::joined::{IndexedHeap, LookUps};
 use crate::keys::{KeyedHeap, columns_of};
@@ -56,12 +56,12 @@ fn probe_in_turn<F: Files>(
         (rows_lists at.entry.case.now names (number_of (file_of at.entry.tree.now)))) }
     ensures visits { IfTold F.seen files.old (λ names. OnOk result (look_ups.new.visits.count
         ≤ look_ups.old.visits.count
-        + length (rows_of at.entry.case.now names) * way_length names at.entry.tree.now)) }
+        + length (rows_of at.entry.case.now names) * look_length names at.entry.tree.now)) }
     ensures of { IfTold F.seen files.old (λ names. AreOf names at.entry.tree.now look_ups.new) }
     ensures asked { Asked F.seen files.old files.new result PageFault.ReadFault }
 {
     at.case.sound();
-    let columns = columns_of(alloc, at.tree.specs())?;
+    let columns = columns_of(alloc, &at.tree.columns())?;
     let mut cursor = RowCursor::new(alloc, at.case, at.heap, &columns)?;
     let slots = RowSlots::new(alloc, 0)?;
     let judge = RowJudge {
@@ -77,13 +77,14 @@ fn probe_in_turn<F: Files>(
     )
 }
 
-/// Adds to the report each live row of a heap that has no entry in an index of it under its own key, with the TID of
-/// its root, that isn't killed (X1), and each whose key has a compressed value and so can't be looked up (U6), by
-/// rising TID.
+/// Adds to the report each live row of a heap that has no entry in an index of it with its own key, its included values
+/// and the TID of its root that isn't killed (X1), and each of which such a value is compressed, so that it can't be
+/// looked up (U6), by rising TID.
 ///
 /// Each row is looked up by itself, as it comes. Pages of the index are looked at through the cache, and each look is a
 /// visit: for each row no more than its way from the fast root has pages, which is at most `fastlevel` + 1 +
-/// `right_halves` + `half_dead` of the index.
+/// `right_halves` + `half_dead` of the index; and where the index includes columns, one more for the values that it
+/// includes.
 ///
 /// `ReadFault` comes only where the count of the files' faults rose, and `NoFile` and `TooLarge` never. After an error
 /// the report has a first part of what it would have got.
@@ -101,7 +102,7 @@ pub fn probe_rows<F: Files>(
         (rows_lists at.entry.case.now names (number_of (file_of at.entry.tree.now)))) }
     ensures visits { IfTold F.seen files.old (λ names. OnOk result (look_ups.new.visits.count
         ≤ look_ups.old.visits.count
-        + length (rows_of at.entry.case.now names) * way_length names at.entry.tree.now)) }
+        + length (rows_of at.entry.case.now names) * look_length names at.entry.tree.now)) }
     ensures most { IfTold F.seen files.old (λ names. OnOk result (look_ups.new.visits.count
         ≤ look_ups.old.visits.count
         + length (rows_of at.entry.case.now names) * most_visits at.entry.tree.now)) }

@@ -2,6 +2,7 @@
 ghost use Rattle.std.specs.Prelude.{◌≡◌, ◌⊎◌, ◌+◌, ◌++◌, ◌∷◌, [], IfErr, IfOk, List, OnOk, length, map};
 ghost use Rattle.outside.specs.Outside.{Asked, IfTold, Names, Tells};
 ghost use Rattle.reports.specs.Added.{joined, nothing};
+ghost use Rattle.varlena_attrs.specs.Columns.{tree_columns};
 ghost use Rattle.bt_levels.specs.Files.{number_of};
 ghost use Rattle.bt_levels.specs.Sound.{file_of};
 ghost use Rattle.heap_check.specs.RowCursor.{AreAsked, asked_at};
@@ -18,44 +19,49 @@ use crate::meeting::Meeting;
 use crate::ranges::Ranges;
 use bt_levels::SoundTree;
 use heap_check::RowCursor;
-use key_orders::KeySpec;
 use outside::{Files, NoMemory};
 use reports::{CheckFault, PageFault, Report};
 use root_set::set_tells_of_pages;
 use std::alloc::Global;
 use std::collections::VecDeque;
+use varlena_attrs::IndexColumns;
 
 // The rows of a heap of fewer blocks are looked up.
 const MEET_BLOCKS: u32 = 64;
 
-// Puts the columns of a key behind others.
-fn push_columns(alloc: Global, columns: &mut Vec<u16>, specs: &[KeySpec]) -> Result<(), NoMemory>
-    ensures { OnOk result (columns.new.items ≡ columns.old.items ++ columns_in specs.now) }
+// Puts the numbers of the columns of an index behind others.
+fn push_columns(
+    alloc: Global,
+    numbers: &mut Vec<u16>,
+    columns: &IndexColumns<'_>,
+) -> Result<(), NoMemory>
+    ensures { OnOk result (numbers.new.items ≡ numbers.old.items ++ columns_in (tree_columns columns.now)) }
 {
-    let more = columns_of(alloc, specs)?;
-    columns.extend_from_slice(&more)?;
+    let more = columns_of(alloc, columns)?;
+    numbers.extend_from_slice(&more)?;
     Ok(())
 }
 
-// The columns of the keys of indexes, one index after another.
+// The numbers of the columns of indexes, one index after another.
 fn columns_of_all(alloc: Global, trees: &[SoundTree]) -> Result<Vec<u16>, NoMemory>
     ensures { IfOk result (λ columns. columns.items ≡ columns_of_all trees.now) }
 {
     let mut columns = Vec::new(alloc);
     for j in 0..trees.len() {
-        push_columns(alloc, &mut columns, trees[j].specs())?;
+        push_columns(alloc, &mut columns, &trees[j].columns())?;
     }
     Ok(columns)
 }
 
-// Where the columns of the next key begin among those of all keys, behind those of this one.
-fn next_first(first: usize, specs: &[KeySpec]) -> Result<usize, NoMemory>
-    ensures { IfOk result (λ next. next ≡ first + length specs.now) }
+// Where the columns of the next index begin among those of all, behind those of this one.
+fn next_first(first: usize, columns: &IndexColumns<'_>) -> Result<usize, NoMemory>
+    ensures { IfOk result (λ next. next ≡ first + length columns.now.specs.now + length columns.now.more.now) }
 {
-    first.checked_add(specs.len()).ok_or(NoMemory)
+    let behind_key = first.checked_add(columns.specs.len()).ok_or(NoMemory)?;
+    behind_key.checked_add(columns.more.len()).ok_or(NoMemory)
 }
 
-// Where the columns of each key begin among those of all keys.
+// Where the columns of each index begin among those of all.
 fn firsts_of(alloc: Global, trees: &[SoundTree]) -> Result<Vec<usize>, NoMemory>
     ensures { IfOk result (λ firsts. (cursor : Cursor) → AreAsked (columns_of_all trees.now) (asked_at cursor)
         → AreFirsts firsts.items trees.now cursor) }
@@ -64,7 +70,7 @@ fn firsts_of(alloc: Global, trees: &[SoundTree]) -> Result<Vec<usize>, NoMemory>
     let mut first = 0;
     for j in 0..trees.len() {
         firsts.push(first)?;
-        first = next_first(first, trees[j].specs())?;
+        first = next_first(first, &trees[j].columns())?;
     }
     Ok(firsts)
 }
@@ -132,8 +138,8 @@ fn meet_all<F: Files>(
 
 /// Judges a heap together with each of these indexes of it, in all of which nothing was found, and gives a report for
 /// each, in their order: that which [`check_indexed`] adds. Here the rows of a range of blocks are kept by their roots,
-/// each with its key, and the entries of each index meet them, in whatever order these stand: so each row of the heap
-/// is read once for all indexes, and again only in a range with a row that no entry met.
+/// each with its values, and the entries of each index meet them, in whatever order these stand: so each row of the
+/// heap is read once for all indexes, and again only in a range with a row that no entry met.
 ///
 /// `ReadFault` comes only where the count of the files' faults rose, and `NoFile` and `TooLarge` never.
 pub fn meet_indexes<F: Files>(

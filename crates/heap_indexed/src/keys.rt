@@ -1,34 +1,38 @@
-//! The key that a row of a heap has in an index.
-ghost use Rattle.std.specs.Prelude.{◌≡◌, ◌∷◌, IfOk, List, None, Some, if◌then◌else◌};
+//! The values that a row of a heap has in an index.
+ghost use Rattle.std.specs.Prelude.{◌≡◌, ◌∷◌, [], IfOk, List, None, Some, false, if◌then◌else◌, length};
 ghost use Rattle.std.specs.Bool.{OnTrue};
 ghost use Rattle.outside.specs.Outside.{Names};
 ghost use Rattle.key_orders.specs.Keys.{IsKey};
-ghost use Rattle.bt_levels.specs.Sound.{specs_of};
+ghost use Rattle.varlena_attrs.specs.Columns.{tree_columns};
+ghost use Rattle.bt_levels.specs.Sound.{index_columns, more_of, specs_of};
 ghost use Rattle.heap_check.specs.RowCursor.{IsAtRow, IsCursorOf, rows_here};
 ghost use Rattle.heap_check.specs.declared.rows.LiveRow.{LiveRow as Row};
-ghost use Rattle.indexed_rules.specs.Rows.{key_in};
+ghost use Rattle.indexed_rules.specs.Rows.{key_numbers, more_numbers, values_at};
 ghost use Rattle.heap_indexed.specs.Rows.{IsIndexAt, columns_in};
 
 use crate::joined::IndexedHeap;
 use heap_check::{CellRef, RowCursor};
-use key_orders::{KeyRefs, KeySpec};
+use key_orders::{KeyRefs, MoreRefs};
 use outside::NoMemory;
 use std::alloc::Global;
+use varlena_attrs::IndexColumns;
 
-/// A heap and an index of it, and which of the values that a cursor over the heap is asked for is the first of the
-/// index's key, counted from 0.
+/// A heap and an index of it, and which of the values that a cursor over the heap is asked for is the index's first,
+/// counted from 0.
 #[derive(Clone, Copy)]
 pub struct KeyedHeap<'a> {
     pub at: IndexedHeap<'a>,
     pub first: usize,
 }
 
-/// The numbers of the columns of a key.
-pub fn columns_of(alloc: Global, specs: &[KeySpec]) -> Result<Vec<u16>, NoMemory>
-    ensures { IfOk result (λ columns. columns.items ≡ columns_in specs.now) }
+/// The numbers of the columns of an index: those of its key, and behind them those that it includes.
+pub fn columns_of(alloc: Global, columns: &IndexColumns<'_>) -> Result<Vec<u16>, NoMemory>
+    ensures { IfOk result (λ numbers. numbers.items ≡ columns_in (tree_columns columns.now)) }
 {
-    let columns = specs.iter().map(|k| k.column).collect(alloc)?;
-    Ok(columns)
+    let mut numbers: Vec<u16> = columns.specs.iter().map(|k| k.column).collect(alloc)?;
+    let more: Vec<u16> = columns.more.iter().map(|m| m.column).collect(alloc)?;
+    numbers.extend_from_slice(&more)?;
+    Ok(numbers)
 }
 
 impl KeyedHeap<'_> {
@@ -38,7 +42,8 @@ impl KeyedHeap<'_> {
         requires at { IsAtRow cursor.now }
         ensures key { (names : Names) (row : Row) (rows : List Row) → IsCursorOf names cursor.now
             → rows_here names cursor.now ≡ row ∷ rows
-            → (if result then Some key.new else None) ≡ key_in (specs_of self.entry.at.tree.now) row.cells }
+            → (if result then Some key.new else None)
+            ≡ values_at (key_numbers (index_columns self.entry.at.tree.now)) row.cells }
         ensures fits { OnTrue result (IsKey (specs_of self.entry.at.tree.now) key.new) }
     {
         self.at.case.sound();
@@ -47,6 +52,36 @@ impl KeyedHeap<'_> {
         for k in 0..columns.specs.len() {
             match cursor.value(self.first + k) {
                 CellRef::Held(v) => key.push(v),
+                CellRef::Packed => return false,
+            }
+        }
+        true
+    }
+
+    /// Whether the index includes columns.
+    pub fn includes(self) -> bool
+        ensures { result ≡ false → (index_columns self.entry.at.tree.now).more ≡ [] }
+    {
+        !self.at.tree.more().is_empty()
+    }
+
+    /// Reads the values of the columns that the index includes, of the row at which a cursor is, into a place at hand;
+    /// false where one of them is compressed.
+    pub fn read_more<'c>(self, cursor: &'c RowCursor<'_>, more: &mut MoreRefs<'c>) -> bool
+        requires index { IsIndexAt self cursor.now }
+        requires at { IsAtRow cursor.now }
+        requires none { more.old ≡ [] }
+        ensures more { (names : Names) (row : Row) (rows : List Row) → IsCursorOf names cursor.now
+            → rows_here names cursor.now ≡ row ∷ rows
+            → (if result then Some more.new else None)
+            ≡ values_at (more_numbers (index_columns self.entry.at.tree.now)) row.cells }
+        ensures count { OnTrue result (length more.new ≡ length (more_of self.entry.at.tree.now)) }
+    {
+        let columns = self.at.tree.columns();
+        let first = self.first + columns.specs.len();
+        for k in 0..columns.more.len() {
+            match cursor.value(first + k) {
+                CellRef::Held(v) => more.push(v),
                 CellRef::Packed => return false,
             }
         }

@@ -1,19 +1,22 @@
 //! The rows of a range of heap blocks against one index: its entries meet them, and those that none met are looked up.
-ghost use Rattle.std.specs.Prelude.{◌≡◌, ◌∷◌, ◌++◌, ◌-◌, ◌≤◌, [], IfOk, List, None, OnErr, OnOk, true, false};
+ghost use Rattle.std.specs.Prelude.{◌≡◌, ◌∷◌, ◌++◌, ◌-◌, ◌<◌, ◌≤◌, [], IfOk, List, None, OnErr, OnOk, length};
+ghost use Rattle.std.specs.Prelude.{true, false};
 ghost use Rattle.std.specs.Option.{option_copied};
 ghost use Rattle.outside.specs.Outside.{Asked, IfTold, Names};
 ghost use Rattle.rel_files.specs.Relation.{count_of};
 ghost use Rattle.reports.specs.Added.{joined, nothing};
 ghost use Rattle.reports.specs.Lists.{Lists};
+ghost use Rattle.stored_keys.specs.Rows.{row_values};
 ghost use Rattle.bt_levels.specs.declared.sound.SoundTree.{SoundTree as Tree};
+ghost use Rattle.bt_levels.specs.Sound.{index_columns};
 ghost use Rattle.heap_files.specs.Files.{heap_in};
-ghost use Rattle.heap_check.specs.RowCursor.{IsAtRow, IsSameCursor, next_in};
+ghost use Rattle.heap_check.specs.RowCursor.{IsAtRow, IsCursorOf, IsSameCursor, next_in, rows_here};
 ghost use Rattle.heap_check.specs.declared.rows.LiveRow.{LiveRow as Row};
 ghost use Rattle.index_targets.specs.Passes.{strays_of};
 ghost use Rattle.row_slots.specs.Slots.{AreAllMet, IsBegun, keys_in, keys_with, met_in};
 ghost use Rattle.heap_indexed.specs.Looking.{AreOf};
 ghost use Rattle.heap_indexed.specs.Judging.{IsBehind, IsReadyBehind};
-ghost use Rattle.heap_indexed.specs.Meetings.{InWork, IsKept, IsToFinish};
+ghost use Rattle.heap_indexed.specs.Meetings.{InWork, IsKept, IsPut, IsToFinish};
 ghost use Rattle.heap_indexed.specs.Rows.{IsFound, IsIndexAt, owed_for, rows_from};
 
 use crate::joined::LookUps;
@@ -21,14 +24,15 @@ use crate::keys::KeyedHeap;
 use crate::row_judge::RowJudge;
 use heap_check::{RowCursor, RowPlace};
 use index_targets::check_entries;
-use key_orders::{KeyRefs, Tid, ValueRef, key_orders_are_total};
+use key_orders::{KeyRefs, MoreRefs, Tid, ValueRef};
 use outside::{Files, NoMemory};
 use reports::{PageFault, Report};
 use root_set::RootSet;
 use row_slots::RowSlots;
 use std::alloc::Global;
+use stored_keys::RowValues;
 
-// A longer value, in bytes, stands in no index, since no page holds it. A row with one in its key isn't kept.
+// A longer value, in bytes, stands in no index, since no page holds it. A row with one isn't kept.
 const LONGEST_VALUE: usize = 8192;
 
 /// What is in work for one index while the rows of its heap are gone through.
@@ -36,7 +40,7 @@ const LONGEST_VALUE: usize = 8192;
 pub struct Meeting {
     /// The rows of the range, and which of them an entry met.
     pub slots: RowSlots,
-    /// Whether each row of the range is kept there, under its root and with its key.
+    /// Whether each row of the range is kept there, under its root and with its values.
     pub is_whole: bool,
     /// What rows are looked up through that aren't kept there.
     pub look_ups: LookUps,
@@ -46,9 +50,8 @@ pub struct Meeting {
     pub entries: Report,
 }
 
-// Whether an index may have a key, by the lengths of its values.
-fn may_be_indexed(key: &KeyRefs<'_>) -> bool {
-    let values = key.as_slice();
+// Whether an index may have these values, by their lengths.
+fn may_be_indexed(values: &[ValueRef<'_>]) -> bool {
     for i in 0..values.len() {
         if let ValueRef::Bytes(bytes) = values[i] {
             if LONGEST_VALUE < bytes.len() {
@@ -59,17 +62,51 @@ fn may_be_indexed(key: &KeyRefs<'_>) -> bool {
     true
 }
 
-// Keeps the key of the row that is rooted at a line pointer; whether it is kept.
-fn keep_key(slots: &mut RowSlots, root: Tid, key: &KeyRefs<'_>) -> Result<bool, NoMemory>
+// Keeps the values of the row that is rooted at a line pointer; whether they are kept.
+fn keep_values(slots: &mut RowSlots, root: Tid, values: RowValues<'_>) -> Result<bool, NoMemory>
+    requires few { length (row_values values) < 256 }
     ensures kept { IfOk result (λ kept. kept ≡ true
-        → keys_in slots.new ≡ keys_with (keys_in slots.old) root key.now) }
+        → keys_in slots.new ≡ keys_with (keys_in slots.old) root (row_values values.entry)) }
     ensures fresh { IfOk result (λ kept. kept ≡ true → keys_in slots.old root ≡ None) }
     ensures met { met_in slots.new ≡ met_in slots.old }
 {
-    if !may_be_indexed(key) {
+    if !may_be_indexed(values.key) || !may_be_indexed(values.more) {
         return Ok(false);
     }
-    slots.put(root, key)
+    slots.put(root, values)
+}
+
+// Keeps the row at which a cursor is under its root, with its values; whether it is kept. One of which a value is
+// compressed isn't. Only an index that includes columns asks for places for their values.
+fn keep_row_at(
+    slots: &mut RowSlots,
+    index: KeyedHeap<'_>,
+    cursor: &RowCursor<'_>,
+    root: Tid,
+) -> Result<bool, NoMemory>
+    requires index { IsIndexAt index cursor.now }
+    requires at { IsAtRow cursor.now }
+    ensures kept { IfOk result (λ kept. kept ≡ true → (names : Names) (row : Row) (rows : List Row)
+        → IsCursorOf names cursor.now → rows_here names cursor.now ≡ row ∷ rows
+        → IsPut (index_columns index.entry.at.tree.now) slots.old slots.new root row) }
+    ensures met { met_in slots.new ≡ met_in slots.old }
+{
+    let mut key = KeyRefs::new();
+    if !index.read_key(cursor, &mut key) {
+        return Ok(false);
+    }
+    let key = key.as_slice();
+    if !index.includes() {
+        let kept = keep_values(slots, root, RowValues { key, more: &[] })?;
+        return Ok(kept);
+    }
+    let mut more = MoreRefs::new();
+    if !index.read_more(cursor, &mut more) {
+        return Ok(false);
+    }
+    let more = more.as_slice();
+    let kept = keep_values(slots, root, RowValues { key, more })?;
+    Ok(kept)
 }
 
 impl Meeting {
@@ -95,7 +132,7 @@ impl Meeting {
         Ok(())
     }
 
-    /// Keeps the row at which a cursor is under its root, with its key.
+    /// Keeps the row at which a cursor is under its root, with its values.
     pub fn keep_row(
         &mut self,
         index: KeyedHeap<'_>,
@@ -109,12 +146,7 @@ impl Meeting {
             → InWork names done strays range index.entry.at.tree.now self.old
             → InWork names done strays (range ++ row ∷ []) index.entry.at.tree.now self.new) }
     {
-        let mut key = KeyRefs::new();
-        if !index.read_key(cursor, &mut key) {
-            self.is_whole = false;
-            return Ok(());
-        }
-        let kept = keep_key(&mut self.slots, place.root, &key)?;
+        let kept = keep_row_at(&mut self.slots, index, cursor, place.root)?;
         self.is_whole = self.is_whole && kept;
         Ok(())
     }
@@ -200,7 +232,6 @@ impl Meeting {
         ensures same { IsSameCursor cursor.old cursor.new }
         ensures asked { Asked F.seen files.old files.new result PageFault.ReadFault }
     {
-        key_orders_are_total();
         check_entries(
             files,
             index.at.tree,

@@ -29,8 +29,8 @@ use root_set::RootSet;
 // The bytes that the rows of a range may use for all indexes together before the range ends with a block: 50 MiB.
 const RANGE_BYTES: usize = 52_428_800;
 
-/// A heap and its indexes, and for each index which of the values that a cursor over the heap is asked for is the first
-/// of its key, counted from 0.
+/// A heap and its indexes, and for each index which of the values that a cursor over the heap is asked for is its
+/// first, counted from 0.
 #[derive(Clone, Copy)]
 pub struct Ranges<'a> {
     pub at: IndexedTable<'a>,

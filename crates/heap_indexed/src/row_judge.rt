@@ -1,32 +1,34 @@
 //! The live rows of a heap, one after another, each judged for one index: whether that has an entry for it.
-ghost use Rattle.std.specs.Prelude.{◌≡◌, ◌<◌, ◌≤◌, ◌+◌, ◌-◌, ◌*◌, [], OnOk, false, length, true};
+ghost use Rattle.std.specs.Prelude.{◌≡◌, ◌<◌, ◌≤◌, ◌+◌, ◌-◌, ◌*◌, [], OnOk, Some, false, length, map, true};
 ghost use Rattle.outside.specs.Adds.{AddsIn};
 ghost use Rattle.outside.specs.Outside.{Asked, IfTold, Tells};
 ghost use Rattle.rel_files.specs.Faults.{read_fault};
 ghost use Rattle.rel_files.specs.Relation.{count_of};
 ghost use Rattle.key_orders.specs.Keys.{IsKey};
-ghost use Rattle.bt_levels.specs.Sound.{specs_of};
-ghost use Rattle.bt_search.specs.Lookups.{way_length};
-ghost use Rattle.reports.specs.Added.{report_lists};
+ghost use Rattle.key_orders.specs.Values.{value_shown};
+ghost use Rattle.bt_levels.specs.Sound.{file_of, index_columns, more_of, specs_of};
+ghost use Rattle.reports.specs.Added.{doubt_at, report_lists};
+ghost use Rattle.bt_levels.specs.Files.{number_of};
 ghost use Rattle.heap_files.specs.Files.{heap_in};
 ghost use Rattle.heap_check.specs.RowCursor.{IsAtRow, IsSameCursor, next_in, rows_here};
 ghost use Rattle.heap_check.specs.Rows.{block_rows};
 ghost use Rattle.heap_check.specs.declared.rows.LiveRow.{LiveRow as Row};
 ghost use Rattle.indexed_rules.specs.Lists.{missing_rule};
-ghost use Rattle.heap_indexed.specs.Looking.{has_entry};
+ghost use Rattle.heap_indexed.specs.Looking.{has_entry, look_length};
 ghost use Rattle.heap_indexed.specs.Judging.{IsBetween, IsReady, IsWithin};
+ghost use Rattle.heap_indexed.specs.Meetings.{HasValues};
 ghost use Rattle.heap_indexed.specs.Rows.{IsFound, IsIndexAt, Settles, lists_of_row, owed_for, rows_from};
 
-use crate::joined::LookUps;
+use crate::joined::{IndexedRow, LookUps};
 use crate::keys::KeyedHeap;
-use bt_steps::Sought;
 use heap_check::{RowCursor, RowPlace};
-use key_orders::KeyRefs;
-use outside::Files;
+use key_orders::{KeyRefs, MoreRefs, Tid};
+use outside::{Files, NoMemory};
 use page_layout::{MAX_ITEMS, Rule};
 use rel_files::ReadFault;
 use reports::{PageFault, Place, Reason, Report};
 use row_slots::RowSlots;
+use stored_keys::RowValues;
 
 /// An index for which rows are judged, and rows that are kept for it, of which it is known whether an entry met them.
 #[derive(Clone, Copy)]
@@ -43,30 +45,74 @@ fn missing_rule(found: bool) -> Option<Rule>
 }
 
 impl RowJudge<'_> {
-    // Whether the index has an unkilled entry with this key and this TID. Of a row that is kept it is known, and any
-    // other is looked up.
+    // Whether the index has an unkilled entry for a row. Of one that is kept it is known, and any other is looked up.
     fn has_entry<F: Files>(
         self,
         files: &mut F,
-        sought: Sought<'_>,
+        row: IndexedRow<'_>,
         look_ups: &mut LookUps,
     ) -> Result<bool, ReadFault>
         requires ready { IfTold F.seen files.old (λ names. IsReady names self look_ups.old) }
-        requires key { IsKey (specs_of self.index.at.tree.now) sought.key.now }
+        requires key { IsKey (specs_of self.index.at.tree.now) row.key.now }
+        requires more { length row.more.now ≡ length (more_of self.index.at.tree.now) }
         ensures found { Tells F.seen files.old result (λ found names.
-            found ≡ has_entry names self.entry.index.at.tree.now sought.entry.key.now sought.entry.tid) }
+            found ≡ has_entry names self.entry.index.at.tree.now row.entry.key.now (map value_shown row.entry.more.now)
+            row.entry.place.root) }
         ensures visits { IfTold F.seen files.old (λ names. look_ups.new.visits.count
-            ≤ look_ups.old.visits.count + way_length names self.entry.index.at.tree.now) }
+            ≤ look_ups.old.visits.count + look_length names self.entry.index.at.tree.now) }
         ensures ready { IfTold F.seen files.old (λ names. IsReady names self.entry look_ups.new) }
         ensures asked { Asked F.seen files.old files.new result read_fault }
     {
-        if let Some(is_met) = self.slots.is_met(sought.tid, sought.key) {
+        let values = RowValues {
+            key: row.key.as_slice(),
+            more: row.more,
+        };
+        if let Some(is_met) = self.slots.is_met(row.place.root, values) {
             return Ok(is_met);
         }
-        look_ups.has_entry(files, self.index.at.tree, sought)
+        look_ups.has_entry(files, self.index.at.tree, row)
     }
 
-    // Judges the row at which a cursor is: X1 where it has no entry, U6 where a value of its key is compressed.
+    // Judges a row with these values: X1 where it has no entry.
+    fn judge_values<F: Files>(
+        self,
+        files: &mut F,
+        row: IndexedRow<'_>,
+        look_ups: &mut LookUps,
+        report: &mut Report,
+    ) -> Result<(), PageFault>
+        requires ready { IfTold F.seen files.old (λ names. IsReady names self look_ups.old) }
+        requires key { IsKey (specs_of self.index.at.tree.now) row.key.now }
+        requires more { length row.more.now ≡ length (more_of self.index.at.tree.now) }
+        ensures lists { IfTold F.seen files.old (λ names. (live : Row) → row.entry.place.tid ≡ live.tid
+            → row.entry.place.root ≡ live.root
+            → HasValues (index_columns self.entry.index.at.tree.now) live row.entry.key.now
+            (map value_shown row.entry.more.now)
+            → AddsIn report_lists result report.old report.new
+            (lists_of_row names self.entry.index.at.tree.now live)) }
+        ensures visits { IfTold F.seen files.old (λ names. look_ups.new.visits.count
+            ≤ look_ups.old.visits.count + look_length names self.entry.index.at.tree.now) }
+        ensures ready { IfTold F.seen files.old (λ names. IsReady names self.entry look_ups.new) }
+        ensures asked { Asked F.seen files.old files.new result PageFault.ReadFault }
+    {
+        let found = self.has_entry(files, row, look_ups)?;
+        let rule = missing_rule(found);
+        let place = Place::Tuple(self.index.at.tree.index(), row.place.tid);
+        report.add_rule(place, rule)?;
+        Ok(())
+    }
+
+    // Adds the doubt that a value of a row is compressed.
+    fn add_doubt(self, tid: Tid, report: &mut Report) -> Result<(), NoMemory>
+        ensures { AddsIn report_lists result report.old report.new
+            (doubt_at (Place.Tuple (number_of (file_of self.entry.index.at.tree.now)) tid) (Some Reason.U6)) }
+    {
+        report.unjudged(Reason::U6, Place::Tuple(self.index.at.tree.index(), tid))?;
+        Ok(())
+    }
+
+    // Judges the row at which a cursor is: X1 where it has no entry, U6 where a value that it has in the index is
+    // compressed. Only an index that includes columns asks for places for their values.
     fn judge_row<F: Files>(
         self,
         files: &mut F,
@@ -82,24 +128,31 @@ impl RowJudge<'_> {
             → AddsIn report_lists result report.old report.new
             (lists_of_row names self.entry.index.at.tree.now row)) }
         ensures visits { IfTold F.seen files.old (λ names. look_ups.new.visits.count
-            ≤ look_ups.old.visits.count + way_length names self.entry.index.at.tree.now) }
+            ≤ look_ups.old.visits.count + look_length names self.entry.index.at.tree.now) }
         ensures ready { IfTold F.seen files.old (λ names. IsReady names self.entry look_ups.new) }
         ensures asked { Asked F.seen files.old files.new result PageFault.ReadFault }
     {
-        let tree = self.index.at.tree;
         let mut key = KeyRefs::new();
         if !self.index.read_key(cursor, &mut key) {
-            report.unjudged(Reason::U6, Place::Tuple(tree.index(), place.tid))?;
+            self.add_doubt(place.tid, report)?;
             return Ok(());
         }
-        let sought = Sought {
-            key: &key,
-            tid: place.root,
-        };
-        let found = self.has_entry(files, sought, look_ups)?;
-        let rule = missing_rule(found);
-        report.add_rule(Place::Tuple(tree.index(), place.tid), rule)?;
-        Ok(())
+        let key = &key;
+        if !self.index.includes() {
+            let row = IndexedRow {
+                place,
+                key,
+                more: &[],
+            };
+            return self.judge_values(files, row, look_ups, report);
+        }
+        let mut more = MoreRefs::new();
+        if !self.index.read_more(cursor, &mut more) {
+            self.add_doubt(place.tid, report)?;
+            return Ok(());
+        }
+        let more = more.as_slice();
+        self.judge_values(files, IndexedRow { place, key, more }, look_ups, report)
     }
 
     // Goes to the next row of the page in hand and judges it; whether there is one.
@@ -119,9 +172,9 @@ impl RowJudge<'_> {
             → length (rows_here names cursor.old) ≡ length (rows_here names cursor.new) + 1) }
         ensures end { Tells F.seen files.old result (λ found names. found ≡ false → rows_here names cursor.new ≡ []) }
         ensures visits { IfTold F.seen files.old (λ names. OnOk result (look_ups.new.visits.count
-            + length (rows_here names cursor.new) * way_length names self.entry.index.at.tree.now
+            + length (rows_here names cursor.new) * look_length names self.entry.index.at.tree.now
             ≤ look_ups.old.visits.count
-            + length (rows_here names cursor.old) * way_length names self.entry.index.at.tree.now)) }
+            + length (rows_here names cursor.old) * look_length names self.entry.index.at.tree.now)) }
         ensures told { IfTold F.seen files.old (λ names. IsWithin names self.entry look_ups.new cursor.new) }
         ensures next_block { next_in cursor.new ≡ next_in cursor.old }
         ensures same { IsSameCursor cursor.old cursor.new }
@@ -151,7 +204,7 @@ impl RowJudge<'_> {
         ensures end { IfTold F.seen files.old (λ names. OnOk result (rows_here names cursor.new ≡ [])) }
         ensures visits { IfTold F.seen files.old (λ names. OnOk result (look_ups.new.visits.count
             ≤ look_ups.old.visits.count
-            + length (rows_here names cursor.old) * way_length names self.entry.index.at.tree.now)) }
+            + length (rows_here names cursor.old) * look_length names self.entry.index.at.tree.now)) }
         ensures told { IfTold F.seen files.old (λ names. IsWithin names self.entry look_ups.new cursor.new) }
         ensures next_block { next_in cursor.new ≡ next_in cursor.old }
         ensures same { IsSameCursor cursor.old cursor.new }
@@ -181,7 +234,7 @@ impl RowJudge<'_> {
             (block_rows self.entry.index.at.case.now names (next_in cursor.old)))) }
         ensures visits { IfTold F.seen files.old (λ names. OnOk result (look_ups.new.visits.count
             ≤ look_ups.old.visits.count + length (block_rows self.entry.index.at.case.now names (next_in cursor.old))
-            * way_length names self.entry.index.at.tree.now)) }
+            * look_length names self.entry.index.at.tree.now)) }
         ensures ready { IfTold F.seen files.old (λ names. IsReady names self.entry look_ups.new) }
         ensures told { IfTold F.seen files.old (λ names. OnOk result
             (IsBetween names self.entry look_ups.new cursor.new)) }
@@ -193,8 +246,8 @@ impl RowJudge<'_> {
         self.judge_block(files, cursor, look_ups, report)
     }
 
-    /// Judges the rows of the blocks from a cursor's next up to another: adds each that has no entry (X1), and each
-    /// whose key has a compressed value (U6).
+    /// Judges the rows of the blocks from a cursor's next up to another: adds each that has no entry (X1), and each of
+    /// which a value in the index is compressed (U6).
     pub fn judge_blocks<F: Files>(
         self,
         files: &mut F,
@@ -212,7 +265,7 @@ impl RowJudge<'_> {
         ensures visits { IfTold F.seen files.old (λ names. OnOk result (look_ups.new.visits.count
             ≤ look_ups.old.visits.count
             + length (rows_from self.entry.index.at.case.now names (next_in cursor.old) (end - next_in cursor.old))
-            * way_length names self.entry.index.at.tree.now)) }
+            * look_length names self.entry.index.at.tree.now)) }
         ensures ready { IfTold F.seen files.old (λ names. IsReady names self.entry look_ups.new) }
         ensures told { IfTold F.seen files.old (λ names. OnOk result
             (IsBetween names self.entry look_ups.new cursor.new)) }

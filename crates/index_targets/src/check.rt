@@ -8,7 +8,7 @@ ghost use Rattle.rel_files.specs.Ahead.{IsAheadOf};
 ghost use Rattle.bt_levels.specs.Files.{number_of, relation_of};
 ghost use Rattle.bt_levels.specs.Sound.{HoldsTree, block_count, file_of, held_block, index_columns};
 ghost use Rattle.bt_steps.specs.Pages.{IsReadable, is_live_leaf};
-ghost use Rattle.leaf_meets.specs.Meeting.{HaveMet, all_keys, leaf_keys};
+ghost use Rattle.leaf_meets.specs.Meeting.{HaveMet, all_entries, leaf_entries};
 ghost use Rattle.index_targets.specs.Passes.{strays_of, strays_on};
 
 use crate::leaf::Named;
@@ -79,7 +79,7 @@ impl Leaves<'_> {
             (strays_on (number_of (file_of self.entry.tree.now)) (index_columns self.entry.tree.now)
             (option_copied self.entry.targets) b (held_block names self.entry.tree.now b))) }
         ensures met { OnOk result (IfTold F.seen files.old (λ names.
-            HaveMet (leaf_keys (index_columns self.entry.tree.now) (held_block names self.entry.tree.now b))
+            HaveMet (leaf_entries (index_columns self.entry.tree.now) (held_block names self.entry.tree.now b))
             slots.old slots.new)) }
         ensures hand { IfTold F.seen files.old (λ names.
             IsAheadOf names (relation_of (file_of self.entry.tree.now)) hands.new.blocks) }
@@ -110,7 +110,7 @@ pub fn check_entries<F: Files>(
     ensures lists { IfTold F.seen files.old (λ names. AddsIn report_lists result report.old report.new
         (strays_of names (option_copied targets.entry) tree.now)) }
     ensures met { OnOk result (IfTold F.seen files.old (λ names.
-        HaveMet (all_keys (index_columns tree.now) (block_count tree.now) (held_block names tree.now))
+        HaveMet (all_entries (index_columns tree.now) (block_count tree.now) (held_block names tree.now))
         slots.old slots.new)) }
     ensures asked { AskedAtMost (block_count tree.now) F.seen files.old files.new result PageFault.ReadFault }
 {

@@ -1,82 +1,101 @@
 -- The test for an unkilled entry, and what it says.
-use Rattle.std.proofs.Common.{◌≡◌, ◌∙◌, ◌↔◌, Bool, true, false, List, [], ◌∷◌, refl, ap, sym, subst}
-use Rattle.std.specs.Prelude.{Contains, not, ◌||◌, Option, Some}
+use Rattle.std.proofs.Common.{◌≡◌, ◌∙◌, ℕ, Bool, true, false, List, [], ◌∷◌, refl, ap, sym, subst, arith}
+use Rattle.std.specs.Prelude.{Contains, not, ◌==◌, ◌&&◌, ◌||◌}
 use Rattle.std.specs.List.{list_any}
-use Rattle.std.specs.Cmp.{IsTotalOrder}
-use Rattle.std.specs.Ordering.{is_lt, ordering_reverse}
-use Rattle.std.specs.declared.cmp.Ordering.{Ordering}
-use Rattle.std.specs.declared.cmp.Ordering.TheVariants.{Less, Equal, Greater}
-use Rattle.std.proofs.lemmas.Bool.{and_from, and_parts, both_ways, not_from_false, not-true}
+use Rattle.std.proofs.lemmas.Bool.{and_from, and_parts, not_from_false, not-true}
+use Rattle.std.proofs.lemmas.Bool.Decides.{nat_tests}
 use Rattle.std.proofs.lemmas.List.Folds.{list_any_at}
-use Rattle.tree_search.specs.Keys.{Entry, Separator, as_separator, compare_keys}
-use Rattle.tree_search.specs.Search.{entries_of}
-use Rattle.key_orders.specs.declared.columns.KeySpec.{KeySpec}
+use Rattle.tree_search.specs.Keys.{Entry}
 use Rattle.key_orders.specs.declared.columns.Value.{Value}
 use Rattle.key_orders.specs.declared.Tid.{Tid}
-use Rattle.key_orders.specs.Keys.{columns_of, entry_of, tid_order}
-use Rattle.tree_image.specs.Image.{TreeIndex}
-use Rattle.bt_steps.specs.Sought.{HasAlive, IsSought}
-use Rattle.bt_steps.proofs.Members.{first-in, other-in}
-use Rattle.indexed_rules.specs.Entries.{has_alive, is_alive_of}
+use Rattle.stored_keys.specs.Same.{same_key}
+use Rattle.stored_keys.proofs.SameLaws.{keys_decide}
+use Rattle.tree_image.specs.Image.{LeafEntry}
+use Rattle.tree_image.proofs.Gathered.{gathered}
+use Rattle.bt_pages.specs.Trees.{Tree}
+use Rattle.bt_walks.specs.Trees.{image_of}
+use Rattle.bt_steps.specs.Sought.{HasAlive as IsSearched, IsSought}
+use Rattle.bt_steps.proofs.Members.{first-in, in-map, other-in}
+use Rattle.row_slots.specs.Met.{same_tid}
+use Rattle.indexed_rules.specs.Entries.{HasAlive, has_alive, is_alive, is_alive_of, tree_entries}
 
--- neither is below the other: they are the same
-same-by : {K : Type 0} (R : K → K → Ordering) → IsTotalOrder R → (x y : K) → is_lt (R x y) ≡ false → is_lt (R y x) ≡ false → R x y ≡ Equal
-same-by R total x y f g = go (R x y) refl
-  where
-    go : (o : Ordering) → R x y ≡ o → R x y ≡ Equal
-    go Less e = absurd (both_ways (is_lt (R x y)) f (ap is_lt e))
-    go Equal e = e
-    go Greater e = absurd (both_ways (is_lt (R y x)) g (ap is_lt (total.antisymm y x ∙ ap ordering_reverse e)))
+-- Places
 
-module _ (specs : List KeySpec) (total : IsTotalOrder (compare_keys (columns_of specs) tid_order)) (same : (s t : Separator Value Tid) → (compare_keys (columns_of specs) tid_order s t ≡ Equal) ↔ (s ≡ t)) (key : List Value) (tid : Tid) where
-  abbrev order : Separator Value Tid → Separator Value Tid → Ordering
-  order = compare_keys (columns_of specs) tid_order
+pub tid-is : (s t : Tid) → same_tid s t ≡ true → t ≡ s
+tid-is s t same =
+    let parts = and_parts (s.block == t.block) (s.item == t.item) same in
+    let block : t.block ≡ s.block = grind (arith, nat_tests, parts.0) in
+    let item : t.item ≡ s.item = grind (arith, nat_tests, parts.1) in
+    λ i. record { block = block i; item = item i }
 
-  abbrev sought-of : Separator Value Tid
-  sought-of = as_separator (entry_of key tid)
+number-same : (n : ℕ) → (n == n) ≡ true
+number-same n = grind (arith, nat_tests)
 
-  some-is : {t u : Tid} → ◌≡◌ {A = Option Tid} (Some t) (Some u) → t ≡ u
-  some-is h = cc
+pub tid-same : (t : Tid) → same_tid t t ≡ true
+tid-same t = and_from (t.block == t.block) (t.item == t.item) (number-same t.block) (number-same t.item)
 
-  -- an entry that passes the test
-  pub passed : (e : Entry Value Tid) → is_alive_of specs key tid e ≡ true → IsSought key tid e × (e.killed ≡ false)
+-- One entry, without included values
+
+pub is-sought : (key : List Value) (tid : Tid) (e : Entry Value Tid) → is_alive key tid e ≡ true → IsSought key tid e × (e.killed ≡ false)
+is-sought key tid e t =
+    let parts = and_parts (same_tid tid e.tid && same_key key e.values) (not e.killed) t in
+    let both = and_parts (same_tid tid e.tid) (same_key key e.values) parts.0 in
+    (record { values = sym ((keys_decide key e.values).0 both.1); tid_is = tid-is tid e.tid both.0 }, not-true _ parts.1)
+
+pub sought-is : (key : List Value) (tid : Tid) (e : Entry Value Tid) → IsSought key tid e → e.killed ≡ false → is_alive key tid e ≡ true
+sought-is key tid e s alive =
+    and_from (same_tid tid e.tid && same_key key e.values) (not e.killed)
+    (and_from (same_tid tid e.tid) (same_key key e.values) (ap (same_tid tid) s.tid_is ∙ tid-same tid) ((keys_decide key e.values).1 (sym s.values)))
+    (not_from_false _ alive)
+
+-- And with them
+
+module _ (key more : List Value) (tid : Tid) where
+  -- one that passes the test
+  pub passed : (e : LeafEntry) → is_alive_of key more tid e ≡ true → IsSought key tid e.entry × (e.more ≡ more) × (e.entry.killed ≡ false)
   passed e t =
-      let live = and_parts (not e.killed) _ t in
-      let apart = and_parts (not (is_lt (order (as_separator e) sought-of))) _ live.1 in
-      let is : as_separator e ≡ sought-of = (same (as_separator e) sought-of).0 (same-by order total (as_separator e) sought-of (not-true _ apart.0) (not-true _ apart.1)) in (
-        record { values = ap (λ (s : Separator Value Tid). s.kept) is; tid_is = some-is (ap (λ (s : Separator Value Tid). s.tid) is) },
-        not-true _ live.0,
-      )
+      let parts = and_parts (is_alive key tid e.entry) (same_key more e.more) t in
+      let what = is-sought key tid e.entry parts.0 in
+      (what.0, sym ((keys_decide more e.more).0 parts.1), what.1)
 
-  -- an entry that is sought passes it
-  pub passes : (e : Entry Value Tid) → IsSought key tid e → e.killed ≡ false → is_alive_of specs key tid e ≡ true
-  passes e s alive =
-      let is : as_separator e ≡ sought-of = λ i. record { kept = s.values i; tid = Some (s.tid_is i) } in
-      let equal : order (as_separator e) sought-of ≡ Equal = (same (as_separator e) sought-of).1 is in
-      let turned : order sought-of (as_separator e) ≡ Equal = (same sought-of (as_separator e)).1 (sym is) in
-      and_from (not e.killed) _ (not_from_false _ alive)
-      (and_from (not (is_lt (order (as_separator e) sought-of))) _ (not_from_false _ (ap is_lt equal)) (not_from_false _ (ap is_lt turned)))
+  -- one that is sought passes it
+  pub passes : (e : LeafEntry) → IsSought key tid e.entry → e.more ≡ more → e.entry.killed ≡ false → is_alive_of key more tid e ≡ true
+  passes e s included alive =
+      and_from (is_alive key tid e.entry) (same_key more e.more) (sought-is key tid e.entry s alive) ((keys_decide more e.more).1 (sym included))
 
-  found-in : (es : List (Entry Value Tid)) → list_any (is_alive_of specs key tid) es ≡ true → (e : Entry Value Tid) × Contains es e × (is_alive_of specs key tid e ≡ true)
+  -- Some entry
+
+  found-in : (es : List LeafEntry) → list_any (is_alive_of key more tid) es ≡ true → (e : LeafEntry) × Contains es e × (is_alive_of key more tid e ≡ true)
   found-in [] h = absurd cc
-  found-in (e ∷ es) h = go (is_alive_of specs key tid e) refl (λ t. found-in es t) h
+  found-in (e ∷ es) h = go (is_alive_of key more tid e) refl (λ t. found-in es t) h
     where
-      go : (b : Bool) → is_alive_of specs key tid e ≡ b
-          → (list_any (is_alive_of specs key tid) es ≡ true → (d : Entry Value Tid) × Contains es d × (is_alive_of specs key tid d ≡ true))
-          → (b || list_any (is_alive_of specs key tid) es) ≡ true → (d : Entry Value Tid) × Contains (e ∷ es) d × (is_alive_of specs key tid d ≡ true)
+      go : (b : Bool) → is_alive_of key more tid e ≡ b
+          → (list_any (is_alive_of key more tid) es ≡ true → (d : LeafEntry) × Contains es d × (is_alive_of key more tid d ≡ true))
+          → (b || list_any (is_alive_of key more tid) es) ≡ true → (d : LeafEntry) × Contains (e ∷ es) d × (is_alive_of key more tid d ≡ true)
       go true is again t = (e, first-in e es, is)
       go false is again t = let rest = again t in (rest.0, other-in e rest.0 es rest.1, rest.2)
 
-  pub is-there : (image : TreeIndex) → has_alive specs image key tid ≡ true → HasAlive image key tid
+  pub is-there : (es : List LeafEntry) → has_alive es key more tid ≡ true → HasAlive es key more tid
   unfolding has_alive
-  is-there image h =
-      let found = found-in (entries_of image) h in
+  is-there es h =
+      let found = found-in es h in
       let what = passed found.0 found.2 in
-      record { entry = found.0; among = found.1; sought = what.0; alive = what.1 }
+      record { entry = found.0; among = found.1; sought = what.0; included = what.1; alive = what.2 }
 
-  pub counts : (image : TreeIndex) → HasAlive image key tid → has_alive specs image key tid ≡ true
+  pub counts : (es : List LeafEntry) → HasAlive es key more tid → has_alive es key more tid ≡ true
   unfolding has_alive
-  counts image h =
+  counts es h =
       let at = h.among in
-      list_any_at (is_alive_of specs key tid) (entries_of image) at.0 h.entry at.1
-      (subst (λ (d : Entry Value Tid). is_alive_of specs key tid d ≡ true) (sym at.2) (passes h.entry h.sought h.alive))
+      list_any_at (is_alive_of key more tid) es at.0 h.entry at.1
+      (subst (λ (d : LeafEntry). is_alive_of key more tid d ≡ true) (sym at.2) (passes h.entry h.sought h.included h.alive))
+
+-- a search sees the key and the TID of the entry
+pub searched : (tree : Tree) (key more : List Value) (tid : Tid) → HasAlive (tree_entries tree) key more tid → IsSearched (image_of tree) key tid
+searched tree key more tid has = record {
+  entry = has.entry.entry;
+  among =
+      subst (λ es. Contains es has.entry.entry) (sym (gathered tree.specs tree.more tree.blocks tree.block))
+      (in-map (λ (e : LeafEntry). e.entry) (tree_entries tree) has.entry has.among);
+  sought = has.sought;
+  alive = has.alive;
+}

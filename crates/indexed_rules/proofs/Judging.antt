@@ -1,8 +1,6 @@
 -- What the lists say, row by row and entry by entry.
-use Rattle.std.proofs.Common.{◌≡◌, ◌∙◌, ◌↔◌, ◌<◌, ◌≤◌, ◌-◌, ℕ, inl, inr, Bool, true, false, List, [], ◌∷◌, refl, ap, sym, subst, arith}
+use Rattle.std.proofs.Common.{◌≡◌, ◌∙◌, ◌<◌, ◌≤◌, ◌-◌, ℕ, inl, inr, Bool, true, false, List, [], ◌∷◌, refl, ap, sym, subst, arith}
 use Rattle.std.specs.Prelude.{All, Contains, Option, Some, None, if◌then◌else◌, length, nat_lt, slice_get}
-use Rattle.std.specs.Cmp.{IsTotalOrder}
-use Rattle.std.specs.declared.cmp.Ordering.TheVariants.{Equal}
 use Rattle.std.proofs.lemmas.Bool.{both_ways, cases_Bool, cond-false, cond-true, le-ltb, ltb-false}
 use Rattle.std.proofs.lemmas.Option.{slice_get_read}
 use Rattle.std.proofs.lemmas.List.Elements.{All-append, All-cons, All-head, All-nil, Contains-append_left, Contains-append_right}
@@ -10,14 +8,12 @@ use Rattle.outside.specs.Outside.{Names}
 use Rattle.page_layout.specs.Page.{count_of}
 use Rattle.page_layout.specs.declared.rules.Rule.{Rule}
 use Rattle.page_layout.specs.declared.rules.Rule.TheVariants.{X1, X2}
-use Rattle.tree_search.specs.Keys.{Entry as Given, Separator, compare_keys}
-use Rattle.key_orders.specs.declared.columns.KeySpec.{KeySpec}
+use Rattle.tree_search.specs.Keys.{Entry as Given}
 use Rattle.varlena_attrs.specs.Columns.{TreeColumns}
 use Rattle.key_orders.specs.declared.columns.Value.{Value}
 use Rattle.key_orders.specs.declared.Tid.{Tid}
-use Rattle.key_orders.specs.Keys.{columns_of, tid_order}
 use Rattle.case_file.specs.Record.{CaseRecord}
-use Rattle.tree_image.specs.Image.{TreeIndex, first_data, has_high_key, item_at, keys_in}
+use Rattle.tree_image.specs.Image.{LeafEntry, first_data, has_high_key, item_at, keys_in}
 use Rattle.tree_image.specs.Pages.{IsDataItem}
 use Rattle.bt_steps.specs.Pages.{is_live_leaf}
 use Rattle.reports.specs.Added.{each_upto, nothing, report_lists}
@@ -31,14 +27,13 @@ use Rattle.reports.specs.declared.places.Reason.TheVariants.{U6}
 use Rattle.reports.proofs.Parts.{All-below, All-upto, among_below, among_upto}
 use Rattle.bt_pages.specs.Broken.{AreEmpty, IsDoubtedAt, doubted, IsFoundAt, found}
 use Rattle.bt_pages.proofs.BlockLaws.{All-finding_at, among_finding, no_doubts}
-use Rattle.bt_walks.specs.Trees.{image_of}
 use Rattle.bt_levels.specs.Index.{case_columns, tree_of}
 use Rattle.heap_check.specs.Rows.{rows_of}
 use Rattle.heap_check.specs.declared.rows.LiveRow.{LiveRow}
-use Rattle.indexed_rules.specs.Entries.{has_alive, may_be_named}
+use Rattle.indexed_rules.specs.Entries.{has_alive, may_be_named, tree_entries}
 use Rattle.indexed_rules.specs.Lists.{entries_lists, indexed_lists, item_lists, items_lists, leaf_lists, leaves_lists, missing_rule, nth_lists, row_lists, row_lists_by, rows_lists, stray_rule, tids_at, tids_lists}
-use Rattle.indexed_rules.specs.Rows.{key_of, keys_of}
-use Rattle.indexed_rules.specs.Broken.{Breaks, Doubts, HasEntry, IsAt, IsIndexed, IsJudged, no_entry, packed_key, stray}
+use Rattle.indexed_rules.specs.Rows.{key_of, more_of}
+use Rattle.indexed_rules.specs.Broken.{Breaks, Doubts, HasEntry, IsAt, IsIndexed, IsJudged, no_entry, packed_key, packed_more, stray}
 use Rattle.bt_steps.proofs.Members.{first-in, from-map, in-map, in-place, none-in}
 use Rattle.indexed_rules.proofs.Each.{All-each, among-each}
 use Rattle.indexed_rules.proofs.Alive.{counts, is-there}
@@ -67,18 +62,15 @@ first-item page i item = go (has_high_key page) refl
 
 -- ROWS
 
-module _ (case : CaseRecord) (names : Names) (n : ℕ) (total : IsTotalOrder (compare_keys (columns_of (keys_of case n)) tid_order)) (same : (s t : Separator Value Tid) → (compare_keys (columns_of (keys_of case n)) tid_order s t ≡ Equal) ↔ (s ≡ t)) where
-  abbrev specs : List KeySpec
-  specs = keys_of case n
-
+module _ (case : CaseRecord) (names : Names) (n : ℕ) where
   abbrev columns : TreeColumns
   columns = case_columns case n
 
-  abbrev image : TreeIndex
-  image = image_of (tree_of case names n)
+  abbrev entries : List LeafEntry
+  entries = tree_entries (tree_of case names n)
 
-  abbrev has : List Value → Tid → Bool
-  has = has_alive specs image
+  abbrev has : (key more : List Value) → Tid → Bool
+  has = has_alive entries
 
   abbrev IsBroken : Finding → Type 0
   IsBroken f = Breaks case names n f.rule f.place
@@ -86,49 +78,67 @@ module _ (case : CaseRecord) (names : Names) (n : ℕ) (total : IsTotalOrder (co
   abbrev IsDoubtful : UnjudgedPlace → Type 0
   IsDoubtful u = Doubts case names n u.reason u.place
 
-  broken-row : (row : LiveRow) → Contains (rows_of case names) row → (o : Option (List Value)) → key_of case n row ≡ o → All IsBroken (row_lists_by n has row o).findings
-  broken-row row among (Some key) is =
-      All-finding_at IsBroken (Tuple n row.tid) (missing_rule (has key row.root)) (λ rule e.
-      let what = missing-is (has key row.root) rule e in
+  broken-row : (row : LiveRow) → Contains (rows_of case names) row → (k m : Option (List Value)) → key_of case n row ≡ k → more_of case n row ≡ m → All IsBroken (row_lists_by n has row k m).findings
+  broken-row row among (Some key) (Some more) is beside =
+      All-finding_at IsBroken (Tuple n row.tid) (missing_rule (has key more row.root)) (λ rule e.
+      let what = missing-is (has key more row.root) rule e in
       subst (λ (r : Rule). Breaks case names n r (Tuple n row.tid)) (sym what.1)
-      (no_entry row key among is (λ entry. both_ways (has key row.root) what.0 (counts specs total same key row.root image entry))))
-  broken-row row among None is = All-nil IsBroken
+      (no_entry row key more among is beside (λ entry. both_ways (has key more row.root) what.0 (counts key more row.root entries entry))))
+  broken-row row among (Some key) None is beside = All-nil IsBroken
+  broken-row row among None m is beside = All-nil IsBroken
 
-  doubtful-row : (row : LiveRow) → Contains (rows_of case names) row → (o : Option (List Value)) → key_of case n row ≡ o → All IsDoubtful (row_lists_by n has row o).unjudged
-  doubtful-row row among (Some key) is = subst (All IsDoubtful) (sym (no_doubts (Tuple n row.tid) (missing_rule (has key row.root)))) (All-nil IsDoubtful)
-  doubtful-row row among None is = All-cons IsDoubtful (record { reason = U6; place = Tuple n row.tid }) [] (packed_key row among is) (All-nil IsDoubtful)
+  doubtful-row : (row : LiveRow) → Contains (rows_of case names) row → (k m : Option (List Value)) → key_of case n row ≡ k → more_of case n row ≡ m → All IsDoubtful (row_lists_by n has row k m).unjudged
+  doubtful-row row among (Some key) (Some more) is beside = subst (All IsDoubtful) (sym (no_doubts (Tuple n row.tid) (missing_rule (has key more row.root)))) (All-nil IsDoubtful)
+  doubtful-row row among (Some key) None is beside = All-cons IsDoubtful (record { reason = U6; place = Tuple n row.tid }) [] (packed_more row among beside) (All-nil IsDoubtful)
+  doubtful-row row among None m is beside = All-cons IsDoubtful (record { reason = U6; place = Tuple n row.tid }) [] (packed_key row among is) (All-nil IsDoubtful)
 
   broken-rows : All IsBroken (rows_lists case names n).findings
   unfolding rows_lists row_lists
-  broken-rows = All-each report_lists findings-of refl (λ a b. refl) (row_lists n specs has) IsBroken (rows_of case names) (λ row among. broken-row row among (key_of case n row) refl)
+  broken-rows = All-each report_lists findings-of refl (λ a b. refl) (row_lists n columns has) IsBroken (rows_of case names) (λ row among. broken-row row among (key_of case n row) (more_of case n row) refl refl)
 
   doubtful-rows : All IsDoubtful (rows_lists case names n).unjudged
   unfolding rows_lists row_lists
-  doubtful-rows = All-each report_lists unjudged-of refl (λ a b. refl) (row_lists n specs has) IsDoubtful (rows_of case names) (λ row among. doubtful-row row among (key_of case n row) refl)
+  doubtful-rows = All-each report_lists unjudged-of refl (λ a b. refl) (row_lists n columns has) IsDoubtful (rows_of case names) (λ row among. doubtful-row row among (key_of case n row) (more_of case n row) refl refl)
 
-  row-found : (row : LiveRow) (f : Finding) → Contains (rows_of case names) row → Contains (row_lists n specs has row).findings f → Contains (rows_lists case names n).findings f
+  row-found : (row : LiveRow) (f : Finding) → Contains (rows_of case names) row → Contains (row_lists n columns has row).findings f → Contains (rows_lists case names n).findings f
   unfolding rows_lists
-  row-found row f among h = among-each report_lists findings-of refl (λ a b. refl) (row_lists n specs has) (rows_of case names) row f among h
+  row-found row f among h = among-each report_lists findings-of refl (λ a b. refl) (row_lists n columns has) (rows_of case names) row f among h
 
-  row-doubted : (row : LiveRow) (u : UnjudgedPlace) → Contains (rows_of case names) row → Contains (row_lists n specs has row).unjudged u → Contains (rows_lists case names n).unjudged u
+  row-doubted : (row : LiveRow) (u : UnjudgedPlace) → Contains (rows_of case names) row → Contains (row_lists n columns has row).unjudged u → Contains (rows_lists case names n).unjudged u
   unfolding rows_lists
-  row-doubted row u among h = among-each report_lists unjudged-of refl (λ a b. refl) (row_lists n specs has) (rows_of case names) row u among h
+  row-doubted row u among h = among-each report_lists unjudged-of refl (λ a b. refl) (row_lists n columns has) (rows_of case names) row u among h
 
   -- a row without its entry
-  missing-listed : (row : LiveRow) (key : List Value) → Contains (rows_of case names) row → key_of case n row ≡ Some key → has key row.root ≡ false → Contains (rows_lists case names n).findings (record { rule = X1; place = Tuple n row.tid })
+  missing-listed : (row : LiveRow) (key more : List Value) → Contains (rows_of case names) row → key_of case n row ≡ Some key → more_of case n row ≡ Some more → has key more row.root ≡ false → Contains (rows_lists case names n).findings (record { rule = X1; place = Tuple n row.tid })
   unfolding row_lists
-  missing-listed row key among is none =
+  missing-listed row key more among is beside none =
       let f : Finding = record { rule = X1; place = Tuple n row.tid } in
+      let told : Contains (row_lists_by n has row (Some key) (Some more)).findings f =
+      among_finding (Tuple n row.tid) (missing_rule (has key more row.root)) X1 (ap missing_rule none) in
       row-found row f among
-      (subst (λ (o : Option (List Value)). Contains (row_lists_by n has row o).findings f) (sym is)
-      (among_finding (Tuple n row.tid) (missing_rule (has key row.root)) X1 (ap missing_rule none)))
+      (subst (λ (o : Option (List Value)). Contains (row_lists_by n has row o (more_of case n row)).findings f) (sym is)
+      (subst (λ (o : Option (List Value)). Contains (row_lists_by n has row (Some key) o).findings f) (sym beside) told))
 
   packed-listed : (row : LiveRow) → Contains (rows_of case names) row → key_of case n row ≡ None → Contains (rows_lists case names n).unjudged (record { reason = U6; place = Tuple n row.tid })
   unfolding row_lists
   packed-listed row among is =
       let u : UnjudgedPlace = record { reason = U6; place = Tuple n row.tid } in
       row-doubted row u among
-      (subst (λ (o : Option (List Value)). Contains (row_lists_by n has row o).unjudged u) (sym is) (first-in u []))
+      (subst (λ (o : Option (List Value)). Contains (row_lists_by n has row o (more_of case n row)).unjudged u) (sym is) (first-in u []))
+
+  packed-beside : (row : LiveRow) → Contains (rows_of case names) row → more_of case n row ≡ None → Contains (rows_lists case names n).unjudged (record { reason = U6; place = Tuple n row.tid })
+  unfolding row_lists
+  packed-beside row among beside = by (key_of case n row) refl
+    where
+      u : UnjudgedPlace
+      u = record { reason = U6; place = Tuple n row.tid }
+
+      by : (k : Option (List Value)) → key_of case n row ≡ k → Contains (rows_lists case names n).unjudged u
+      by None is = packed-listed row among is
+      by (Some key) is =
+          row-doubted row u among
+          (subst (λ (o : Option (List Value)). Contains (row_lists_by n has row o (more_of case n row)).unjudged u) (sym is)
+          (subst (λ (o : Option (List Value)). Contains (row_lists_by n has row (Some key) o).unjudged u) (sym beside) (first-in u [])))
 
   -- ENTRIES
 
@@ -259,32 +269,36 @@ module _ (case : CaseRecord) (names : Names) (n : ℕ) (total : IsTotalOrder (co
       All-append IsDoubtful (rows_lists case names n).unjudged (entries_lists case names n).unjudged doubtful-rows
       (subst (All IsDoubtful) (sym (no-doubts (entries_lists case names n).unjudged certain-leaves)) (All-nil IsDoubtful))
 
-  has-none : (key : List Value) (root : Tid) → ¬ HasEntry case names n key root → has key root ≡ false
-  has-none key root none = elim (cases_Bool (has key root)) [
-    | inl t ↦ absurd (none (is-there specs total same key root image t))
+  has-none : (key more : List Value) (root : Tid) → ¬ HasEntry case names n key more root → has key more root ≡ false
+  has-none key more root none = elim (cases_Bool (has key more root)) [
+    | inl t ↦ absurd (none (is-there key more root entries t))
     | inr f ↦ f
   ]
 
   all-listed : (rule : Rule) (place : Place) → Breaks case names n rule place → IsFoundAt (indexed_lists case names n) place
-  all-listed _ _ (no_entry row key among is none) =
-      found X1 (row-first (record { rule = X1; place = Tuple n row.tid }) (missing-listed row key among is (has-none key row.root none)))
+  all-listed _ _ (no_entry row key more among is beside none) =
+      found X1 (row-first (record { rule = X1; place = Tuple n row.tid }) (missing-listed row key more among is beside (has-none key more row.root none)))
   all-listed _ _ (stray b i e at none) =
       found X2 (entry-second (record { rule = X2; place = Entry n b i e.tid }) (stray-listed b i e at none))
 
   all-doubted : (reason : Reason) (place : Place) → Doubts case names n reason place → IsDoubtedAt (indexed_lists case names n) place
   all-doubted _ _ (packed_key row among is) = doubted U6 (doubt-first (record { reason = U6; place = Tuple n row.tid }) (packed-listed row among is))
+  all-doubted _ _ (packed_more row among beside) = doubted U6 (doubt-first (record { reason = U6; place = Tuple n row.tid }) (packed-beside row among beside))
 
   indexed : AreEmpty (indexed_lists case names n) → (row : LiveRow) → Contains (rows_of case names) row → IsIndexed case names n row
-  indexed empty row among = by (key_of case n row) refl
+  indexed empty row among = by (key_of case n row) (more_of case n row) refl refl
     where
-      by : (o : Option (List Value)) → key_of case n row ≡ o → IsIndexed case names n row
-      by None is = absurd (none-in _ (indexed_lists case names n).unjudged empty.unjudged (doubt-first (record { reason = U6; place = Tuple n row.tid }) (packed-listed row among is)))
-      by (Some key) is = record {
+      by : (k m : Option (List Value)) → key_of case n row ≡ k → more_of case n row ≡ m → IsIndexed case names n row
+      by None m is beside = absurd (none-in _ (indexed_lists case names n).unjudged empty.unjudged (doubt-first (record { reason = U6; place = Tuple n row.tid }) (packed-listed row among is)))
+      by (Some key) None is beside = absurd (none-in _ (indexed_lists case names n).unjudged empty.unjudged (doubt-first (record { reason = U6; place = Tuple n row.tid }) (packed-beside row among beside)))
+      by (Some key) (Some more) is beside = record {
         key = key;
+        more = more;
         values = is;
-        entry = elim (cases_Bool (has key row.root)) [
-          | inl t ↦ is-there specs total same key row.root image t
-          | inr f ↦ absurd (none-in _ (indexed_lists case names n).findings empty.findings (row-first (record { rule = X1; place = Tuple n row.tid }) (missing-listed row key among is f)))
+        included = beside;
+        entry = elim (cases_Bool (has key more row.root)) [
+          | inl t ↦ is-there key more row.root entries t
+          | inr f ↦ absurd (none-in _ (indexed_lists case names n).findings empty.findings (row-first (record { rule = X1; place = Tuple n row.tid }) (missing-listed row key more among is beside f)))
         ];
       }
 

@@ -9,46 +9,50 @@ use Rattle.tree_search.specs.Keys.{Entry as Given}
 use Rattle.key_orders.specs.declared.columns.Value.{Value}
 use Rattle.key_orders.specs.declared.Tid.{Tid}
 use Rattle.case_file.specs.Record.{CaseRecord}
-use Rattle.bt_steps.specs.Sought.{HasAlive}
 use Rattle.reports.specs.declared.places.Place.{Place}
 use Rattle.reports.specs.declared.places.Place.TheVariants.{Entry, Tuple}
 use Rattle.reports.specs.declared.places.Reason.{Reason}
 use Rattle.reports.specs.declared.places.Reason.TheVariants.{U6}
 use Rattle.bt_pages.specs.Broken.{AreEmpty, IsDoubtedAt, IsFoundAt}
-use Rattle.bt_walks.specs.Trees.{image_of}
 use Rattle.bt_levels.specs.Index.{case_columns, tree_of}
 use Rattle.heap_check.specs.Rows.{rows_of}
 use Rattle.heap_check.specs.declared.rows.LiveRow.{LiveRow}
-use Rattle.indexed_rules.specs.Entries.{IsEntryAt, may_be_named}
+use Rattle.indexed_rules.specs.Entries.{HasAlive, IsEntryAt, tree_entries, may_be_named}
 use Rattle.indexed_rules.specs.Lists.{indexed_lists}
-use Rattle.indexed_rules.specs.Rows.{key_of}
+use Rattle.indexed_rules.specs.Rows.{key_of, more_of}
 
--- index n of a case has an unkilled entry with this key and this TID
-abbrev pub HasEntry : CaseRecord → Names → ℕ → List Value → Tid → Type 0
-HasEntry case names n key tid = HasAlive (image_of (tree_of case names n)) key tid
+-- index n of a case has an unkilled entry with this key, these included values and this TID
+abbrev pub HasEntry : CaseRecord → Names → ℕ → (key more : List Value) → Tid → Type 0
+HasEntry case names n = HasAlive (tree_entries (tree_of case names n))
 
 -- the entry stands in it at item i of block b
 abbrev pub IsAt : CaseRecord → Names → ℕ → (b i : ℕ) → Given Value Tid → Type 0
 IsAt case names n =
     IsEntryAt (case_columns case n) (tree_of case names n).blocks (tree_of case names n).block
 
--- X1: a live tuple has no unkilled entry with its key and its root's TID. X2: an entry names what no entry may name
+-- X1: a live tuple has no unkilled entry with its key, its included values and its root's TID. X2: an entry names what
+-- no entry may name
 pub data Breaks (case : CaseRecord) (names : Names) (n : ℕ) : Rule → Place → Type 0 where
-  no_entry : (row : LiveRow) (key : List Value) → Contains (rows_of case names) row → key_of case n row ≡ Some key
-      → ¬ HasEntry case names n key row.root → Breaks case names n X1 (Tuple n row.tid)
+  no_entry : (row : LiveRow) (key more : List Value) → Contains (rows_of case names) row
+      → key_of case n row ≡ Some key → more_of case n row ≡ Some more
+      → ¬ HasEntry case names n key more row.root → Breaks case names n X1 (Tuple n row.tid)
   stray : (b i : ℕ) (e : Given Value Tid) → IsAt case names n b i e → may_be_named case names e.tid ≡ false
       → Breaks case names n X2 (Entry n b i e.tid)
 
--- U6: a value of a live tuple's key is compressed
+-- U6: a value of a live tuple's key, or of a column that the index includes, is compressed
 pub data Doubts (case : CaseRecord) (names : Names) (n : ℕ) : Reason → Place → Type 0 where
   packed_key : (row : LiveRow) → Contains (rows_of case names) row → key_of case n row ≡ None
       → Doubts case names n U6 (Tuple n row.tid)
+  packed_more : (row : LiveRow) → Contains (rows_of case names) row → more_of case n row ≡ None
+      → Doubts case names n U6 (Tuple n row.tid)
 
--- a row has a key, and the index an unkilled entry with that key and the TID of the row's root
+-- a row has a key and included values, and the index an unkilled entry with these and the TID of the row's root
 pub record IsIndexed (case : CaseRecord) (names : Names) (n : ℕ) (row : LiveRow) : Type 0 where
   pub key : List Value
+  pub more : List Value
   pub values : key_of case n row ≡ Some key
-  pub entry : HasEntry case names n key row.root
+  pub included : more_of case n row ≡ Some more
+  pub entry : HasEntry case names n key more row.root
 
 -- each live tuple is indexed, and each entry names what it may name
 pub record AreJoined (case : CaseRecord) (names : Names) (n : ℕ) : Type 0 where

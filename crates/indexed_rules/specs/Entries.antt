@@ -1,33 +1,47 @@
 -- The entries of an index, and what they may name in the heap.
-use Rattle.std.specs.Prelude.{◌≡◌, ℕ, ◌<◌, ◌≤◌, Bool, true, not, ◌&&◌, nat_lt, List, Contains}
+use Rattle.std.specs.Prelude.{◌≡◌, ℕ, ◌<◌, ◌≤◌, Bool, true, false, not, ◌&&◌, nat_lt, List, Contains}
 use Rattle.std.specs.List.{list_any}
 use Rattle.outside.specs.Outside.{Names}
 use Rattle.tree_search.specs.Keys.{Entry}
-use Rattle.tree_search.specs.Search.{entries_of}
-use Rattle.key_orders.specs.declared.columns.KeySpec.{KeySpec}
 use Rattle.varlena_attrs.specs.Columns.{TreeColumns}
 use Rattle.key_orders.specs.declared.columns.Value.{Value}
 use Rattle.key_orders.specs.declared.Tid.{Tid}
-use Rattle.key_orders.specs.Keys.{entry_of}
-use Rattle.key_orders.specs.Scans.{order_of}
+use Rattle.stored_keys.specs.Same.{same_key}
 use Rattle.case_file.specs.Record.{CaseRecord}
-use Rattle.tree_image.specs.Image.{TreeIndex, item_at, keys_in}
+use Rattle.tree_image.specs.Image.{LeafEntry, index_entries, item_at, keys_in}
 use Rattle.tree_image.specs.Pages.{IsDataItem}
+use Rattle.bt_pages.specs.Trees.{Tree}
 use Rattle.bt_steps.specs.Pages.{is_live_leaf}
+use Rattle.bt_steps.specs.Sought.{IsSought}
+use Rattle.row_slots.specs.Met.{same_tid}
 use Rattle.root_set.specs.Targets.{is_target}
 use Rattle.heap_files.specs.Case.{heap_blocks, heap_page}
 
 -- Unkilled entries
 
--- the entry has this key and this TID, and isn't killed
-abbrev pub is_alive_of : List KeySpec → List Value → Tid → Entry Value Tid → Bool
-is_alive_of specs key tid e =
-    not e.killed && (not ((order_of specs).precedes e (entry_of key tid))
-    && not ((order_of specs).precedes (entry_of key tid) e))
+-- the entries of an index, by block, item and place in the item
+abbrev pub tree_entries : Tree → List LeafEntry
+tree_entries tree = index_entries tree.specs tree.more tree.blocks tree.block
 
--- an index has one; in words, `HasAlive` of bt_steps
-unfoldable pub has_alive : List KeySpec → TreeIndex → List Value → Tid → Bool
-has_alive specs image key tid = list_any (is_alive_of specs key tid) (entries_of image)
+-- among these is one with this key, these included values and this TID that isn't killed
+pub record HasAlive (entries : List LeafEntry) (key more : List Value) (tid : Tid) : Type 0 where
+  pub entry : LeafEntry
+  pub among : Contains entries entry
+  pub sought : IsSought key tid entry.entry
+  pub included : entry.more ≡ more
+  pub alive : entry.entry.killed ≡ false
+
+-- the entry has this key and this TID, and isn't killed; as a test
+abbrev pub is_alive : (key : List Value) → Tid → Entry Value Tid → Bool
+is_alive key tid e = (same_tid tid e.tid && same_key key e.values) && not e.killed
+
+-- and it has these included values
+abbrev pub is_alive_of : (key more : List Value) → Tid → LeafEntry → Bool
+is_alive_of key more tid e = is_alive key tid e.entry && same_key more e.more
+
+-- among these is such a one
+unfoldable pub has_alive : List LeafEntry → (key more : List Value) → Tid → Bool
+has_alive entries key more tid = list_any (is_alive_of key more tid) entries
 
 -- Where entries stand
 

@@ -6,7 +6,6 @@ use Rattle.outside.specs.Outside.{Names}
 use Rattle.page_layout.specs.Page.{count_of}
 use Rattle.page_layout.specs.declared.rules.Rule.{Rule}
 use Rattle.page_layout.specs.declared.rules.Rule.TheVariants.{X1, X2}
-use Rattle.key_orders.specs.declared.columns.KeySpec.{KeySpec}
 use Rattle.varlena_attrs.specs.Columns.{TreeColumns}
 use Rattle.key_orders.specs.declared.columns.Value.{Value}
 use Rattle.key_orders.specs.declared.Tid.{Tid}
@@ -17,12 +16,11 @@ use Rattle.reports.specs.Added.{doubt_at, each_upto, finding_at, joined, nothing
 use Rattle.reports.specs.Lists.{Lists}
 use Rattle.reports.specs.declared.places.Place.TheVariants.{Entry, Tuple}
 use Rattle.reports.specs.declared.places.Reason.TheVariants.{U6}
-use Rattle.bt_walks.specs.Trees.{image_of}
 use Rattle.bt_levels.specs.Index.{case_columns, tree_of}
 use Rattle.heap_check.specs.Rows.{rows_of}
 use Rattle.heap_check.specs.declared.rows.LiveRow.{LiveRow}
-use Rattle.indexed_rules.specs.Entries.{has_alive, may_be_named}
-use Rattle.indexed_rules.specs.Rows.{key_in, keys_of}
+use Rattle.indexed_rules.specs.Entries.{tree_entries, has_alive, may_be_named}
+use Rattle.indexed_rules.specs.Rows.{key_numbers, more_numbers, values_at}
 
 -- what each of these gives, in their order
 abbrev pub of_each : {L X : Type 0} → Joins L → (X → L) → List X → L
@@ -36,14 +34,21 @@ abbrev pub missing_rule : (has : Bool) → Option Rule
 missing_rule true = None
 missing_rule false = Some X1
 
--- a row with this key, or without one that can be read
-abbrev pub row_lists_by : (number : ℕ) → (List Value → Tid → Bool) → LiveRow → Option (List Value) → Lists
-row_lists_by number has row (Some key) = finding_at (Tuple number row.tid) (missing_rule (has key row.root))
-row_lists_by number has row None = doubt_at (Tuple number row.tid) (Some U6)
+-- whether an index has an entry with a key, included values and a TID
+abbrev pub Has : Type 0
+Has = (key more : List Value) → Tid → Bool
+
+-- a row with this key and these included values, or without some that can be read
+abbrev pub row_lists_by : (number : ℕ) → Has → LiveRow → (key more : Option (List Value)) → Lists
+row_lists_by number has row (Some key) (Some more) =
+    finding_at (Tuple number row.tid) (missing_rule (has key more row.root))
+row_lists_by number has row (Some key) None = doubt_at (Tuple number row.tid) (Some U6)
+row_lists_by number has row None more = doubt_at (Tuple number row.tid) (Some U6)
 
 -- a row of an index with these columns, which has such entries
-unfoldable pub row_lists : (number : ℕ) → List KeySpec → (List Value → Tid → Bool) → LiveRow → Lists
-row_lists number specs has row = row_lists_by number has row (key_in specs row.cells)
+unfoldable pub row_lists : (number : ℕ) → TreeColumns → Has → LiveRow → Lists
+row_lists number columns has row =
+    row_lists_by number has row (values_at (key_numbers columns) row.cells) (values_at (more_numbers columns) row.cells)
 
 -- Entries
 
@@ -93,7 +98,7 @@ leaves_lists number columns may blocks block =
 -- the live rows by rising TID: U6 and X1
 unfoldable pub rows_lists : CaseRecord → Names → ℕ → Lists
 rows_lists case names n =
-    of_each report_lists (row_lists n (keys_of case n) (has_alive (keys_of case n) (image_of (tree_of case names n))))
+    of_each report_lists (row_lists n (case_columns case n) (has_alive (tree_entries (tree_of case names n))))
     (rows_of case names)
 
 -- the entries by block, item and place in the item: X2

@@ -7,12 +7,8 @@ ghost use Rattle.outside.specs.Outside.{Names};
 ghost use Rattle.case_file.specs.Record.{CaseRecord};
 ghost use Rattle.indexed_rules.specs.Broken.{IsJudged};
 
-use key_orders::key_orders_are_total;
-
 /// What is listed of a heap and an index of it is what is broken and what is in doubt: see `IsJudged`. It
 /// does nothing.
 pub fn heaps_and_indexes_are_judged()
     ensures { (case : CaseRecord) (names : Names) (n : ℕ) → IsJudged case names n }
-{
-    key_orders_are_total();
-}
+{}

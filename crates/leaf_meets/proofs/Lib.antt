@@ -1,3 +1,2 @@
-pub mod FirstTold
 pub mod Meets
 pub mod PlainKeys

@@ -1,20 +1,17 @@
 -- Entries after others, and none.
-use Rattle.std.proofs.Common.{◌≡◌, ◌∙◌, ℕ, zero, suc, ◌+◌, List, [], ◌∷◌, ◌++◌, Bool, true, false, refl, ap, arith, sym, take}
+use Rattle.std.proofs.Common.{◌≡◌, ◌∙◌, ℕ, zero, suc, ◌+◌, List, [], ◌∷◌, ◌++◌, length, Bool, true, false, refl, ap, arith, sym, take}
 use Rattle.std.specs.Prelude.{cond, filter, if◌then◌else◌, map, Option, Some, None, slice_get}
-use Rattle.tree_search.specs.Keys.{Entry}
 use Rattle.key_orders.specs.declared.columns.Value.{Value}
 use Rattle.key_orders.specs.declared.Tid.{Tid}
 use Rattle.bt_tuples.specs.Items.{Posting}
-use Rattle.tree_image.specs.Image.{keys_in as entries_in}
 use Rattle.varlena_attrs.specs.Columns.{TreeColumns}
-use Rattle.tree_image.specs.Image.{page_keys}
+use Rattle.tree_image.specs.Image.{LeafEntry, entries_in, leaf_entry, page_entries}
 use Rattle.bt_steps.specs.Pages.{is_live_leaf}
-use Rattle.bt_steps.proofs.Items.{entry_with}
 use Rattle.row_slots.specs.Met.{Keyed, Keys, Mets, keyed, met_after, met_by}
 use Rattle.row_slots.specs.Slots.{SameRange, Tables, keys_in, met_in}
-use Rattle.leaf_meets.specs.Meeting.{HaveMet, alive_in, is_alive, keyed_entry, leaf_keys}
+use Rattle.leaf_meets.specs.Meeting.{HaveMet, alive_in, is_alive, keyed_entry, leaf_entries}
 
-pub alive-append : (xs ys : List (Entry Value Tid)) → alive_in (xs ++ ys) ≡ alive_in xs ++ alive_in ys
+pub alive-append : (xs ys : List LeafEntry) → alive_in (xs ++ ys) ≡ alive_in xs ++ alive_in ys
 alive-append [] ys = refl
 alive-append (e ∷ xs) ys = by (is_alive e) (alive-append xs ys)
   where
@@ -29,7 +26,7 @@ met-append keys (x ∷ xs) ys met = met-append keys xs ys (met_by keys met x)
 pub none : (t : Tables) → HaveMet [] t t
 none t = record { met = refl; keys = refl; range = record { first = refl; blocks = refl; has = refl } }
 
-pub met-then : (xs ys : List (Entry Value Tid)) (a b c : Tables) → HaveMet xs a b → HaveMet ys b c → HaveMet (xs ++ ys) a c
+pub met-then : (xs ys : List LeafEntry) (a b c : Tables) → HaveMet xs a b → HaveMet ys b c → HaveMet (xs ++ ys) a c
 met-then xs ys a b c h g = record {
   met =
       g.met
@@ -41,15 +38,15 @@ met-then xs ys a b c h g = record {
 }
 
 -- the same entries by another list
-pub same : (xs ys : List (Entry Value Tid)) (a b : Tables) → xs ≡ ys → HaveMet xs a b → HaveMet ys a b
-same xs ys a b is h = record { met = h.met ∙ ap (λ (l : List (Entry Value Tid)). met_after (keys_in a) (alive_in l) (met_in a)) is; keys = h.keys; range = h.range }
+pub same : (xs ys : List LeafEntry) (a b : Tables) → xs ≡ ys → HaveMet xs a b → HaveMet ys a b
+same xs ys a b is h = record { met = h.met ∙ ap (λ (l : List LeafEntry). met_after (keys_in a) (alive_in l) (met_in a)) is; keys = h.keys; range = h.range }
 
 -- one entry that isn't killed, and one that is
-pub one : (key : List Value) (tid : Tid) (a b : Tables) → met_in b ≡ met_by (keys_in a) (met_in a) (keyed tid key) → keys_in b ≡ keys_in a → SameRange a b → HaveMet (entry_with key false tid ∷ []) a b
-one key tid a b met keys range = record { met = met; keys = keys; range = range }
+pub one : (key more : List Value) (tid : Tid) (a b : Tables) → met_in b ≡ met_by (keys_in a) (met_in a) (keyed tid (key ++ more)) → keys_in b ≡ keys_in a → SameRange a b → HaveMet (leaf_entry key more tid false ∷ []) a b
+one key more tid a b met keys range = record { met = met; keys = keys; range = range }
 
-pub killed-one : (key : List Value) (tid : Tid) (a : Tables) → HaveMet (entry_with key true tid ∷ []) a a
-killed-one key tid a = record { met = refl; keys = refl; range = record { first = refl; blocks = refl; has = refl } }
+pub killed-one : (key more : List Value) (tid : Tid) (a : Tables) → HaveMet (leaf_entry key more tid true ∷ []) a a
+killed-one key more tid a = record { met = refl; keys = refl; range = record { first = refl; blocks = refl; has = refl } }
 
 killed-none : (key : List Value) (tids : List Tid) → alive_in (entries_in (Posting key tids true)) ≡ []
 killed-none key [] = refl
@@ -62,23 +59,36 @@ killed-list key tids a = record {
   range = record { first = refl; blocks = refl; has = refl };
 }
 
+-- the entries of a list of TIDs
+pub list-count : (key : List Value) (tids : List Tid) (killed : Bool) → length (entries_in (Posting key tids killed)) ≡ length tids
+list-count key [] killed = refl
+list-count key (t ∷ ts) killed = ap suc (list-count key ts killed)
+
+pub list-get : (key : List Value) (tids : List Tid) (killed : Bool) (k : ℕ) (t : Tid) → slice_get tids k ≡ Some t → slice_get (entries_in (Posting key tids killed)) k ≡ Some (leaf_entry key [] t killed)
+list-get key [] killed k t e = absurd cc
+list-get key (u ∷ ts) killed zero t e = ap (λ (o : Tid). Some (leaf_entry key [] o killed)) (inner e)
+  where
+    inner : ◌≡◌ {A = Option Tid} (Some u) (Some t) → u ≡ t
+    inner h = cc
+list-get key (u ∷ ts) killed (suc k) t e = list-get key ts killed k t e
+
 -- a list with one more
-abbrev as_entry : Entry Value Tid → Option (Entry Value Tid) → Entry Value Tid
+abbrev as_entry : LeafEntry → Option LeafEntry → LeafEntry
 as_entry d (Some e) = e
 as_entry d None = d
 
-pub taken : (es : List (Entry Value Tid)) (k : ℕ) (e : Entry Value Tid) → slice_get es k ≡ Some e → take (k + 1) es ≡ take k es ++ e ∷ []
+pub taken : (es : List LeafEntry) (k : ℕ) (e : LeafEntry) → slice_get es k ≡ Some e → take (k + 1) es ≡ take k es ++ e ∷ []
 taken [] k e is = absurd cc
-taken (x ∷ xs) zero e is = ap (λ (o : Option (Entry Value Tid)). as_entry x o ∷ []) is
+taken (x ∷ xs) zero e is = ap (λ (o : Option LeafEntry). as_entry x o ∷ []) is
 taken (x ∷ xs) (suc k) e is =
     let n : suc k + 1 ≡ suc (k + 1) = omega arith in
-    ap (λ (m : ℕ). take m (x ∷ xs)) n ∙ ap (λ (l : List (Entry Value Tid)). x ∷ l) (taken xs k e is)
+    ap (λ (m : ℕ). take m (x ∷ xs)) n ∙ ap (λ (l : List LeafEntry). x ∷ l) (taken xs k e is)
 
 -- a page that is no leaf in use has none, and one that is those of its items
-pub no-leaf : (columns : TreeColumns) (page : List ℕ) → is_live_leaf page ≡ false → leaf_keys columns page ≡ []
-unfolding leaf_keys
-no-leaf columns page none = ap (λ (live : Bool). if live then page_keys columns.specs columns.more page else []) none
+pub no-leaf : (columns : TreeColumns) (page : List ℕ) → is_live_leaf page ≡ false → leaf_entries columns page ≡ []
+unfolding leaf_entries
+no-leaf columns page none = ap (λ (live : Bool). if live then page_entries columns.specs columns.more page else []) none
 
-pub a-leaf : (columns : TreeColumns) (page : List ℕ) → is_live_leaf page ≡ true → leaf_keys columns page ≡ page_keys columns.specs columns.more page
-unfolding leaf_keys
-a-leaf columns page live = ap (λ (l : Bool). if l then page_keys columns.specs columns.more page else []) live
+pub a-leaf : (columns : TreeColumns) (page : List ℕ) → is_live_leaf page ≡ true → leaf_entries columns page ≡ page_entries columns.specs columns.more page
+unfolding leaf_entries
+a-leaf columns page live = ap (λ (l : Bool). if l then page_entries columns.specs columns.more page else []) live

@@ -3,12 +3,11 @@ ghost use Rattle.std.specs.Prelude.{◌≡◌, ◌≤◌, None, false, true};
 ghost use Rattle.page_layout.specs.Page.{count_of, page_rule_of};
 ghost use Rattle.page_layout.specs.View.{page_bytes};
 ghost use Rattle.varlena_attrs.specs.Columns.{tree_columns};
-ghost use Rattle.tree_image.specs.Image.{first_data, keys_in};
+ghost use Rattle.tree_image.specs.Image.{entries_in, first_data, page_entries};
 ghost use Rattle.bt_tuples.specs.Items.{Posting};
-ghost use Rattle.bt_steps.specs.Entries.{IsRead, keys_at};
+ghost use Rattle.bt_steps.specs.Entries.{IsRead};
 ghost use Rattle.bt_steps.specs.Pages.{IsReadable, is_live_leaf};
-ghost use Rattle.tree_image.specs.Image.{page_keys};
-ghost use Rattle.leaf_meets.specs.Meeting.{HaveMet, leaf_keys};
+ghost use Rattle.leaf_meets.specs.Meeting.{HaveMet, entries_at, leaf_entries};
 
 use crate::ahead::RowsAhead;
 use bt_steps::is_live_leaf;
@@ -16,15 +15,20 @@ use bt_tuples::{Spot3, TidList, TreeItem, plain_entry, tree_item};
 use key_orders::KeyRefs;
 use page_layout::{PageKind, PageView};
 use row_slots::RowSlots;
+use stored_keys::RowValues;
 use tree_image::first_data;
 use varlena_attrs::IndexColumns;
 
 // Meets the rows that a list names, none of whose entries is killed.
 fn meet_list(slots: &mut RowSlots, key: &KeyRefs<'_>, tids: &TidList<'_>)
-    ensures { HaveMet (keys_in (Posting key.now tids.now false)) slots.old slots.new }
+    ensures { HaveMet (entries_in (Posting key.now tids.now false)) slots.old slots.new }
 {
+    let values = RowValues {
+        key: key.as_slice(),
+        more: &[],
+    };
     for k in 0..tids.len() {
-        slots.meet(tids.get(k), key);
+        slots.meet(tids.get(k), values);
     }
 }
 
@@ -36,19 +40,23 @@ fn meet_any_item(slots: &mut RowSlots, columns: &IndexColumns<'_>, page: PageVie
     requires first { 1 ≤ i }
     requires last { i ≤ count_of (page_bytes page) }
     ensures { IsRead (tree_columns columns.now) (page_bytes page.entry) i
-        → HaveMet (keys_at (tree_columns columns.now) (page_bytes page.entry) i) slots.old slots.new }
+        → HaveMet (entries_at (tree_columns columns.now) (page_bytes page.entry) i) slots.old slots.new }
 {
     match tree_item(page, i, columns, Spot3::LeafItem) {
         Ok(
             TreeItem::Plain {
                 key,
+                more,
                 tid,
                 killed,
-                ..
             },
         ) => {
             if !killed {
-                slots.meet(tid, &key);
+                let values = RowValues {
+                    key: key.as_slice(),
+                    more: more.as_slice(),
+                };
+                slots.meet(tid, values);
             }
         }
         Ok(TreeItem::Posting { key, tids, killed }) => {
@@ -67,7 +75,7 @@ fn meet_item(slots: &mut RowSlots, columns: &IndexColumns<'_>, page: PageView<'_
     requires first { 1 ≤ i }
     requires last { i ≤ count_of (page_bytes page) }
     ensures { IsRead (tree_columns columns.now) (page_bytes page.entry) i
-        → HaveMet (keys_at (tree_columns columns.now) (page_bytes page.entry) i) slots.old slots.new }
+        → HaveMet (entries_at (tree_columns columns.now) (page_bytes page.entry) i) slots.old slots.new }
 {
     let Some(entry) = plain_entry(page, i) else {
         meet_any_item(slots, columns, page, i);
@@ -86,7 +94,8 @@ fn meet_items(slots: &mut RowSlots, columns: &IndexColumns<'_>, page: PageView<'
     requires page { page_rule_of PageKind.Tree (page_bytes page) ≡ None }
     ensures { IsReadable (tree_columns columns.now) (page_bytes page.entry)
         → is_live_leaf (page_bytes page.entry) ≡ true
-        → HaveMet (page_keys columns.now.specs.now columns.now.more.now (page_bytes page.entry)) slots.old slots.new }
+        → HaveMet (page_entries columns.now.specs.now columns.now.more.now (page_bytes page.entry))
+        slots.old slots.new }
 {
     let first = first_data(page);
     let count = (page.item_count() + 1).saturating_sub(first);
@@ -105,7 +114,7 @@ pub fn meet_page(
     ahead: &RowsAhead,
 )
     ensures { (is_live_leaf page.now ≡ true → IsReadable (tree_columns columns.now) page.now)
-        → HaveMet (leaf_keys (tree_columns columns.now) page.now) slots.old slots.new }
+        → HaveMet (leaf_entries (tree_columns columns.now) page.now) slots.old slots.new }
 {
     let page = PageView::new(page);
     if !is_live_leaf(page) || page.page_rule(PageKind::Tree).is_some() {

@@ -1,5 +1,5 @@
 -- A key that is put behind the others.
-use Rattle.std.proofs.Common.{◌≡◌, ◌∙◌, ℕ, ◌+◌, ◌-◌, ◌<◌, ◌≤◌, Bool, true, false, List, [], ◌++◌, length, get_or, drop, take, refl, ap, sym, subst, arith, inl, inr, append_assoc, append-nil}
+use Rattle.std.proofs.Common.{◌≡◌, ◌∙◌, ℕ, ◌+◌, ◌-◌, ◌<◌, Bool, true, false, List, [], ◌++◌, length, get_or, drop, take, refl, ap, sym, subst, arith, inl, inr, append_assoc, append-nil}
 use Rattle.std.proofs.Common.{get_or-set_other, get_or-set_same}
 use Rattle.std.specs.Prelude.{All, cond, Some, None, slice_set}
 use Rattle.std.proofs.lemmas.Bool.{cases_eq, eq-eqb, ne_eqb}
@@ -20,7 +20,7 @@ as_number false = 0
 read_there : (arena : List ℕ) (at : ℕ) (lies : LiesAt arena at) → key_read (drop at arena) ≡ lies.key
 read_there arena at lies =
     (λ i. key_read (drop (sym lies.at_is i) (lies.bytes i)))
-    ∙ (ap key_read (drop-append_seam lies.before (stored_key lies.key ++ lies.rest)) ∙ key_back lies.key lies.rest lies.few lies.storable)
+    ∙ (ap key_read (drop-append_seam lies.before (stored_key lies.key ++ lies.rest)) ∙ key_back lies.key lies.rest lies.storable)
 
 key_of_some : (arena : List ℕ) (r : ℕ) (lies : LiesAt arena r) → key_of arena (r + 1) ≡ Some lies.key
 unfolding key_of
@@ -34,7 +34,6 @@ lies_more arena more at lies = record {
   before = lies.before;
   key = lies.key;
   rest = lies.rest ++ more;
-  few = lies.few;
   storable = lies.storable;
   at_is = lies.at_is;
   bytes =
@@ -43,12 +42,11 @@ lies_more arena more at lies = record {
       ∙ ap (λ w. lies.before ++ w) (append_assoc (stored_key lies.key) lies.rest more));
 }
 
-abbrev lies_last : (arena : List ℕ) (key : List Value) → length key ≤ 8 → All IsStorable key → LiesAt (arena ++ stored_key key) (length arena)
-lies_last arena key few storable = record {
+abbrev lies_last : (arena : List ℕ) (key : List Value) → All IsStorable key → LiesAt (arena ++ stored_key key) (length arena)
+lies_last arena key storable = record {
   before = arena;
   key = key;
   rest = [];
-  few = few;
   storable = storable;
   at_is = refl;
   bytes = ap (λ w. arena ++ w) (sym (append-nil (stored_key key)));
@@ -71,22 +69,22 @@ still records arena more k kept = elim (cases_eq (get_or records k 0) 0) [
       ∙ (key_of_some (arena ++ more) r (lies_more arena more r lies) ∙ (sym (key_of_some arena r lies) ∙ (λ i. key_of arena (sym e i))))
 ]
 
-pub kept_more : (records arena : List ℕ) (key : List Value) (slot at : ℕ) → slot < length records → at ≡ length arena → length key ≤ 8 → All IsStorable key
+pub kept_more : (records arena : List ℕ) (key : List Value) (slot at : ℕ) → slot < length records → at ≡ length arena → All IsStorable key
     → AreKept records arena → AreKept (slice_set records slot (at + 1)) (arena ++ stored_key key)
 unfolding AreKept
-kept_more records arena key slot at within at_is few storable kept = λ k r e. elim (cases_eq k slot) [
+kept_more records arena key slot at within at_is storable kept = λ k r e. elim (cases_eq k slot) [
   | inl same ↦
       let here : get_or (slice_set records slot (at + 1)) k 0 ≡ at + 1 = ap (λ j. get_or (slice_set records slot (at + 1)) j 0) same ∙ get_or-set_same records slot (at + 1) 0 within in
       let there : length arena ≡ r = omega arith in
-      subst (LiesAt (arena ++ stored_key key)) there (lies_last arena key few storable)
+      subst (LiesAt (arena ++ stored_key key)) there (lies_last arena key storable)
   | inr other ↦ lies_more arena (stored_key key) r (kept k r (sym (get_or-set_other records slot k (at + 1) 0 other) ∙ e))
 ]
 
 pub keys_more : (first : ℕ) (starts records arena : List ℕ) (tid : Tid) (key : List Value) (slot at : ℕ)
-    → AreStarts starts records → AreKept records arena → Some slot ≡ found_slot first starts tid → at ≡ length arena → length key ≤ 8 → All IsStorable key
+    → AreStarts starts records → AreKept records arena → Some slot ≡ found_slot first starts tid → at ≡ length arena → All IsStorable key
     → keys_of first starts (slice_set records slot (at + 1)) (arena ++ stored_key key) ≡ keys_with (keys_of first starts records arena) tid key
 unfolding keys_of
-keys_more first starts records arena tid key slot at are kept e at_is few storable = λ i t. by t (is_within first starts t) refl i
+keys_more first starts records arena tid key slot at are kept e at_is storable = λ i t. by t (is_within first starts t) refl i
   where
     new : List ℕ
     new = slice_set records slot (at + 1)
@@ -110,7 +108,7 @@ keys_more first starts records arena tid key slot at are kept e at_is few storab
     value : key_of more (get_or new slot 0) ≡ Some key
     value =
         (λ i. key_of more ((get_or-set_same records slot (at + 1) 0 (found_below first starts records tid slot are e) ∙ ap (λ n. n + 1) at_is) i))
-        ∙ key_of_some more (length arena) (lies_last arena key few storable)
+        ∙ key_of_some more (length arena) (lies_last arena key storable)
 
     differs : (t : Tid) → Within first starts t → same_tid t tid ≡ false → slot_of first starts t ≡ slot → ⊥
     differs t w h same =

@@ -1,6 +1,6 @@
 -- What is known of all rows that are kept, and of one that has a key.
 use Rattle.std.proofs.Common.{◌≡◌, ◌∙◌, ℕ, ◌-◌, Bool, true, false, List, get_or, refl, ap, sym, arith}
-use Rattle.std.specs.Prelude.{cond, ◌&&◌, ◌≢◌, Option, Some, None, ◌∷◌, ◌≤◌, drop, length}
+use Rattle.std.specs.Prelude.{cond, ◌&&◌, ◌≢◌, Option, Some, None, ◌∷◌, drop, length}
 use Rattle.std.proofs.lemmas.Bool.{eq-eqb, ne_eqb}
 use Rattle.key_orders.specs.declared.Tid.{Tid}
 use Rattle.key_orders.specs.declared.columns.Value.{Value}
@@ -46,12 +46,12 @@ all_met first starts records arena bits are set tid key e =
     ∙ set (slot_of first starts tid) lt (λ none. has_number arena (get_or records (slot_of first starts tid) 0) key held none)
 
 -- a key that is read as so many values
-pub plain_key : (arena values : List ℕ) (count n place : ℕ) (key : List Value) → place ≢ 0 → n ≤ 8 → count ≡ n
+pub plain_key : (arena values : List ℕ) (count n place : ℕ) (key : List Value) → place ≢ 0 → count ≡ n
     → drop (place - 1) arena ≡ count ∷ values → values_read n values ≡ key → is_key key (key_of arena place) ≡ true
 unfolding key_of key_read
-plain_key arena values count n place key some few same bytes is =
+plain_key arena values count n place key some same bytes is =
     let read : key_read (drop (place - 1) arena) ≡ key =
-    ap key_read bytes ∙ (ap (λ m. values_read m values) (omega arith) ∙ is) in
+    ap key_read bytes ∙ (ap (λ m. values_read m values) same ∙ is) in
     let held : key_of arena place ≡ Some key =
     ap (λ b. cond b None (Some (key_read (drop (place - 1) arena)))) (ne_eqb place 0 some) ∙ ap Some read in
     ap (is_key key) held ∙ (keys_decide key key).1 refl

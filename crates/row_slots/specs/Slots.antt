@@ -52,7 +52,6 @@ pub record LiesAt (arena : List ℕ) (at : ℕ) : Type 0 where
   pub before : List ℕ
   pub key : List Value
   pub rest : List ℕ
-  pub few : length key ≤ 8
   pub storable : All IsStorable key
   pub at_is : length before ≡ at
   pub bytes : arena ≡ before ++ (stored_key key ++ rest)

@@ -1,8 +1,10 @@
 //! The slots of a range of heap blocks.
-ghost use Rattle.std.specs.Prelude.{◌≡◌, List, None, Ok, Some, false, true};
+ghost use Rattle.std.specs.Prelude.{◌≡◌, ◌<◌, List, None, Ok, Some, false, length, true};
 ghost use Rattle.std.specs.Prelude.{IfOk, IfSome, OnErr, OnOk};
 ghost use Rattle.std.specs.Bool.{OnFalse, OnTrue};
 ghost use Rattle.key_orders.specs.declared.columns.Value.{Value as Shown};
+ghost use Rattle.stored_keys.specs.Rows.{row_values};
+ghost use Rattle.varlena_attrs.specs.Columns.{tree_columns};
 ghost use Rattle.row_slots.specs.Met.{keyed, met_by};
 ghost use Rattle.row_slots.specs.Slots.{AreAllMet, HasBlock, IsBegun, SameRange, keys_in, keys_with, met_in};
 ghost use Rattle.row_slots.specs.Told.{TellsKey};
@@ -12,10 +14,11 @@ use crate::blocks::add_block_in;
 use crate::slots::{
     Kept, bytes_at, find, is_kept_in, is_met_in, meet_in, meet_plain_in, places_of, put_at,
 };
-use key_orders::{KeyRefs, Tid};
+use key_orders::Tid;
 use outside::NoMemory;
 use std::alloc::Global;
 use std::marker::Model;
+use stored_keys::RowValues;
 use varlena_attrs::IndexColumns;
 
 /// The rows of a range of heap blocks, each by the line pointer at which it is rooted, with its key and with whether an
@@ -100,8 +103,10 @@ impl RowSlots {
 
     /// Keeps the key of the row that is rooted at a line pointer; `false` where the range has no such line pointer, or
     /// a row is kept there already, and then nothing changes. After `NoMemory` all is as it was.
-    pub fn put(&mut self, tid: Tid, key: &KeyRefs<'_>) -> Result<bool, NoMemory>
-        ensures kept { IfOk result (λ kept. kept ≡ true → keys_in self.new ≡ keys_with (keys_in self.old) tid key.now) }
+    pub fn put(&mut self, tid: Tid, values: RowValues<'_>) -> Result<bool, NoMemory>
+        requires few { length (row_values values) < 256 }
+        ensures kept { IfOk result (λ kept. kept ≡ true → keys_in self.new ≡ keys_with (keys_in self.old) tid
+            (row_values values.entry)) }
         ensures fresh { IfOk result (λ kept. kept ≡ true → keys_in self.old tid ≡ None) }
         ensures full { IfOk result (λ kept. kept ≡ false → keys_in self.new ≡ keys_in self.old) }
         ensures err { OnErr result (keys_in self.new ≡ keys_in self.old) }
@@ -114,7 +119,7 @@ impl RowSlots {
         if self.records[slot] != 0 {
             return Ok(false);
         }
-        put_at(slot, &mut self.records, &mut self.arena, key)?;
+        put_at(slot, &mut self.records, &mut self.arena, values)?;
         Ok(true)
     }
 
@@ -135,8 +140,9 @@ impl RowSlots {
 
     /// Meets the row that is rooted at a line pointer, if there is one and its values are these: numbers that are
     /// equal, and bytes of the same length and content. All else stays.
-    pub fn meet(&mut self, tid: Tid, key: &KeyRefs<'_>)
-        ensures met { met_in self.new ≡ met_by (keys_in self.old) (met_in self.old) (keyed tid key.now) }
+    pub fn meet(&mut self, tid: Tid, values: RowValues<'_>)
+        ensures met { met_in self.new
+            ≡ met_by (keys_in self.old) (met_in self.old) (keyed tid (row_values values.entry)) }
         ensures keys { keys_in self.new ≡ keys_in self.old }
         ensures range { SameRange self.old self.new }
     {
@@ -146,14 +152,14 @@ impl RowSlots {
             records: &self.records,
             arena: &self.arena,
         };
-        meet_in(kept, &mut self.bits, tid, key);
+        meet_in(kept, &mut self.bits, tid, values);
     }
 
     /// Does the same for the key of an index tuple without null bits, which has this body, where its bytes tell as they
     /// lie whether it is the row's. `false` says that they don't, and then nothing changes.
     #[inline]
     pub fn meet_plain(&mut self, tid: Tid, columns: &IndexColumns<'_>, body: &[u8]) -> bool
-        ensures met { OnTrue result ((key : List Shown) → TellsKey columns.now.specs.now body.now key
+        ensures met { OnTrue result ((key : List Shown) → TellsKey (tree_columns columns.now) body.now key
             → met_in self.new ≡ met_by (keys_in self.old) (met_in self.old) (keyed tid key)) }
         ensures same { OnFalse result (met_in self.new ≡ met_in self.old) }
         ensures keys { keys_in self.new ≡ keys_in self.old }
@@ -169,8 +175,9 @@ impl RowSlots {
     }
 
     /// Whether the row that is rooted at a line pointer and has this key was met; `None` where no such row is kept.
-    pub fn is_met(&self, tid: Tid, key: &KeyRefs<'_>) -> Option<bool>
-        ensures { IfSome result (λ met. (keys_in self.now tid ≡ Some key.now) × (met ≡ met_in self.now tid)) }
+    pub fn is_met(&self, tid: Tid, values: RowValues<'_>) -> Option<bool>
+        ensures { IfSome result (λ met. (keys_in self.now tid ≡ Some (row_values values.entry))
+            × (met ≡ met_in self.now tid)) }
     {
         let kept = Kept {
             first: self.first,
@@ -178,7 +185,7 @@ impl RowSlots {
             records: &self.records,
             arena: &self.arena,
         };
-        if !is_kept_in(kept, tid, key) {
+        if !is_kept_in(kept, tid, values) {
             return None;
         }
         Some(is_met_in(kept, &self.bits, tid))

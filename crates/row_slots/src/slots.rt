@@ -1,17 +1,19 @@
 //! Steps over the tables.
-ghost use Rattle.std.specs.Prelude.{◌≡◌, ◌+◌, ◌++◌, ◌<◌, ◌≤◌, [], All, List, drop, length, slice_set};
+ghost use Rattle.std.specs.Prelude.{◌≡◌, ◌+◌, ◌++◌, ◌<◌, ◌≤◌, ◌^◌, [], All, List, drop, length, slice_set};
 ghost use Rattle.std.specs.Prelude.{None, Ok, OnErr, OnOk, true};
 ghost use Rattle.std.specs.Bool.{OnFalse, OnTrue};
 ghost use Rattle.key_orders.specs.declared.columns.Value.{Value as Shown};
+ghost use Rattle.stored_keys.specs.Rows.{row_values};
 ghost use Rattle.stored_keys.specs.Stored.{IsStorable, stored_key};
+ghost use Rattle.varlena_attrs.specs.Columns.{tree_columns};
 ghost use Rattle.row_slots.specs.Met.{is_key, keyed, met_by};
 ghost use Rattle.row_slots.specs.Slots.{AreBits, AreStarts, found_slot, key_of, keys_of, mets_of};
 ghost use Rattle.row_slots.specs.Told.{TellsKey};
 
 use crate::bits::{is_set, set_bit};
-use key_orders::{KeyRefs, Tid};
+use key_orders::Tid;
 use outside::NoMemory;
-use stored_keys::{is_stored, write_key};
+use stored_keys::{RowValues, is_stored, write_key};
 use varlena_attrs::{IndexColumns, has_stored_key};
 
 /// Which rows are kept, and their keys.
@@ -94,20 +96,20 @@ pub(crate) fn bytes_at(arena: &[u8], places: &[u32; AHEAD]) -> u8 {
 // Whether a slot says that this key lies in the arena.
 #[inline]
 #[tactic(auto, unfolding(crate::specs::Slots::key_of))]
-pub(crate) fn holds(arena: &[u8], place: u32, key: &KeyRefs<'_>) -> bool
-    ensures { result ≡ is_key key.now (key_of arena.now place) }
+pub(crate) fn holds(arena: &[u8], place: u32, values: RowValues<'_>) -> bool
+    ensures { result ≡ is_key (row_values values.entry) (key_of arena.now place) }
 {
     if place == 0 {
         return false;
     }
-    is_stored(bytes_from(arena, place - 1), key)
+    is_stored(bytes_from(arena, place - 1), values)
 }
 
 // Whether a slot says that the key lies there that an index tuple without null bits has, whose body this is. `false`
 // says nothing.
 #[inline]
 fn holds_plain(arena: &[u8], place: u32, columns: &IndexColumns<'_>, body: &[u8]) -> bool
-    ensures { OnTrue result ((key : List Shown) → TellsKey columns.now.specs.now body.now key
+    ensures { OnTrue result ((key : List Shown) → TellsKey (tree_columns columns.now) body.now key
         → is_key key (key_of arena.now place) ≡ true) }
 {
     if place == 0 {
@@ -115,24 +117,25 @@ fn holds_plain(arena: &[u8], place: u32, columns: &IndexColumns<'_>, body: &[u8]
     }
     match bytes_from(arena, place - 1).split_first() {
         Some((count, values)) => {
-            *count as usize == columns.specs.len() && has_stored_key(columns, body, values)
+            let columns_count = columns.specs.len() + columns.more.len();
+            *count as usize == columns_count && has_stored_key(columns, body, values)
         }
         None => false,
     }
 }
 
 // Sets the bit of the row that is rooted there, if its key is this one.
-pub(crate) fn meet_in(kept: Kept<'_>, bits: &mut [u8], tid: Tid, key: &KeyRefs<'_>)
+pub(crate) fn meet_in(kept: Kept<'_>, bits: &mut [u8], tid: Tid, values: RowValues<'_>)
     requires starts { AreStarts kept.starts.now kept.records.now }
     requires bits { AreBits kept.records.now bits.old }
     ensures met { mets_of kept.entry.first kept.entry.starts.now bits.new
         ≡ met_by (keys_of kept.entry.first kept.entry.starts.now kept.entry.records.now kept.entry.arena.now)
-        (mets_of kept.entry.first kept.entry.starts.now bits.old) (keyed tid key.now) }
+        (mets_of kept.entry.first kept.entry.starts.now bits.old) (keyed tid (row_values values.entry)) }
     ensures bits { AreBits kept.entry.records.now bits.new }
 {
     match find(kept.first, kept.starts, tid) {
         Some(slot) => {
-            if holds(kept.arena, kept.records[slot], key) {
+            if holds(kept.arena, kept.records[slot], values) {
                 set_bit(bits, slot);
             }
         }
@@ -152,7 +155,7 @@ pub(crate) fn meet_plain_in(
 ) -> bool
     requires starts { AreStarts kept.starts.now kept.records.now }
     requires bits { AreBits kept.records.now bits.old }
-    ensures met { OnTrue result ((key : List Shown) → TellsKey columns.now.specs.now body.now key
+    ensures met { OnTrue result ((key : List Shown) → TellsKey (tree_columns columns.now) body.now key
         → mets_of kept.entry.first kept.entry.starts.now bits.new
         ≡ met_by (keys_of kept.entry.first kept.entry.starts.now kept.entry.records.now kept.entry.arena.now)
         (mets_of kept.entry.first kept.entry.starts.now bits.old) (keyed tid key)) }
@@ -186,13 +189,13 @@ pub(crate) fn is_met_in(kept: Kept<'_>, bits: &[u8], tid: Tid) -> bool
 }
 
 /// Whether this key is kept for the row that is rooted there.
-pub(crate) fn is_kept_in(kept: Kept<'_>, tid: Tid, key: &KeyRefs<'_>) -> bool
+pub(crate) fn is_kept_in(kept: Kept<'_>, tid: Tid, values: RowValues<'_>) -> bool
     requires starts { AreStarts kept.starts.now kept.records.now }
-    ensures { result ≡ is_key key.now
+    ensures { result ≡ is_key (row_values values.entry)
         (keys_of kept.entry.first kept.entry.starts.now kept.entry.records.now kept.entry.arena.now tid) }
 {
     match find(kept.first, kept.starts, tid) {
-        Some(slot) => holds(kept.arena, kept.records[slot], key),
+        Some(slot) => holds(kept.arena, kept.records[slot], values),
         None => false,
     }
 }
@@ -202,18 +205,18 @@ pub(crate) fn put_at(
     slot: usize,
     records: &mut [u32],
     arena: &mut Vec<u8>,
-    key: &KeyRefs<'_>,
+    values: RowValues<'_>,
 ) -> Result<(), NoMemory>
-    requires { slot < length records.old }
+    requires slot { slot < length records.old }
+    requires few { length (row_values values) < 256 }
     ensures records { OnOk result (records.new ≡ slice_set records.old slot (length arena.old.items + 1)) }
-    ensures arena { OnOk result (arena.new.items ≡ arena.old.items ++ stored_key key.now) }
-    ensures storable { OnOk result (All IsStorable key.now) }
-    ensures few { OnOk result (length key.now ≤ 8) }
+    ensures arena { OnOk result (arena.new.items ≡ arena.old.items ++ stored_key (row_values values.entry)) }
+    ensures storable { OnOk result (All IsStorable (row_values values.entry)) }
     ensures none { OnErr result (records.new ≡ records.old) }
     ensures same { OnErr result (arena.new.items ≡ arena.old.items) }
 {
     let at = arena.len();
-    write_key(arena, key)?;
+    write_key(arena, values)?;
     records[slot] = at as u32 + 1;
     Ok(())
 }

@@ -5,6 +5,8 @@
 #[cfg(test)]
 mod expected;
 #[cfg(test)]
+mod included;
+#[cfg(test)]
 mod index;
 #[cfg(test)]
 mod indexed;

@@ -1,6 +1,6 @@
 -- The tests of values and keys say what is equal.
-use Rattle.std.proofs.Common.{◌≡◌, ℕ, Bool, true, false, List, [], refl, ap, arith}
-use Rattle.std.specs.Prelude.{Decides, ℤ}
+use Rattle.std.proofs.Common.{◌≡◌, ◌∙◌, ◌∷◌, ◌++◌, ℕ, Bool, true, false, List, [], length, refl, ap, arith}
+use Rattle.std.specs.Prelude.{◌&&◌, Decides, ℤ}
 use Rattle.std.proofs.lemmas.Bool.Decides.{Decides-int_eq}
 use Rattle.std.proofs.lemmas.Slice.Eq.{bytes_eq-Decides, slice_eq-Decides}
 use Rattle.key_orders.specs.declared.columns.Value.{Value}
@@ -64,3 +64,24 @@ values (Bytes xs) (Bytes ys) = let d = bytes_eq-Decides xs ys in ((λ h. ap Byte
 
 pub keys_decide : (a b : List Value) → Decides (same_key a b) (a ≡ b)
 keys_decide a b = slice_eq-Decides values a b (same_key a b) refl
+
+assoc : (p q r : Bool) → (p && (q && r)) ≡ ((p && q) && r)
+assoc true q r = refl
+assoc false q r = refl
+
+-- values in two parts
+pub two_parts : (a c b d : List Value) → length a ≡ length c → same_key (a ++ b) (c ++ d) ≡ (same_key a c && same_key b d)
+two_parts [] [] b d e = refl
+two_parts [] (y ∷ c) b d e = absurd (omega (arith, e))
+two_parts (x ∷ a) [] b d e = absurd (omega (arith, e))
+two_parts (x ∷ a) (y ∷ c) b d e =
+    ap (λ (t : Bool). same_value x y && t) (two_parts a c b d (omega (arith, e)))
+    ∙ assoc (same_value x y) (same_key a c) (same_key b d)
+
+-- of another number
+pub other_count : (a b : List Value) → (length a ≡ length b → ⊥) → same_key a b ≡ false
+other_count a b differ = by (same_key a b) refl
+  where
+    by : (same : Bool) → same_key a b ≡ same → same_key a b ≡ false
+    by true e = absurd (differ (ap length ((keys_decide a b).0 e)))
+    by false e = e

@@ -1,6 +1,6 @@
 -- What is stored is read back, whatever stands behind it.
-use Rattle.std.proofs.Common.{◌≡◌, ℕ, suc, ◌+◌, ◌-◌, ◌<◌, ◌≤◌, true, false, List, [], ◌∷◌, ◌++◌, length, map, take, drop, refl, sym, ap, ◌∙◌, subst, arith, append_assoc, length-append}
-use Rattle.std.specs.Prelude.{All, Bool as BoolType, cond, min, nat_lt, ℤ}
+use Rattle.std.proofs.Common.{◌≡◌, ℕ, zero, suc, ◌+◌, ◌-◌, ◌<◌, ◌≤◌, true, false, List, [], ◌∷◌, ◌++◌, length, map, take, drop, refl, sym, ap, ◌∙◌, subst, arith, append_assoc, length-append}
+use Rattle.std.specs.Prelude.{All, Bool as BoolType, cond, nat_lt, ℤ}
 use Rattle.std.specs.List.{flat_map}
 use Rattle.std.specs.Int.{cast_signed, cast_unsigned, from_le_bytes, to_le_bytes}
 use Rattle.std.proofs.lemmas.Bool.{cond-false, le-ltb}
@@ -14,7 +14,7 @@ use Rattle.key_orders.specs.declared.columns.Value.{Value}
 use Rattle.key_orders.specs.declared.columns.ValueRef.{ValueRef}
 use Rattle.key_orders.specs.Values.{value_shown}
 use Rattle.key_orders.specs.declared.columns.Value.TheVariants.{Null, Bool as BoolValue, Int, Bytes}
-use Rattle.stored_keys.specs.Stored.{stored_value, IsStorable, int_read, sized_read, bytes_read, value_read, values_read, key_read}
+use Rattle.stored_keys.specs.Stored.{stored_value, IsStorable, int_read, sized_read, bytes_read, value_read, values_left, values_read, key_read}
 
 front_back : (n : ℕ) (xs rest : List ℕ) → length xs ≡ n → take n (xs ++ rest) ≡ xs
 front_back n xs rest e = subst (λ (m : ℕ). take m (xs ++ rest) ≡ xs) e (take-append_seam xs rest)
@@ -64,11 +64,20 @@ pub next_read : (n i : ℕ) (bytes : List ℕ) → i < n → values_read (n - i)
 next_read n i bytes lt =
     let is : n - i ≡ suc (n - (i + 1)) = omega arith in ap (λ k. values_read k bytes) is
 
-pub key_back : (vs : List Value) (rest : List ℕ) → length vs ≤ 8 → All IsStorable vs → key_read (length vs ∷ (flat_map stored_value vs ++ rest)) ≡ vs
+pub read_count : (n : ℕ) (bytes : List ℕ) → length (values_read n bytes) ≡ n
+read_count zero bytes = refl
+read_count (suc n) bytes = ap suc (read_count n (value_read bytes).1)
+
+-- values that are read in two parts
+pub read_two : (m n : ℕ) (bytes : List ℕ) → values_read (m + n) bytes ≡ values_read m bytes ++ values_read n (values_left m bytes)
+read_two zero n bytes = let e : zero + n ≡ n = omega arith in ap (λ k. values_read k bytes) e
+read_two (suc m) n bytes =
+    let e : suc m + n ≡ suc (m + n) = omega arith in
+    ap (λ k. values_read k bytes) e ∙ ap (λ vs. (value_read bytes).0 ∷ vs) (read_two m n (value_read bytes).1)
+
+pub key_back : (vs : List Value) (rest : List ℕ) → All IsStorable vs → key_read (length vs ∷ (flat_map stored_value vs ++ rest)) ≡ vs
 unfolding key_read
-key_back vs rest few h =
-    let is : min (length vs) 8 ≡ length vs = omega arith in
-    ap (λ n. values_read n (flat_map stored_value vs ++ rest)) is ∙ values_back vs rest h
+key_back vs rest h = values_back vs rest h
 
 -- a key whose values are storable, as they show
 pub storable_key : (values : List ValueRef) (key : List Value) → map value_shown values ≡ key → All (λ v. IsStorable (value_shown v)) values → All IsStorable key

@@ -2,7 +2,7 @@
 -- follows: 0 for null, 1 and 2 for false and true, 3 for a number in 8 bytes, 4 for bytes, whose number stands in the
 -- 4 bytes before them, and 5 for fewer than 256 bytes, whose number stands in the byte before them. Numbers have the
 -- lowest byte first.
-use Rattle.std.specs.Prelude.{ℕ, zero, suc, ◌<◌, ◌^◌, ◌==◌, nat_lt, min, true, false, cond, FitsSigned}
+use Rattle.std.specs.Prelude.{ℕ, zero, suc, ◌<◌, ◌^◌, ◌==◌, nat_lt, true, false, cond, FitsSigned}
 use Rattle.std.specs.Prelude.{List, [], ◌∷◌, ◌++◌, length, take, drop}
 use Rattle.std.specs.List.{flat_map}
 use Rattle.std.specs.Int.{cast_signed, cast_unsigned, from_le_bytes, to_le_bytes}
@@ -73,7 +73,12 @@ abbrev pub values_read : ℕ → List ℕ → List Value
 values_read zero bytes = []
 values_read (suc n) bytes = (value_read bytes).0 ∷ values_read n (value_read bytes).1
 
--- at most 8 values, whose number stands before them
+-- what is left behind them
+abbrev pub values_left : ℕ → List ℕ → List ℕ
+values_left zero bytes = bytes
+values_left (suc n) bytes = values_left n (value_read bytes).1
+
+-- values whose number stands before them
 unfoldable pub key_read : List ℕ → List Value
 key_read [] = []
-key_read (count ∷ bytes) = values_read (min count 8) bytes
+key_read (count ∷ bytes) = values_read count bytes

@@ -1,5 +1,5 @@
 //! What is stored is read back.
-ghost use Rattle.std.specs.Prelude.{◌≡◌, ◌≤◌, ◌++◌, ℕ, All, Decides, List, length};
+ghost use Rattle.std.specs.Prelude.{◌≡◌, ◌++◌, ℕ, All, Decides, List};
 ghost use Rattle.key_orders.specs.declared.columns.Value.{Value as Shown};
 ghost use Rattle.stored_keys.specs.Same.{same_key};
 ghost use Rattle.stored_keys.specs.Stored.{IsStorable, key_read, stored_key};
@@ -8,7 +8,7 @@ ghost use Rattle.stored_keys.specs.Stored.{IsStorable, key_read, stored_key};
 /// are equal (`same`).
 #[tactic(auto, using(crate::proofs::StoredLaws::key_back, crate::proofs::SameLaws::keys_decide))]
 pub fn keys_are_read_back()
-    ensures back { (key : List Shown) (rest : List ℕ) → length key ≤ 8 → All IsStorable key
+    ensures back { (key : List Shown) (rest : List ℕ) → All IsStorable key
         → key_read (stored_key key ++ rest) ≡ key }
     ensures same { (a b : List Shown) → Decides (same_key a b) (a ≡ b) }
 {}

@@ -5,9 +5,11 @@
 mod laws;
 mod read;
 mod same;
+mod values;
 mod write;
 
 pub use laws::keys_are_read_back;
-pub use read::{read_key, read_value};
-pub use same::{after_value, is_stored};
+pub use read::read_value;
+pub use same::{after_value, is_stored, same_values};
+pub use values::RowValues;
 pub use write::write_key;

@@ -1,10 +1,9 @@
-//! Values and keys, read where they lie.
-ghost use Rattle.std.specs.Prelude.{◌≡◌, ◌≤◌, []};
+//! A value, read where it lies.
+ghost use Rattle.std.specs.Prelude.{◌≡◌};
 ghost use Rattle.key_orders.specs.Values.{value_shown};
-ghost use Rattle.stored_keys.specs.Stored.{bytes_read, int_read, key_read, short_read, sized_read, tagged_read};
-ghost use Rattle.stored_keys.specs.Stored.{value_read, values_read};
+ghost use Rattle.stored_keys.specs.Stored.{bytes_read, int_read, short_read, sized_read, tagged_read, value_read};
 
-use key_orders::{KeyRefs, MAX_KEY_COLUMNS, ValueRef};
+use key_orders::ValueRef;
 
 fn read_int(bytes: &[u8]) -> (ValueRef<'_>, &[u8])
     ensures value { value_shown result.0 ≡ (int_read bytes.now).0 }
@@ -77,29 +76,5 @@ pub fn read_value(bytes: &[u8]) -> (ValueRef<'_>, &[u8])
     match bytes.split_first() {
         Some((tag, rest)) => read_tagged(*tag, rest),
         None => (ValueRef::Null, bytes),
-    }
-}
-
-/// Reads the key at the beginning into a place that is at hand.
-#[tactic(auto, unfolding(crate::specs::Stored::key_read))]
-pub fn read_key<'p>(bytes: &'p [u8], key: &mut KeyRefs<'p>)
-    ensures { key.new ≡ key_read bytes.now }
-{
-    key.clear();
-    if let Some((count, rest)) = bytes.split_first() {
-        read_values((*count as usize).min(MAX_KEY_COLUMNS), rest, key);
-    }
-}
-
-fn read_values<'p>(count: usize, bytes: &'p [u8], key: &mut KeyRefs<'p>)
-    requires few { count ≤ MAX_KEY_COLUMNS }
-    requires none { key.old ≡ [] }
-    ensures { key.new ≡ values_read count bytes.now }
-{
-    let mut left = bytes;
-    for i in 0..count {
-        let (value, rest) = read_value(left);
-        key.push(value);
-        left = rest;
     }
 }

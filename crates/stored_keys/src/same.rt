@@ -1,12 +1,14 @@
 //! Whether a key that lies among bytes is one that is at hand.
-ghost use Rattle.std.specs.Prelude.{◌≡◌, IfSome, map};
+ghost use Rattle.std.specs.Prelude.{◌≡◌, IfSome, is_some, length, map};
 ghost use Rattle.std.specs.Bool.{OnTrue};
 ghost use Rattle.key_orders.specs.Values.{value_shown};
 ghost use Rattle.stored_keys.specs.Same.{same_key, same_value};
-ghost use Rattle.stored_keys.specs.Stored.{key_read, value_read};
+ghost use Rattle.stored_keys.specs.Rows.{row_values};
+ghost use Rattle.stored_keys.specs.Stored.{key_read, value_read, values_left, values_read};
 
-use crate::read::{read_key, read_value};
-use key_orders::{KeyRefs, ValueRef};
+use crate::read::read_value;
+use crate::values::RowValues;
+use key_orders::ValueRef;
 
 // Whether two values are the same.
 #[inline(always)]
@@ -23,8 +25,8 @@ fn same_value(a: ValueRef<'_>, b: ValueRef<'_>) -> bool
     }
 }
 
-// Whether two keys are the same.
-fn same_values(a: &[ValueRef<'_>], b: &[ValueRef<'_>]) -> bool
+/// Whether these values are the same: numbers that are equal, and bytes of the same length and content.
+pub fn same_values(a: &[ValueRef<'_>], b: &[ValueRef<'_>]) -> bool
     ensures { result ≡ same_key (map value_shown a.now) (map value_shown b.now) }
 {
     if a.len() != b.len() {
@@ -38,13 +40,43 @@ fn same_values(a: &[ValueRef<'_>], b: &[ValueRef<'_>]) -> bool
     true
 }
 
-/// Whether the key that is read at the beginning is this one.
-pub fn is_stored(bytes: &[u8], key: &KeyRefs<'_>) -> bool
-    ensures { result ≡ same_key (key_read bytes.now) key.now }
+// What is left behind the values at the beginning, if they are these.
+fn after_values<'s>(bytes: &'s [u8], values: &[ValueRef<'_>]) -> Option<&'s [u8]>
+    ensures some { is_some result
+        ≡ same_key (values_read (length values.now) bytes.now) (map value_shown values.now) }
+    ensures rest { IfSome result (λ rest. rest.now ≡ values_left (length values.now) bytes.now) }
 {
-    let mut held = KeyRefs::new();
-    read_key(bytes, &mut held);
-    same_values(held.as_slice(), key.as_slice())
+    let mut left = bytes;
+    for i in 0..values.len() {
+        let (held, rest) = read_value(left);
+        if !same_value(held, values[i]) {
+            return None;
+        }
+        left = rest;
+    }
+    Some(left)
+}
+
+// Whether these values are read one after the other.
+fn are_stored(bytes: &[u8], values: RowValues<'_>) -> bool
+    ensures { result ≡ same_key (values_read (length (row_values values.entry)) bytes.now) (row_values values.entry) }
+{
+    match after_values(bytes, values.key) {
+        Some(rest) => after_values(rest, values.more).is_some(),
+        None => false,
+    }
+}
+
+/// Whether what is read at the beginning are these values.
+#[tactic(auto, unfolding(crate::specs::Stored::key_read))]
+pub fn is_stored(bytes: &[u8], values: RowValues<'_>) -> bool
+    ensures { result ≡ same_key (key_read bytes.now) (row_values values.entry) }
+{
+    let count = values.key.len() + values.more.len();
+    match bytes.split_first() {
+        Some((held, rest)) => *held as usize == count && are_stored(rest, values),
+        None => count == 0,
+    }
 }
 
 /// What is left behind the value at the beginning, if it is this one.

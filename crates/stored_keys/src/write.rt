@@ -3,9 +3,11 @@ ghost use Rattle.std.specs.Prelude.{◌≡◌, ◌+◌, ◌<◌, ◌≤◌, ◌^
 ghost use Rattle.std.specs.Prelude.{IfSome, OnErr, OnOk};
 ghost use Rattle.std.specs.List.{flat_map};
 ghost use Rattle.key_orders.specs.Values.{value_shown};
+ghost use Rattle.stored_keys.specs.Rows.{row_values};
 ghost use Rattle.stored_keys.specs.Stored.{IsStorable, shown_bytes, stored_bytes, stored_key, stored_value};
 
-use key_orders::{KeyRefs, Value, ValueRef};
+use crate::values::RowValues;
+use key_orders::{Value, ValueRef};
 use outside::NoMemory;
 
 // How many bytes there may be, so that each has a place in 32 bits.
@@ -107,26 +109,28 @@ pub fn left_beside(values: &[ValueRef<'_>], room: usize) -> Option<usize>
     Some(left)
 }
 
-/// Adds a key behind the bytes, if memory is there and the place of each byte is below 4294967295.
-pub fn write_key(arena: &mut Vec<u8>, key: &KeyRefs<'_>) -> Result<(), NoMemory>
-    ensures ok { OnOk result (arena.new.items ≡ arena.old.items ++ stored_key key.now) }
+/// Adds these values behind the bytes, if memory is there and the place of each byte is below 4294967295.
+pub fn write_key(arena: &mut Vec<u8>, values: RowValues<'_>) -> Result<(), NoMemory>
+    requires few { length (row_values values) < 256 }
+    ensures ok { OnOk result (arena.new.items ≡ arena.old.items ++ stored_key (row_values values.entry)) }
     ensures short { OnOk result (vec_len arena.old + 1 < 2 ^ 32) }
-    ensures storable { OnOk result (All IsStorable key.now) }
-    ensures few { OnOk result (length key.now ≤ 8) }
+    ensures storable { OnOk result (All IsStorable (row_values values.entry)) }
     ensures err { OnErr result (arena.new.items ≡ arena.old.items) }
 {
-    let values = key.as_slice();
     let used = arena.len();
     if MOST < used {
         return Err(NoMemory);
     }
     let room = MOST - used;
-    let Some(left) = left_beside(values, room) else {
+    let Some(beside) = left_beside(values.key, room) else {
         return Err(NoMemory);
     };
-    let len = room - left;
-    arena.reserve(len + 1)?;
-    push_bytes(arena, &[values.len() as u8]);
-    write_values(arena, values);
+    let Some(left) = left_beside(values.more, beside) else {
+        return Err(NoMemory);
+    };
+    arena.reserve(room - left + 1)?;
+    push_bytes(arena, &[(values.key.len() + values.more.len()) as u8]);
+    write_values(arena, values.key);
+    write_values(arena, values.more);
     Ok(())
 }

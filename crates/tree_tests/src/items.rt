@@ -149,19 +149,42 @@ fn a_leaf_as_a_server_writes_it(rt: HostRuntime) {
     assert_eq!(rt; item, Ok((SEVEN, None, [Some(SECOND), None], 0)));
 }
 
-// The number of an entry of that leaf.
-fn prefix(rt: &impl Abort, i: u16) -> Option<u64> {
-    let bytes = SmallIndex::Three.leaf_bytes();
-    let page = PageView::new(&bytes);
+// The number of an entry of a leaf.
+fn prefix(rt: &impl Abort, bytes: &[u8; 8192], i: u16, columns: &IndexColumns<'_>) -> Option<u64> {
+    let page = PageView::new(bytes);
     assert!(rt; page.page_rule(PageKind::Tree).is_none());
     assert!(rt; 1 <= i && i <= page.item_count());
-    plain_entry_prefix(page, i, &IndexColumns::new(&[INT4], &[]))
+    plain_entry_prefix(page, i, columns)
 }
 
 #[test]
 fn numbers_of_entries(rt: HostRuntime) {
-    assert_eq!(rt; prefix(&rt, 1), Some(0x8000_0000_0000_0005));
-    assert_eq!(rt; prefix(&rt, 3), Some(0x8000_0000_0000_0009));
+    let bytes = SmallIndex::Three.leaf_bytes();
+    let specs = [INT4];
+    let columns = IndexColumns::new(&specs, &[]);
+    assert_eq!(rt;
+        prefix(&rt, &bytes, 1, &columns),
+        Some(0x8000_0000_0000_0005)
+    );
+    assert_eq!(rt;
+        prefix(&rt, &bytes, 3, &columns),
+        Some(0x8000_0000_0000_0009)
+    );
+}
+
+// An entry of 7 that includes hi.
+const SEVEN_AND_HI: &[u8] = b"\0\0\0\0\x01\0\x10\x40\x07\0\0\0\x07hi\0";
+
+#[test]
+fn number_of_an_entry_with_an_included_value(rt: HostRuntime) {
+    let bytes = page_of(NORMAL16, SEVEN_AND_HI);
+    let specs = [INT4];
+    let more = [MoreSpec {
+        column: 1,
+        ctype: ColType::Text,
+    }];
+    let number = prefix(&rt, &bytes, 1, &IndexColumns::new(&specs, &more));
+    assert_eq!(rt; number, Some(0x8000_0000_0000_0007));
 }
 
 // An item: its line pointer and bytes, the columns and its place.

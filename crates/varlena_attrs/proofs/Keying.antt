@@ -4,7 +4,7 @@ use Rattle.std.specs.Prelude.{Option, Some, None, Result, Ok, Err, IfOk, All}
 use Rattle.std.specs.Option.{option_copied, option_or}
 use Rattle.std.proofs.Math.Seq.{drop-cons}
 use Rattle.std.proofs.lemmas.Bool.{and_from, and_parts}
-use Rattle.std.proofs.lemmas.List.{drop_all, length-take-le, length-drop, length-map, length-append, get_or-map, take-map}
+use Rattle.std.proofs.lemmas.List.{drop_all, length-take-le, length-drop, length-map, length-append, get_or-append-add, get_or-map, get_or_append_left, take-map}
 use Rattle.std.proofs.lemmas.List.Elements.{All-get_or, All-take}
 use Rattle.key_orders.specs.Keys.{fits_columns}
 use Rattle.key_orders.specs.Orders.{fits_type}
@@ -20,7 +20,7 @@ use Rattle.varlena_attrs.specs.declared.places.AttrPlace.{AttrPlace}
 use Rattle.varlena_attrs.specs.declared.places.AttrPlace.TheVariants as at
 use Rattle.varlena_attrs.specs.Attributes.{Absent, As_null, Stored, Presence, IsAttribute, presence_of}
 use Rattle.varlena_attrs.specs.Forms.{Attribute, Null, Missing, Plain, IsStored, fixed, varlena, bytes_between}
-use Rattle.varlena_attrs.specs.Keyed.{InlineStep, Inlines, attribute_value, attribute_values, first_packed, inline_step, is_packed, key_types, key_values, more_types, put_before, read_inline, then_inline, unless_packed, values_by}
+use Rattle.varlena_attrs.specs.Keyed.{InlineStep, Inlines, attribute_value, attribute_values, first_packed, fits_more, inline_step, is_packed, key_types, key_values, more_types, put_before, read_inline, then_inline, unless_packed, values_by}
 use Rattle.varlena_attrs.specs.KeyedShown.{HasPlainLength, packed_here, told_after, told_by}
 use Rattle.varlena_attrs.specs.Reading.{Step, attribute_at}
 use Rattle.varlena_attrs.specs.Shown.{IsWithin, shown_at}
@@ -134,6 +134,13 @@ told_end specs body values k place all =
     ∙ ap (told_after values None k []) (read_inline-nil None (length specs) body k place)
     ∙ ap Ok (append-nil values)
 
+-- the same of any types
+pub told_last : (types : List ColType) (body : List ℕ) (values : List Value) (k place : ℕ) → length types ≤ k → told_after values None k (drop k types) (read_inline (drop k types) None (length types) body k place) ≡ Ok values
+told_last types body values k place all =
+    ap (λ (ts : List ColType). told_after values None k ts (read_inline ts None (length types) body k place)) (drop_all k types all)
+    ∙ ap (told_after values None k []) (read_inline-nil None (length types) body k place)
+    ∙ ap Ok (append-nil values)
+
 -- THE TYPES OF A KEY AND OF WHAT IS INCLUDED
 
 pub key_types-drop : (specs : List KeySpec) (i : ℕ) (d : KeySpec) → i < length specs → key_types (drop i specs) ≡ (get_or specs i d).ctype ∷ key_types (drop (i + 1) specs)
@@ -152,6 +159,18 @@ more_aligned more k e lt all =
     let count : length (more_types more) ≡ length more = length-map more (λ s. s.ctype) in
     subst HasAlignment (get_or-map (λ s. s.ctype) more k e BoolType lt) (All-get_or HasAlignment (more_types more) k BoolType (omega (arith, lt, count)) all)
 
+-- by their number
+pub all_types-key : (specs : List KeySpec) (more : List MoreSpec) (k : ℕ) (e : KeySpec) (d : ColType) → k < length specs → get_or (key_types specs ++ more_types more) k d ≡ (get_or specs k e).ctype
+all_types-key specs more k e d lt =
+    let count : length (key_types specs) ≡ length specs = length-map specs (λ s. s.ctype) in
+    get_or_append_left (key_types specs) (more_types more) d k (omega (arith, lt, count)) ∙ get_or-map (λ s. s.ctype) specs k e d lt
+
+pub all_types-more : (specs : List KeySpec) (more : List MoreSpec) (k : ℕ) (e : MoreSpec) (d : ColType) → k < length more → get_or (key_types specs ++ more_types more) (length specs + k) d ≡ (get_or more k e).ctype
+all_types-more specs more k e d lt =
+    ap (λ (n : ℕ). get_or (key_types specs ++ more_types more) (n + k) d) (sym (length-map specs (λ s. s.ctype)))
+    ∙ get_or-append-add (key_types specs) (more_types more) k d
+    ∙ get_or-map (λ m. m.ctype) more k e d lt
+
 -- VALUES THAT FIT
 
 -- one value more fits, where it fits the next column
@@ -168,6 +187,17 @@ fits_push specs values v e k count lt fits here = go specs values fits (omega (a
 take-nil : (n : ℕ) → ◌≡◌ {A = List KeySpec} (take n []) []
 take-nil zero = refl
 take-nil (suc n) = refl
+
+-- and one more of the included columns
+pub more_push : (specs : List MoreSpec) (values : List Value) (v : Value) (e : MoreSpec) (k : ℕ) → length values ≡ k → k < length specs → fits_more specs values ≡ true → fits_type (get_or specs k e).ctype v ≡ true → fits_more specs (values ++ v ∷ []) ≡ true
+more_push specs values v e k count lt fits here = go specs values fits (omega (arith, count, lt)) (subst (λ n. fits_type (get_or specs n e).ctype v ≡ true) (sym count) here)
+  where
+    go : (specs : List MoreSpec) (values : List Value) → fits_more specs values ≡ true → length values < length specs → fits_type (get_or specs (length values) e).ctype v ≡ true → fits_more specs (values ++ v ∷ []) ≡ true
+    go [] values fits lt here = absurd (omega (arith, lt))
+    go (s ∷ specs) [] fits lt here = and_from (fits_type s.ctype v) true here refl
+    go (s ∷ specs) (w ∷ values) fits lt here =
+        let both = and_parts (fits_type s.ctype w) (fits_more specs values) fits in
+        and_from (fits_type s.ctype w) (fits_more specs (values ++ v ∷ [])) both.0 (go specs values both.1 (omega (arith, lt)) here)
 
 -- what fits the first columns fits them all
 pub fits_first : (n : ℕ) (specs : List KeySpec) (values : List Value) → fits_columns (take n specs) values ≡ true → fits_columns specs values ≡ true

@@ -1,11 +1,12 @@
 -- The columns of an index tuple: their values, or the first that can't be read in the tuple itself.
-use Rattle.std.specs.Prelude.{ℕ, suc, Bool, true, false, if◌then◌else◌, List, [], ◌∷◌, length, map, Option, Some, None}
-use Rattle.std.specs.Prelude.{Result, Ok, Err}
+use Rattle.std.specs.Prelude.{ℕ, suc, Bool, true, false, ◌&&◌, if◌then◌else◌, List, [], ◌∷◌, length}
+use Rattle.std.specs.Prelude.{map, Option, Some, None, Result, Ok, Err}
 use Rattle.key_orders.specs.declared.columns.ColType.{ColType}
 use Rattle.key_orders.specs.declared.columns.KeySpec.{KeySpec}
 use Rattle.key_orders.specs.declared.columns.Value.{Value}
 use Rattle.key_orders.specs.declared.columns.Value.TheVariants as value
 use Rattle.key_orders.specs.declared.more.MoreSpec.{MoreSpec}
+use Rattle.key_orders.specs.Orders.{fits_type}
 use Rattle.key_orders.specs.Values.{value_in}
 use Rattle.varlena_attrs.specs.declared.forms.Cause.TheVariants.{PastEnd, BadHeader, BadTag}
 use Rattle.varlena_attrs.specs.declared.keyed.KeyFault.{KeyFault}
@@ -20,6 +21,12 @@ key_types specs = map (λ k. k.ctype) specs
 
 abbrev pub more_types : List MoreSpec → List ColType
 more_types more = map (λ m. m.ctype) more
+
+-- there are no more values than included columns, and each fits its column
+abbrev pub fits_more : List MoreSpec → List Value → Bool
+fits_more ms [] = true
+fits_more [] (v ∷ vs) = false
+fits_more (m ∷ ms) (v ∷ vs) = fits_type m.ctype v && fits_more ms vs
 
 -- the value of an attribute that stands in the tuple; a compressed one isn't read
 abbrev pub attribute_value : ColType → Attribute → Value

@@ -12,7 +12,7 @@ ghost use Rattle.varlena_attrs.specs.Attributes.{presence_of};
 ghost use Rattle.varlena_attrs.specs.Columns.{all_types};
 ghost use Rattle.varlena_attrs.specs.KeyLaws.{SaysOfAttributes};
 ghost use Rattle.varlena_attrs.specs.Keyed.{attribute_value, inline_step, is_packed, key_types, key_values, more_types};
-ghost use Rattle.varlena_attrs.specs.Keyed.{unless_external};
+ghost use Rattle.varlena_attrs.specs.Keyed.{fits_more, unless_external};
 ghost use Rattle.varlena_attrs.specs.KeyedShown.{HasPlainLength, entry_shown, inline_shown, packed_here};
 ghost use Rattle.varlena_attrs.specs.KeyedShown.{told_by};
 ghost use Rattle.varlena_attrs.specs.Reading.{attribute_at};
@@ -211,6 +211,7 @@ impl<'p> IndexTuple<'p> {
             → told_by self.old values (more_types more.now) ≡ told_by self.new (values ++ list) []) }
         ensures fault { IfErr result (λ e. (values : List Value)
             → told_by self.old values (more_types more.now) ≡ Err e) }
+        ensures fits { IfOk result (λ list. fits_more more.now list ≡ true) }
     {
         let mut list = MoreRefs::new();
         for m in more {
@@ -338,6 +339,7 @@ pub fn read_entry_attributes<'p>(
         key_values (all_types columns.now) body.now (option_copied nulls.entry) ≡ Err e) }
     ensures count { IfOk result (λ rest. length key.new ≡ length columns.now.specs.now) }
     ensures fits { IfOk result (λ rest. fits_columns columns.now.specs.now key.new ≡ true) }
+    ensures included { IfOk result (λ rest. fits_more columns.now.more.now rest ≡ true) }
 {
     let count = columns.specs.len() as u16 + columns.more.len() as u16;
     let mut tuple = IndexTuple::new(body, nulls, count);
@@ -359,6 +361,7 @@ pub fn entry_attributes<'p>(
     ensures value { entry_shown result ≡ key_values (all_types columns.now) body.now (option_copied nulls.entry) }
     ensures key { IfOk result (λ both. length both.0 ≡ length columns.now.specs.now) }
     ensures fits { IfOk result (λ both. fits_columns columns.now.specs.now both.0 ≡ true) }
+    ensures included { IfOk result (λ both. fits_more columns.now.more.now both.1 ≡ true) }
 {
     let mut key = KeyRefs::new();
     let more = read_entry_attributes(columns, body, nulls, &mut key)?;

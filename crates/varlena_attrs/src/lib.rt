@@ -6,6 +6,7 @@
 //! varlena).
 #![tactic(auto)]
 
+mod all_types;
 mod buffer;
 mod columns;
 mod fault;

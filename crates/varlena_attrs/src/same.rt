@@ -3,7 +3,8 @@ ghost use Rattle.std.specs.Prelude.{◌≡◌, Ok, None, IfSome, length};
 ghost use Rattle.std.specs.Bool.{OnTrue};
 ghost use Rattle.key_orders.specs.Values.{value_shown};
 ghost use Rattle.stored_keys.specs.Stored.{values_read};
-ghost use Rattle.varlena_attrs.specs.Keyed.{key_types, key_values};
+ghost use Rattle.varlena_attrs.specs.Columns.{all_types};
+ghost use Rattle.varlena_attrs.specs.Keyed.{key_values};
 ghost use Rattle.varlena_attrs.specs.FirstValues.{BeginsPlainKey};
 
 use crate::columns::IndexColumns;
@@ -12,20 +13,18 @@ use crate::plain::plain_piece;
 use key_orders::ValueRef;
 use stored_keys::after_value;
 
-/// Whether an index tuple without null bits, which has this body, has as its first values those that are stored at the
-/// beginning of these bytes, where each of them is found by the least that tells it: a value of a fixed length, or a
-/// varlena with a header of one byte. `false` says nothing.
+/// Whether an index tuple without null bits, which has this body, has as its values those that are stored at the
+/// beginning of these bytes, those of included columns among them, where each is found by the least that tells it: a
+/// value of a fixed length, or a varlena with a header of one byte. `false` says nothing.
 #[inline]
 pub fn has_stored_key(columns: &IndexColumns<'_>, body: &[u8], stored: &[u8]) -> bool
-    ensures { OnTrue result
-        (key_values (key_types columns.now.specs.now) body.now None
-        ≡ Ok (values_read (length columns.now.specs.now) stored.now)) }
+    ensures { OnTrue result (key_values (all_types columns.now) body.now None
+        ≡ Ok (values_read (length (all_types columns.now)) stored.now)) }
 {
-    let specs = columns.specs;
     let mut place = 0;
     let mut left = stored;
-    for k in 0..specs.len() {
-        let ctype = specs[k].ctype;
+    for k in 0..columns.count() {
+        let ctype = columns.type_at(k);
         let Some(piece) = plain_piece(ctype, body, place) else {
             return false;
         };
@@ -39,12 +38,13 @@ pub fn has_stored_key(columns: &IndexColumns<'_>, body: &[u8], stored: &[u8]) ->
     true
 }
 
-/// The first value of the key in an index tuple without null bits, which has this body, where each column of the key is
-/// found by the least that tells it: a value of a fixed length, or a varlena with a header of one byte. `None` says
-/// nothing.
+/// The first value of the key in an index tuple without null bits, which has this body, where each column, an included
+/// one too, is found by the least that tells it: a value of a fixed length, or a varlena with a header of one byte.
+/// `None` says nothing.
 #[inline(always)]
 pub fn plain_first_value<'p>(columns: &IndexColumns<'_>, body: &'p [u8]) -> Option<ValueRef<'p>>
-    ensures { IfSome result (λ v. BeginsPlainKey columns.now.specs.now body.now (value_shown v)) }
+    ensures { IfSome result (λ v.
+        BeginsPlainKey columns.now.specs.now columns.now.more.now body.now (value_shown v)) }
 {
     let specs = columns.specs;
     if specs.is_empty() {
@@ -56,6 +56,10 @@ pub fn plain_first_value<'p>(columns: &IndexColumns<'_>, body: &'p [u8]) -> Opti
     let mut place = found.next;
     for k in 1..specs.len() {
         let piece = plain_piece(specs[k].ctype, body, place)?;
+        place = piece.start + piece.len;
+    }
+    for included in columns.more {
+        let piece = plain_piece(included.ctype, body, place)?;
         place = piece.start + piece.len;
     }
     Some(value)

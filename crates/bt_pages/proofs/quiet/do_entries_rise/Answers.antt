@@ -1,4 +1,4 @@
-use Rattle.std.proofs.Common.{◌≡◌, ◌≤◌, [], subst, arith}
+use Rattle.std.proofs.Common.{◌≡◌, ◌≤◌, subst, arith}
 use Rattle.page_layout.specs.Page.{count_of}
 use Rattle.page_layout.specs.View.{page_bytes}
 use Rattle.tree_image.specs.Image.{first_data}
@@ -13,27 +13,29 @@ plain_entry_prefix-requires-clause-first c = let one = first_cases (page_bytes c
 pub loop-k-init : goal.loop-k-init
 loop-k-init c =
     let specs = c.args.columns.now.specs.now in
+    let more = c.args.columns.now.more.now in
     let page = page_bytes c.args.page in
     let one = first_cases page in
     let from : first_data page ≤ c.args.first = omega (arith, c.requires.first) in
-    let plain = entry-plain specs page c.requires.live c.requires.leaf c.args.first c.in-Some.last from c.in-Some.ensures in
+    let plain = entry-plain specs more page c.requires.live c.requires.leaf c.args.first c.in-Some.last from c.in-Some.ensures in
     record {
-      rise = λ before. rise-first specs [] page c.args.first (omega (arith, one, c.requires.first)) (omega (arith, c.requires.first)) before plain;
+      rise = λ before. rise-first specs more page c.args.first (omega (arith, one, c.requires.first)) (omega (arith, c.requires.first)) before plain;
       entry = c.in-Some.ensures;
     }
 
 pub loop-k-preserved : goal.loop-k-preserved
 loop-k-preserved c =
     let specs = c.args.columns.now.specs.now in
+    let more = c.args.columns.now.more.now in
     let page = page_bytes c.args.page in
     let so = c.loop-k.invariant in
     let from : first_data page ≤ c.loop-k.k = omega (arith, c.requires.first, c.loop-k.auto.k) in
     record {
-      rise = λ before. rise-entry specs page c.requires.live c.requires.leaf c.loop-k.k c.loop-k.last c.in-Some-plain_entry_prefix.number from so.entry c.in-Some-plain_entry_prefix.ensures c.if-number-last.false (so.rise before);
+      rise = λ before. rise-entry specs more page c.requires.live c.requires.leaf c.loop-k.k c.loop-k.last c.in-Some-plain_entry_prefix.number from so.entry c.in-Some-plain_entry_prefix.ensures c.if-number-last.false (so.rise before);
       entry = c.in-Some-plain_entry_prefix.ensures;
     }
 
 pub returns : goal.returns
 returns c =
     let last : c.loop-k.k ≡ count_of (page_bytes c.args.page) = omega (arith, c.loop-k-test.false, c.loop-k.auto.k-end, c.item_count-k-end.ensures.value, c.requires.some) in
-    λ before. subst (RiseTo c.args.columns.now.specs.now [] (page_bytes c.args.page)) last (c.loop-k.invariant.rise before)
+    λ before. subst (RiseTo c.args.columns.now.specs.now c.args.columns.now.more.now (page_bytes c.args.page)) last (c.loop-k.invariant.rise before)

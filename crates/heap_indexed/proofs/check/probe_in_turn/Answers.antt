@@ -1,12 +1,12 @@
-use Rattle.std.proofs.Common.{◌∙◌, ◌+◌, ◌-◌, ◌*◌, ◌<◌, ◌≤◌, ◌≡◌, ℕ, List, length, ap, sym, subst, arith}
+use Rattle.std.proofs.Common.{◌∙◌, ◌+◌, ◌++◌, ◌-◌, ◌*◌, ◌<◌, ◌≤◌, ◌≡◌, ℕ, List, length, ap, sym, subst, arith}
 use Rattle.std.specs.Prelude.{All, None, OnOk, Some}
 use Rattle.outside.specs.Adds.{AddsIn}
 use Rattle.outside.proofs.Adding.{Adds-exit, Begins-none}
 use Rattle.reports.specs.Added.{report_lists}
 use Rattle.reports.specs.Lists.{Lists}
 use Rattle.bt_levels.specs.Files.{number_of}
-use Rattle.bt_levels.specs.Sound.{file_of, specs_of}
-use Rattle.bt_search.specs.Lookups.{way_length}
+use Rattle.bt_levels.specs.Sound.{file_of, index_columns}
+use Rattle.heap_indexed.specs.Looking.{look_length}
 use Rattle.rel_files.specs.Relation.{count_of}
 use Rattle.heap_files.specs.Case.{heap_blocks}
 use Rattle.heap_check.specs.RowCursor.{next_in}
@@ -15,7 +15,7 @@ use Rattle.heap_check.specs.declared.rows.LiveRow.{LiveRow}
 use Rattle.indexed_rules.specs.Lists.{rows_lists}
 use Rattle.heap_indexed.specs.Rows.{AreAskedFrom, columns_in, rows_from}
 use Rattle.heap_indexed.proofs.Cases.{rows-are}
-use Rattle.heap_indexed.proofs.KeyLaws.{asked-all, columns-there, sound-keys}
+use Rattle.heap_indexed.proofs.KeyLaws.{asked-all, columns-there}
 use Rattle.heap_indexed.proofs.Owed.{rows-all}
 use Rattle.heap_indexed.proofs.Pages.{count-is}
 use Rattle.heap_indexed.proofs.check.probe_in_turn.Goals as goal
@@ -29,11 +29,9 @@ pub new-requires-clause-asked : goal.new-requires-clause-asked
 new-requires-clause-asked g c =
     let case = c.args.at.case.now in
     let tree = c.args.at.tree.now in
-    let index = c.requires.belong.index in
-    let sound = sound-keys case (number_of (file_of tree)) (specs_of tree) c.sound.ensures index.belongs.first index.belongs.last index.keys in
     let all : All (λ k. k < length case.columns) c.deref.result.now =
-    subst (λ (ks : List ℕ). All (λ k. k < length case.columns) ks) (sym (c.deref.ensures.value ∙ c.in_ok-columns.ensures ∙ ap columns_in c.specs.ensures))
-    (columns-there case.columns (specs_of tree) sound) in
+    subst (λ (ks : List ℕ). All (λ k. k < length case.columns) ks) (sym (c.deref.ensures.value ∙ c.in_ok-columns.ensures ∙ ap columns_in c.columns.ensures.lists))
+    (columns-there case (number_of (file_of tree)) tree c.sound.ensures c.requires.belong.index) in
     all
 
 pub returns-in_err-cursor-clause-lists : goal.returns-in_err-cursor-clause-lists
@@ -49,7 +47,7 @@ returns-in_err-slots-clause-lists g c = λ names told.
 pub judge_blocks-requires-clause-index : goal.judge_blocks-requires-clause-index
 judge_blocks-requires-clause-index g c =
     let tree = c.args.at.tree.now in
-    let columns : c.deref.result.now ≡ columns_in (specs_of tree) = c.deref.ensures.value ∙ c.in_ok-columns.ensures ∙ ap columns_in c.specs.ensures in
+    let columns : c.deref.result.now ≡ columns_in (index_columns tree) = c.deref.ensures.value ∙ c.in_ok-columns.ensures ∙ ap columns_in c.columns.ensures.lists in
     record {
       belong = c.requires.belong;
       case = c.in_ok-cursor.ensures.case;
@@ -63,7 +61,7 @@ judge_blocks-requires-clause-told g c = λ names told.
     record {
       ready = record {
         tree = hold.tree;
-        kept = λ tid key kept. absurd (let clash : None ≡ Some key = sym (c.in_ok-slots.ensures.keys tid) ∙ kept in cc);
+        kept = λ tid key more count kept. absurd (let clash : None ≡ Some (key ++ more) = sym (c.in_ok-slots.ensures.keys tid) ∙ kept in cc);
         pages = c.requires.of names told;
       };
       behind = record { cursor_of = c.in_ok-cursor.ensures.told names hold.heap hold.quiet; none = c.in_ok-cursor.ensures.none names };
@@ -93,7 +91,7 @@ returns-clause-visits g c = λ names told.
     let count : c.blocks-2.result - 0 ≡ heap_blocks case names = omega (arith, all) in
     let rows : rows_from case names (next_in c.in_ok-cursor.cursor) (c.blocks-2.result - next_in c.in_ok-cursor.cursor) ≡ rows_of case names =
     (λ i. rows_from case names (c.in_ok-cursor.ensures.begun i) (c.blocks-2.result - c.in_ok-cursor.ensures.begun i)) ∙ ap (rows_from case names 0) count ∙ rows-all case names in
-    subst (λ (rs : List LiveRow). OnOk c.judge_blocks.result (c.judge_blocks.new.look_ups.visits.count ≤ c.args.look_ups.now.visits.count + length rs * way_length names c.args.at.tree.now)) rows (c.judge_blocks.ensures.visits names told)
+    subst (λ (rs : List LiveRow). OnOk c.judge_blocks.result (c.judge_blocks.new.look_ups.visits.count ≤ c.args.look_ups.now.visits.count + length rs * look_length names c.args.at.tree.now)) rows (c.judge_blocks.ensures.visits names told)
 
 pub returns-clause-of : goal.returns-clause-of
 returns-clause-of g c = λ names told. (c.judge_blocks.ensures.ready names told).pages

@@ -7,17 +7,15 @@ use Rattle.outside.specs.declared.files.Failed.{Failed}
 use Rattle.outside.specs.Outside.{AskedWithin, Names, Seen, failed}
 use Rattle.outside.proofs.Adding.{Adds-exit}
 use Rattle.outside.proofs.Asking.{PassedAtMost-none}
-use Rattle.tree_search.specs.Keys.{Entry}
+use Rattle.tree_image.specs.Image.{LeafEntry}
 use Rattle.tree_search.specs.Search.{tree_blocks}
-use Rattle.key_orders.specs.declared.columns.Value.{Value}
-use Rattle.key_orders.specs.declared.Tid.{Tid}
 use Rattle.bt_levels.specs.Files.{number_of, relation_of}
 use Rattle.bt_levels.specs.Sound.{block_count, file_of, held_block, index_columns}
 use Rattle.reports.specs.Added.{each_upto, joined, report_lists}
 use Rattle.reports.specs.Lists.{Lists}
 use Rattle.reports.proofs.Upto.{upto-cut, upto-next, upto-none}
 use Rattle.bt_levels.specs.declared.sound.SoundTree.{SoundTree}
-use Rattle.leaf_meets.specs.Meeting.{all_keys, leaf_keys}
+use Rattle.leaf_meets.specs.Meeting.{all_entries, leaf_entries}
 use Rattle.leaf_meets.proofs.Meets.{met-then, none, same}
 use Rattle.index_targets.specs.Passes.{strays_of, strays_on}
 use Rattle.index_targets.proofs.BlockKeys.{all-blocks, blocks-next}
@@ -27,8 +25,8 @@ use Rattle.index_targets.proofs.check.check_entries.Goals as goal
 abbrev of-block : SoundTree → Option (List (List Bool)) → Names → ℕ → Lists
 of-block tree targets names b = strays_on (number_of (file_of tree)) (index_columns tree) targets b (held_block names tree b)
 
-abbrev keys-of : SoundTree → Names → ℕ → List (Entry Value Tid)
-keys-of tree names b = leaf_keys (index_columns tree) (held_block names tree b)
+abbrev keys-of : SoundTree → Names → ℕ → List LeafEntry
+keys-of tree names b = leaf_entries (index_columns tree) (held_block names tree b)
 
 -- one read more
 passed-more : {D E U : Type 0} {n : ℕ} {a b d : Seen} {y : U} {e : D} {f : E} → AskedWithin {T = Failed} {E = D} (Some n) a b (Ok failed) e → AskedWithin {T = U} {E = E} (Some 1) b d (Ok y) f
@@ -57,7 +55,7 @@ loop-k-preserved g c = record {
   met = λ names told.
       let keys = keys-of c.args.tree.now names in
       let k = c.loop-k.k in
-      let before : List (Entry Value Tid) = flat_map keys (tree_blocks (k + 1)) in
+      let before : List LeafEntry = flat_map keys (tree_blocks (k + 1)) in
       same (before ++ keys (k + 1)) (flat_map keys (tree_blocks (k + 1 + 1))) c.args.slots.now c.take_block.new.slots (sym (blocks-next keys k))
       (met-then before (keys (k + 1)) c.args.slots.now c.loop-k.slots c.take_block.new.slots (c.loop-k.invariant.met names told)
       (c.in_ok-take_block.ensures.met names (c.loop-k.invariant.asked.same ∙ told)));
@@ -83,7 +81,7 @@ returns-clause-lists g c names told =
     subst (λ (n : ℕ). c.loop-k.report ≡ joined c.args.report.now (each_upto report_lists of n)) whole (c.loop-k.invariant.lists names told)
 
 pub returns-clause-met : goal.returns-clause-met
-unfolding all_keys
+unfolding all_entries
 returns-clause-met g c names told =
     let tree = c.args.tree.now in
     let keys = keys-of tree names in

@@ -7,7 +7,7 @@ use Rattle.reports.specs.Added.{each_upto, joined, report_lists}
 use Rattle.rel_files.specs.Ahead.{IsAheadOf}
 use Rattle.bt_levels.specs.Files.{number_of, relation_of}
 use Rattle.bt_levels.specs.Sound.{file_of, held_block, index_columns}
-use Rattle.leaf_meets.specs.Meeting.{HaveMet, leaf_keys}
+use Rattle.leaf_meets.specs.Meeting.{HaveMet, leaf_entries}
 use Rattle.index_targets.specs.Passes.{strays_on}
 use Rattle.index_targets.proofs.check.check_entries.Given as goal
 
@@ -16,7 +16,7 @@ use Rattle.index_targets.proofs.check.check_entries.Given as goal
 abbrev pub invariant-loop-k : goal.invariant-loop-k
 invariant-loop-k g l = record {
   lists : IfTold g.F.Files.seen l.fn.files (λ names. l.report ≡ joined l.fn.report (each_upto report_lists (λ b. strays_on (number_of (file_of l.fn.tree)) (index_columns l.fn.tree) (option_copied l.fn.targets) b (held_block names l.fn.tree b)) l.k));
-  met : IfTold g.F.Files.seen l.fn.files (λ names. HaveMet (flat_map (λ b. leaf_keys (index_columns l.fn.tree) (held_block names l.fn.tree b)) (tree_blocks (l.k + 1))) l.fn.slots l.slots);
+  met : IfTold g.F.Files.seen l.fn.files (λ names. HaveMet (flat_map (λ b. leaf_entries (index_columns l.fn.tree) (held_block names l.fn.tree b)) (tree_blocks (l.k + 1))) l.fn.slots l.slots);
   hand : IfTold g.F.Files.seen l.fn.files (λ names. IsAheadOf names (relation_of (file_of l.fn.tree)) l.hands.blocks);
   asked : PassedAtMost l.k g.F.Files.seen l.fn.files l.files;
 }

@@ -1,9 +1,9 @@
-use Rattle.std.proofs.Common.{◌∙◌, ◌∷◌, [], Bool, ap, sym, false, true}
+use Rattle.std.proofs.Common.{◌∙◌, ◌++◌, ◌∷◌, [], Bool, ap, sym, false, true}
 use Rattle.std.proofs.lemmas.Bool.{OnTrue_at}
 use Rattle.page_layout.specs.View.{page_bytes}
 use Rattle.varlena_attrs.specs.Columns.{tree_columns}
-use Rattle.bt_steps.specs.Entries.{keys_at}
-use Rattle.bt_steps.proofs.Items.{entry_with}
+use Rattle.leaf_meets.specs.Meeting.{entries_at}
+use Rattle.tree_image.specs.Image.{leaf_entry}
 use Rattle.leaf_meets.proofs.Meets.{killed-one, one, same}
 use Rattle.leaf_meets.proofs.PlainKeys.{plain-key}
 use Rattle.leaf_meets.proofs.meet.meet_item.Goals as goal
@@ -13,15 +13,15 @@ returns-then-entry c = λ read.
     let page = page_bytes c.args.page in
     let e = c.in-Some.entry in
     let has = plain-key (tree_columns c.args.columns.now) page c.args.i e.tid e.body.now e.killed c.in-Some.ensures.0 c.in-Some.ensures.1 read in
-    same (entry_with has.key true e.tid ∷ []) (keys_at (tree_columns c.args.columns.now) page c.args.i) c.args.slots.now c.args.slots.now
-    (sym (has.is ∙ ap (λ (killed : Bool). entry_with has.key killed e.tid ∷ []) c.if-entry.true))
-    (killed-one has.key e.tid c.args.slots.now)
+    same (leaf_entry has.key has.more e.tid true ∷ []) (entries_at (tree_columns c.args.columns.now) page c.args.i) c.args.slots.now c.args.slots.now
+    (sym (has.is ∙ ap (λ (killed : Bool). leaf_entry has.key has.more e.tid killed ∷ []) c.if-entry.true))
+    (killed-one has.key has.more e.tid c.args.slots.now)
 
 pub returns-else-not-meet_plain : goal.returns-else-not-meet_plain
 returns-else-not-meet_plain c = λ read.
     let page = page_bytes c.args.page in
     let e = c.in-Some.entry in
     let has = plain-key (tree_columns c.args.columns.now) page c.args.i e.tid e.body.now e.killed c.in-Some.ensures.0 c.in-Some.ensures.1 read in
-    same (entry_with has.key false e.tid ∷ []) (keys_at (tree_columns c.args.columns.now) page c.args.i) c.args.slots.now c.meet_plain.new.self
-    (sym (has.is ∙ ap (λ (killed : Bool). entry_with has.key killed e.tid ∷ []) c.if-entry.false))
-    (one has.key e.tid c.args.slots.now c.meet_plain.new.self (OnTrue_at c.if-not-meet_plain.false c.meet_plain.ensures.met has.key has.tells) c.meet_plain.ensures.keys c.meet_plain.ensures.range)
+    same (leaf_entry has.key has.more e.tid false ∷ []) (entries_at (tree_columns c.args.columns.now) page c.args.i) c.args.slots.now c.meet_plain.new.self
+    (sym (has.is ∙ ap (λ (killed : Bool). leaf_entry has.key has.more e.tid killed ∷ []) c.if-entry.false))
+    (one has.key has.more e.tid c.args.slots.now c.meet_plain.new.self (OnTrue_at c.if-not-meet_plain.false c.meet_plain.ensures.met (has.key ++ has.more) has.tells) c.meet_plain.ensures.keys c.meet_plain.ensures.range)

@@ -2,7 +2,7 @@ use Rattle.std.proofs.Common.{◌≡◌, true}
 use Rattle.std.specs.List.{flat_map}
 use Rattle.page_layout.specs.View.{page_bytes}
 use Rattle.varlena_attrs.specs.Columns.{tree_columns}
-use Rattle.tree_image.specs.Image.{first_data, item_at, keys_in, numbers_from}
+use Rattle.tree_image.specs.Image.{entries_in, first_data, item_at, numbers_from}
 use Rattle.bt_steps.specs.Pages.{IsReadable, is_live_leaf}
 use Rattle.leaf_meets.specs.Meeting.{HaveMet}
 use Rattle.leaf_meets.proofs.meet.meet_items.Given as goal
@@ -11,4 +11,4 @@ use Rattle.leaf_meets.proofs.meet.meet_items.Given as goal
 abbrev pub invariant-loop-k : goal.invariant-loop-k
 invariant-loop-k l =
     IsReadable (tree_columns l.columns) (page_bytes l.page) → is_live_leaf (page_bytes l.page) ≡ true
-    → HaveMet (flat_map (λ i. keys_in (item_at l.columns.specs.now l.columns.more.now (page_bytes l.page) i)) (numbers_from (first_data (page_bytes l.page)) l.k)) l.initial.slots l.slots
+    → HaveMet (flat_map (λ i. entries_in (item_at l.columns.specs.now l.columns.more.now (page_bytes l.page) i)) (numbers_from (first_data (page_bytes l.page)) l.k)) l.initial.slots l.slots

@@ -1,4 +1,5 @@
 use Rattle.std.proofs.Common.{◌∙◌, ap, sym}
+use Rattle.stored_keys.specs.Rows.{row_values}
 use Rattle.row_slots.specs.Met.{is_key}
 use Rattle.row_slots.proofs.SlotLaws.{found_below, key_there, no_slot_no_key}
 use Rattle.row_slots.proofs.slots.is_kept_in.Goals as goal
@@ -9,7 +10,7 @@ bounds-kept-slot c = found_below c.args.kept.first c.args.kept.starts.now c.args
 pub returns-in-Some : goal.returns-in-Some
 returns-in-Some c =
     c.holds.ensures
-    ∙ ap (is_key c.args.key.now) (sym (key_there c.args.kept.first c.args.kept.starts.now c.args.kept.records.now c.args.kept.arena.now c.args.tid c.in-Some.slot c.in-Some.ensures))
+    ∙ ap (is_key (row_values c.args.values)) (sym (key_there c.args.kept.first c.args.kept.starts.now c.args.kept.records.now c.args.kept.arena.now c.args.tid c.in-Some.slot c.in-Some.ensures))
 
 pub returns-in-None : goal.returns-in-None
-returns-in-None c = sym (no_slot_no_key c.args.kept.first c.args.kept.starts.now c.args.kept.records.now c.args.kept.arena.now c.args.tid c.args.key.now c.in-None.ensures)
+returns-in-None c = sym (no_slot_no_key c.args.kept.first c.args.kept.starts.now c.args.kept.records.now c.args.kept.arena.now c.args.tid (row_values c.args.values) c.in-None.ensures)

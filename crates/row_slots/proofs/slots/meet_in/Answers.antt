@@ -1,4 +1,5 @@
 use Rattle.std.proofs.Common.{◌∙◌, arith, ap, sym}
+use Rattle.stored_keys.specs.Rows.{row_values}
 use Rattle.row_slots.specs.Met.{is_key}
 use Rattle.row_slots.proofs.SlotLaws.{bits_still, found_below, key_there, no_slot_no_key, not_met, now_met}
 use Rattle.row_slots.proofs.slots.meet_in.Goals as goal
@@ -14,8 +15,8 @@ set_bit-requires c =
 pub returns-then-holds-clause-met : goal.returns-then-holds-clause-met
 returns-then-holds-clause-met c =
     let there = key_there c.args.kept.first c.args.kept.starts.now c.args.kept.records.now c.args.kept.arena.now c.args.tid c.in-Some.slot c.in-Some.ensures in
-    now_met c.args.kept.first c.args.kept.starts.now c.args.kept.records.now c.args.kept.arena.now c.args.bits.now c.set_bit.new.bits c.args.tid c.args.key.now c.in-Some.slot c.requires.starts c.in-Some.ensures
-    (ap (is_key c.args.key.now) there ∙ (sym c.holds.ensures ∙ c.if-holds.true))
+    now_met c.args.kept.first c.args.kept.starts.now c.args.kept.records.now c.args.kept.arena.now c.args.bits.now c.set_bit.new.bits c.args.tid (row_values c.args.values) c.in-Some.slot c.requires.starts c.in-Some.ensures
+    (ap (is_key (row_values c.args.values)) there ∙ (sym c.holds.ensures ∙ c.if-holds.true))
     c.set_bit.ensures
 
 pub returns-then-holds-clause-bits : goal.returns-then-holds-clause-bits
@@ -26,8 +27,8 @@ returns-then-holds-clause-bits c =
 pub returns-else-holds-clause-met : goal.returns-else-holds-clause-met
 returns-else-holds-clause-met c =
     let there = key_there c.args.kept.first c.args.kept.starts.now c.args.kept.records.now c.args.kept.arena.now c.args.tid c.in-Some.slot c.in-Some.ensures in
-    not_met _ _ c.args.tid c.args.key.now (ap (is_key c.args.key.now) there ∙ (sym c.holds.ensures ∙ c.if-holds.false))
+    not_met _ _ c.args.tid (row_values c.args.values) (ap (is_key (row_values c.args.values)) there ∙ (sym c.holds.ensures ∙ c.if-holds.false))
 
 pub returns-in-None-clause-met : goal.returns-in-None-clause-met
 returns-in-None-clause-met c =
-    not_met _ _ c.args.tid c.args.key.now (no_slot_no_key c.args.kept.first c.args.kept.starts.now c.args.kept.records.now c.args.kept.arena.now c.args.tid c.args.key.now c.in-None.ensures)
+    not_met _ _ c.args.tid (row_values c.args.values) (no_slot_no_key c.args.kept.first c.args.kept.starts.now c.args.kept.records.now c.args.kept.arena.now c.args.tid (row_values c.args.values) c.in-None.ensures)

@@ -1,5 +1,5 @@
 use Rattle.std.proofs.Common.{◌∙◌}
-use Rattle.bt_levels.specs.Sound.{specs_of}
+use Rattle.bt_levels.specs.Sound.{index_columns}
 use Rattle.heap_indexed.proofs.KeptLaws.{kept-same}
 use Rattle.heap_indexed.proofs.meeting.Meeting.add_block.Goals as goal
 
@@ -9,5 +9,5 @@ returns c = λ names done strays range tree work. record {
   done_is = work.done_is;
   strays_are = work.strays_are;
   unmet = λ tid. c.in_ok-add_block.ensures.ok.met tid ∙ work.unmet tid;
-  kept = λ whole. kept-same (specs_of tree) c.args.self.now.slots c.add_block.new.self range c.in_ok-add_block.ensures.ok.keys (work.kept whole);
+  kept = λ whole. kept-same (index_columns tree) c.args.self.now.slots c.add_block.new.self range c.in_ok-add_block.ensures.ok.keys (work.kept whole);
 }

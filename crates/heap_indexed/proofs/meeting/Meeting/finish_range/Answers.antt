@@ -12,7 +12,7 @@ judge_rows-requires-clause-told g c = λ names told.
     let tree = c.args.index.at.tree.now in
     record {
       tree = before.hold.tree;
-      kept = tells-of names tree (c.key_orders_are_total.ensures.keys _) (c.key_orders_are_total.ensures.same_key _) c.args.self.now.slots c.check_entries.new.slots before.work.unmet (c.in_ok-check_entries.ensures.met names held);
+      kept = tells-of names tree before.hold.tree c.args.self.now.slots c.check_entries.new.slots before.work.unmet (c.in_ok-check_entries.ensures.met names held);
       pages = before.work.pages;
       behind = before.behind;
     }

@@ -2,7 +2,7 @@ use Rattle.std.proofs.Common.{◌≡◌, ◌+◌, ◌*◌, ◌≤◌, length}
 use Rattle.outside.specs.Adds.{Leaves}
 use Rattle.outside.specs.Outside.{IfTold, Passed}
 use Rattle.reports.specs.Added.{report_lists}
-use Rattle.bt_search.specs.Lookups.{way_length}
+use Rattle.heap_indexed.specs.Looking.{look_length}
 use Rattle.heap_check.specs.RowCursor.{IsSameCursor, next_in, rows_here}
 use Rattle.heap_indexed.specs.Judging.{IsWithin}
 use Rattle.heap_indexed.specs.Rows.{IsIndexAt, owed_for}
@@ -14,7 +14,7 @@ invariant-loop-k g l = record {
   index : IsIndexAt l.self.index l.cursor;
   told : IfTold g.F.Files.seen l.fn.files (λ names. IsWithin names l.self l.look_ups l.cursor);
   lists : IfTold g.F.Files.seen l.fn.files (λ names. Leaves report_lists l.fn.report l.report (owed_for names l.self.index.at.tree.now (rows_here names l.fn.cursor)) (owed_for names l.self.index.at.tree.now (rows_here names l.cursor)));
-  visits : IfTold g.F.Files.seen l.fn.files (λ names. l.look_ups.visits.count + length (rows_here names l.cursor) * way_length names l.self.index.at.tree.now ≤ l.fn.look_ups.visits.count + length (rows_here names l.fn.cursor) * way_length names l.self.index.at.tree.now);
+  visits : IfTold g.F.Files.seen l.fn.files (λ names. l.look_ups.visits.count + length (rows_here names l.cursor) * look_length names l.self.index.at.tree.now ≤ l.fn.look_ups.visits.count + length (rows_here names l.fn.cursor) * look_length names l.self.index.at.tree.now);
   few : IfTold g.F.Files.seen l.fn.files (λ names. length (rows_here names l.cursor) + l.k ≤ length (rows_here names l.fn.cursor));
   next_block : next_in l.cursor ≡ next_in l.fn.cursor;
   same : IsSameCursor l.fn.cursor l.cursor;

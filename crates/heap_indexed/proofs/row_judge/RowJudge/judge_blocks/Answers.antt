@@ -5,7 +5,7 @@ use Rattle.outside.proofs.Adding.{Adds-exit, loop-cut, loop-next, loop-none}
 use Rattle.outside.proofs.Asking.{Passed-next, Passed-none}
 use Rattle.reports.specs.Added.{joined, report_lists}
 use Rattle.reports.specs.Lists.{Lists}
-use Rattle.bt_search.specs.Lookups.{way_length}
+use Rattle.heap_indexed.specs.Looking.{look_length}
 use Rattle.heap_check.specs.RowCursor.{next_in}
 use Rattle.heap_check.specs.Rows.{block_rows}
 use Rattle.heap_check.specs.declared.rows.LiveRow.{LiveRow}
@@ -55,7 +55,7 @@ loop-k-preserved g c =
           (next.lists names (inv.asked.same ∙ told) ∙ ap (λ (b : ℕ). joined c.loop-k.report (owed_for names index.at.tree.now (block_rows index.at.case.now names b))) inv.next_block);
       visits = λ names told.
           let rows : ℕ → List LiveRow = block_rows index.at.case.now names in
-          more-visits c.judge_next_block.new.look_ups.visits.count c.loop-k.look_ups.visits.count c.args.look_ups.now.visits.count (length (rows_from index.at.case.now names first k)) (length (rows (next_in c.loop-k.cursor))) (length (rows_from index.at.case.now names first (k + 1))) (way_length names index.at.tree.now)
+          more-visits c.judge_next_block.new.look_ups.visits.count c.loop-k.look_ups.visits.count c.args.look_ups.now.visits.count (length (rows_from index.at.case.now names first k)) (length (rows (next_in c.loop-k.cursor))) (length (rows_from index.at.case.now names first (k + 1))) (look_length names index.at.tree.now)
           (next.visits names (inv.asked.same ∙ told)) (inv.visits names told)
           (ap length (rows-next index.at.case.now names first k) ∙ length-append (rows_from index.at.case.now names first k) (rows (first + k)) ∙ ap (λ (b : ℕ). length (rows_from index.at.case.now names first k) + length (rows b)) (sym inv.next_block));
       next_block = next.next_block ∙ omega (arith, inv.next_block);
@@ -92,7 +92,7 @@ returns-clause-visits g c = λ names told.
     let first = next_in c.args.cursor.now in
     let n : ℕ = c.args.end - first in
     let whole : c.loop-k.k ≡ n = omega (arith, c.loop-k-test.false) in
-    subst (λ (m : ℕ). c.loop-k.look_ups.visits.count ≤ c.args.look_ups.now.visits.count + length (rows_from index.at.case.now names first m) * way_length names index.at.tree.now) whole (c.loop-k.invariant.visits names told)
+    subst (λ (m : ℕ). c.loop-k.look_ups.visits.count ≤ c.args.look_ups.now.visits.count + length (rows_from index.at.case.now names first m) * look_length names index.at.tree.now) whole (c.loop-k.invariant.visits names told)
 
 pub returns-in_err-judge_next_block-clause-ready : goal.returns-in_err-judge_next_block-clause-ready
 returns-in_err-judge_next_block-clause-ready g c = λ names told. c.judge_next_block.ensures.ready names (c.loop-k.invariant.asked.same ∙ told)

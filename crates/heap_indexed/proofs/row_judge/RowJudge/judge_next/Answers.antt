@@ -3,7 +3,7 @@ use Rattle.std.specs.Prelude.{Option, drop}
 use Rattle.outside.specs.Adds.{Begins, Leaves}
 use Rattle.outside.proofs.Adding.{Begins-none, Leaves-none}
 use Rattle.reports.specs.Added.{report_lists}
-use Rattle.bt_search.specs.Lookups.{way_length}
+use Rattle.heap_indexed.specs.Looking.{look_length}
 use Rattle.heap_check.specs.declared.row_cursor.RowPlace.{RowPlace}
 use Rattle.heap_check.specs.declared.rows.LiveRow.{LiveRow}
 use Rattle.heap_check.specs.RowCursor.{IsPlaceOfFirst, rows_here}
@@ -78,7 +78,7 @@ spent-by a b n L h = omega arith
 
 pub returns-clause-visits : goal.returns-clause-visits
 returns-clause-visits g c = λ names told.
-    let L = way_length names c.args.self.index.at.tree.now in
+    let L = look_length names c.args.self.index.at.tree.now in
     let more : length (rows_here names c.args.cursor.now) ≡ length (rows_here names c.pass.new.self) + 1 = returns-clause-next g c names told refl in
     subst (λ (m : ℕ). c.judge_row.new.look_ups.visits.count + length (rows_here names c.pass.new.self) * L ≤ c.args.look_ups.now.visits.count + m * L) (sym more)
     (spent-by c.judge_row.new.look_ups.visits.count c.args.look_ups.now.visits.count (length (rows_here names c.pass.new.self)) L (c.judge_row.ensures.visits names (c.find_in_block.ensures.asked.same ∙ told)))

@@ -8,7 +8,7 @@ use Rattle.bt_levels.specs.Files.{number_of}
 use Rattle.bt_levels.specs.Sound.{HoldsTree, block_count, file_of, held_block, index_columns}
 use Rattle.bt_steps.specs.Pages.{IsReadable, is_live_leaf}
 use Rattle.bt_steps.proofs.OnLeaf.{live-parts, page-readable}
-use Rattle.leaf_meets.specs.Meeting.{HaveMet, leaf_keys}
+use Rattle.leaf_meets.specs.Meeting.{HaveMet, leaf_entries}
 use Rattle.reports.specs.Added.{report_lists}
 use Rattle.index_targets.specs.Passes.{strays_on}
 use Rattle.index_targets.proofs.check.Leaves.take_block.Goals as goal
@@ -48,5 +48,5 @@ returns-clause-met g c names told =
     let not-meta = c.requires.not_meta in
     let some : c.args.b ≢ 0 = λ e. absurd (omega (arith, not-meta, e)) in
     let readable = readable-by (tree_columns c.columns.result) (index_columns tree) c.page-page.result.now (held_block names tree c.args.b) c.columns.ensures.lists page (block-readable names tree (c.requires.holds names told) c.args.b some c.requires.below) in
-    subst (λ (s : TreeColumns). HaveMet (leaf_keys s (held_block names tree c.args.b)) c.args.slots.now c.meet_page.new.slots) c.columns.ensures.lists
-    (subst (λ (p : List ℕ). HaveMet (leaf_keys (tree_columns c.columns.result) p) c.args.slots.now c.meet_page.new.slots) page (c.meet_page.ensures readable))
+    subst (λ (s : TreeColumns). HaveMet (leaf_entries s (held_block names tree c.args.b)) c.args.slots.now c.meet_page.new.slots) c.columns.ensures.lists
+    (subst (λ (p : List ℕ). HaveMet (leaf_entries (tree_columns c.columns.result) p) c.args.slots.now c.meet_page.new.slots) page (c.meet_page.ensures readable))

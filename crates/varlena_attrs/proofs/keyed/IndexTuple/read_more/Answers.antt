@@ -2,7 +2,7 @@ use Rattle.std.proofs.Common.{◌+◌, ◌++◌, drop, refl, sym, ap, ◌∙◌,
 use Rattle.std.proofs.lemmas.List.{length-append}
 use Rattle.varlena_attrs.specs.Keyed.{more_types}
 use Rattle.varlena_attrs.specs.KeyedShown.{told_by}
-use Rattle.varlena_attrs.proofs.Keying.{more_aligned, more_types-drop}
+use Rattle.varlena_attrs.proofs.Keying.{more_aligned, more_push, more_types-drop}
 use Rattle.varlena_attrs.proofs.keyed.IndexTuple.read_more.Goals as goal
 
 pub read-requires-clause-known : goal.read-requires-clause-known
@@ -17,5 +17,6 @@ loop-m-preserved c = record {
       ∙ ap (λ list. told_by c.read.new.self list (more_types (drop (c.loop-m.m-index + 1) c.args.more.now))) (append_assoc values c.loop-m.list _ ∙ ap (λ list. values ++ list) (sym c.push.ensures));
   count = rw c.push.ensures (length-append c.loop-m.list _ ∙ rw c.loop-m.invariant.count refl);
   column = c.in_ok-read.ensures.next ∙ omega (arith, c.loop-m.invariant.column);
+  fits = rw c.push.ensures (more_push c.args.more.now c.loop-m.list _ _ c.loop-m.m-index c.loop-m.invariant.count c.loop-m-test.true c.loop-m.invariant.fits c.in_ok-read.ensures.fits);
   within = c.in_ok-read.ensures.within;
 }

@@ -1,6 +1,7 @@
 use Rattle.std.proofs.Common.{◌≡◌, ◌≤◌, ◌+◌, ◌++◌, List, length, drop}
+use Rattle.std.specs.Prelude.{true}
 use Rattle.key_orders.specs.declared.columns.Value.{Value}
-use Rattle.varlena_attrs.specs.Keyed.{more_types}
+use Rattle.varlena_attrs.specs.Keyed.{fits_more, more_types}
 use Rattle.varlena_attrs.specs.KeyedShown.{told_by}
 use Rattle.varlena_attrs.proofs.keyed.IndexTuple.read_more.Given as goal
 
@@ -10,5 +11,6 @@ invariant-loop-m l = record {
   told : (values : List Value) → told_by l.fn.self values (more_types l.more) ≡ told_by l.self (values ++ l.list) (more_types (drop l.m-index l.more));
   count : length l.list ≡ l.m-index;
   column : l.self.column ≡ l.fn.self.column + l.m-index;
+  fits : fits_more l.more l.list ≡ true;
   within : l.self.place ≤ length l.self.body.now;
 }
