@@ -1,5 +1,6 @@
 """Lays pages and files of small tables, for the tests and the benches. Where nothing else is said a table is sound."""
 
+import json
 import struct
 
 PAGE = 8192
@@ -100,8 +101,9 @@ def column(name, kind):
     return f'[[column]]\nname = "{name}"\ntype = "{kind}"\n'
 
 
-def index(name, file, key):
-    return f'[[index]]\nname = "{name}"\nfile = "{file}"\n[[index.key]]\ncolumn = "{key}"\n'
+def index(name, file, key, include=()):
+    listed = f"include = {json.dumps(include)}\n" if include else ""
+    return f'[[index]]\nname = "{name}"\nfile = "{file}"\n{listed}[[index.key]]\ncolumn = "{key}"\n'
 
 
 def logs(offsets=(), members=()):
@@ -149,6 +151,21 @@ def equal_keys():
     tids = struct.pack("<HHHHHH", 0, 0, 1, 0, 0, 2)
     listed = index_tuple(int4(7) + bytes(4) + tids, 0x2002, 16, 0x2000)
     return small(rows_of([7, 7]), metapage(1, 0) + tree_page([listed], flags=3))
+
+
+def including():
+    """Numbers and texts, with an index on the numbers that includes the texts."""
+    bodies = [int4(n) + bytes([2 * len(text) + 3]) + text for n, text in ((5, b"five"), (7, b""), (9, b"nine"))]
+    entries = [index_tuple(body, k + 1, info=0x4000) for k, body in enumerate(bodies)]
+    pages = [
+        tree_page([separator(int4(7)), entries[0]], following=2),
+        tree_page(entries[1:], prev=1),
+        tree_page([first_downlink(1), separator(int4(7), 2)], level=1, flags=2),
+    ]
+    heap = page([heap_tuple(body, k + 1, infomask2=2, infomask=0x0902) for k, body in enumerate(bodies)], b"")
+    case = CASE.format(next_xid=1000, next_multi=10, next_member=100) + column("a", "int4") + column("b", "text")
+    case += index("t_a", "i", "a", ("b",))
+    return Table({"t": heap, "i": metapage(3, 1) + b"".join(pages), **logs()}, case, {"t_a": "i"}, 2)
 
 
 def split():

@@ -13,9 +13,9 @@
 --
 -- What a case can't say is left out, and a comment in the text gives the
 -- reason: an index that isn't a B-tree, that is partial or on an expression,
--- that has included columns or more blocks than the checker reads, a key type
--- or a collation that the checker doesn't order; and a missing value whose
--- stored bytes can't be told from SQL. Such a value is read as null.
+-- that has more columns than a case lists or more blocks than the checker reads,
+-- a key type or a collation that the checker doesn't order; and a missing value
+-- whose stored bytes can't be told from SQL. Such a value is read as null.
 --
 -- It needs no extension and no special right, and it changes nothing. Where a
 -- case can't describe the table it prints nothing, gives the reason on standard
@@ -526,9 +526,11 @@ indexes as (
     join pg_am as access_method on access_method.oid = class.relam
 ),
 
--- The columns of each index with the collation that orders them. 'C' stands for
--- no collation too. A collation of ICU, and ICU as the default of the database,
--- is never C, whatever the names for the operating system say.
+-- The columns of each index, those of its key first, with the collation that
+-- orders them; the included ones behind them have no collation, order or operator
+-- class. 'C' stands for no collation too. A collation of ICU, and ICU as the
+-- default of the database, is never C, whatever the names for the operating system
+-- say.
 index_columns as (
     select
         indexes.indexrelid,
@@ -589,10 +591,18 @@ key_faults as (
     select
         indexrelid,
         bool_or(not has_known_order) as has_unknown_order,
-        bool_or(not is_ordered_by_bytes) as has_other_collation,
-        bool_or(has_lost_value) as has_lost_value
+        bool_or(not is_ordered_by_bytes) as has_other_collation
     from key_columns
     group by indexrelid
+),
+
+-- The columns that an index includes beside its key.
+included_columns as (
+    select index_columns.indexrelid, string_agg(names.in_toml, ', ' order by index_columns.position) as in_toml
+    from index_columns
+    join names on names.name = index_columns.column_name
+    where not index_columns.is_key
+    group by index_columns.indexrelid
 ),
 
 -- Why an index is left out; null where it is listed.
@@ -605,11 +615,12 @@ index_reasons as (
             when indpred is not null then 'it is partial'
             when indexprs is not null then 'it is on an expression'
             when not (indisvalid and indisready and indislive) then 'it is not valid'
-            when indnatts > indnkeyatts then 'it has included columns'
+            when indnatts - indnkeyatts > 24 then 'it has more than 24 included columns'
             when indnkeyatts > 8 then 'it has more than 8 key columns'
             when has_unknown_order then 'the type or operator class of a key column'
             when has_other_collation then 'the collation of a key column is not C'
-            when has_lost_value then 'the missing value of a key column is left out'
+            when indexes.indexrelid in (select indexrelid from index_columns where has_lost_value)
+            then 'the missing value of one of its columns is left out'
             when index_path is null then 'it has no file'
             when is_index_locked
             then format('another session keeps it for itself, for longer than %s', :'lock_timeout')
@@ -772,11 +783,13 @@ lines (table_oid, part, number, place, line) as (
             E'\n',
             '[[index]]',
             'name = ' || names.in_toml,
-            format('file = "%s"', index_path)
+            format('file = "%s"', index_path),
+            'include = [' || included_columns.in_toml || ']'
         )
     end
     from numbered_indexes
     join names on names.name = numbered_indexes.index_name
+    left join included_columns on included_columns.indexrelid = numbered_indexes.indexrelid
 
     union all
     select numbered_indexes.table_oid, 3, numbered_indexes.number, key_columns.position, concat_ws(
