@@ -261,11 +261,11 @@ tables as (
                 'its column %s is of a type that no case can list: its length (attlen) is %s',
                 to_json(odd_column.column_name), odd_column.attlen
             )
-            when asked.heap_blocks > 16384
-            then format('its heap has %s blocks, and the checker reads 16384 at most (128 MiB)', asked.heap_blocks)
-            when asked.toast_blocks > 16384
+            when asked.heap_blocks > 4194304
+            then format('its heap has %s blocks, and the checker reads 4194304 at most (32 GiB)', asked.heap_blocks)
+            when asked.toast_blocks > 1048576
             then format(
-                'its TOAST table has %s blocks, and the checker reads 16384 at most (128 MiB)', asked.toast_blocks
+                'its TOAST table has %s blocks, and the checker reads 1048576 at most (8 GiB)', asked.toast_blocks
             )
         end as reason
     from asked
@@ -515,6 +515,8 @@ indexes as (
         pg_relation_filepath(class.oid) as index_path,
         case when class.oid not in (select relation from locked) then pg_relation_size(class.oid) / 8192 end
             as index_blocks,
+        -- A server before 15 has no such indexes.
+        indisunique and coalesce((to_jsonb(index) ->> 'indnullsnotdistinct')::boolean, false) as has_equal_nulls,
         access_method.amname
     from pg_index as index
     join (
@@ -624,8 +626,8 @@ index_reasons as (
             when index_path is null then 'it has no file'
             when is_index_locked
             then format('another session keeps it for itself, for longer than %s', :'lock_timeout')
-            when index_blocks > 16384
-            then format('it has %s blocks, and the checker reads 16384 at most (128 MiB)', index_blocks)
+            when index_blocks > 1048576
+            then format('it has %s blocks, and the checker reads 1048576 at most (8 GiB)', index_blocks)
         end as fault
     from indexes
     left join key_faults on key_faults.indexrelid = indexes.indexrelid
@@ -784,7 +786,9 @@ lines (table_oid, part, number, place, line) as (
             '[[index]]',
             'name = ' || names.in_toml,
             format('file = "%s"', index_path),
-            'include = [' || included_columns.in_toml || ']'
+            'include = [' || included_columns.in_toml || ']',
+            case when indisunique then 'unique = true' end,
+            case when has_equal_nulls then 'nulls_not_distinct = true' end
         )
     end
     from numbered_indexes

@@ -141,7 +141,7 @@ tell_table() {
     fi
     take_unasked "$number"
     [ "$values" = asked ] || unasked='long values (H21)'
-    [ "$apart" -eq 0 ] || unasked+="${unasked:+; }the table against $apart of $all_indexes indexes (X1, X2, U6)"
+    [ "$apart" -eq 0 ] || unasked+="${unasked:+; }the table against $apart of $all_indexes indexes (X1, X2, X3, U6)"
     [ -z "$unasked" ] || put "$text_out" '    not asked: %s\n' "$unasked"
     put "$text_out" '    heap is %s\n' "${files[number]%%$'\n'*}"
     while IFS=$'\t' read -r name file; do

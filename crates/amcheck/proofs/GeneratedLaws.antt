@@ -2,15 +2,15 @@
 use Rattle.std.proofs.Common.{◌≡◌, ◌≤◌, ◌<◌, ◌+◌, ◌*◌, ◌/◌, ◌++◌, ◌⊎◌, ℕ, Bool, true, false, List, [], refl, ap, sym, subst, ◌∙◌, arith, codes, length, nat_lt}
 use Rattle.std.specs.Prelude.{Err, IfOk, None, Ok, Option, Result, Some, min, if◌then◌else◌}
 use Rattle.std.specs.List.{All}
-use Rattle.std.proofs.Math.Nat.{min-le_left}
 use Rattle.std.proofs.lemmas.Bool.{le-ltb, lt-ltb, ltb-true}
 use Rattle.outside.specs.Memory.{sure_seen, sure_state}
 use Rattle.outside.specs.Outside.{Names, Tells}
 use Rattle.outside.specs.declared.files.Part.TheVariants.{Segment}
 use Rattle.outside.specs.declared.sure.SureFiles.{SureFiles}
 use Rattle.page_layout.specs.declared.rules.Rule.{Rule}
-use Rattle.rel_files.specs.Blocks.{blocks_below, blocks_of, first_not_full, last_segment, segment_length}
-use Rattle.attach_files.specs.Refusals.{block_limit, file_refusal, large_by}
+use Rattle.rel_files.specs.Blocks.{blocks_of, segment_length}
+use Rattle.attach_files.specs.Refusals.{file_refusal, large_by, limit_of}
+use Rattle.attach_files.proofs.Refusals.{one_segment}
 use Rattle.case_file.specs.Generated.{generated_case, index_on, rising_key}
 use Rattle.case_file.specs.Record.{CaseRecord}
 use Rattle.case_file.specs.Sound.{IsPath, IsSound as IsSoundCase, IsSoundIndex, IsSoundKey}
@@ -43,33 +43,27 @@ use Rattle.amcheck.proofs.WholeLaws.{whole_doubt_listed, whole_doubts, whole_lis
 
 -- Its files are judged
 
--- a relation of one segment that isn't full
-one_segment : (names : Names) (base : List ℕ) → blocks_of names base 131072 block_limit ≡ 0 + min (segment_length names base 0) 131072
-unfolding blocks_of blocks_below last_segment first_not_full
-one_segment names base = refl
-
-not_large : (which : Which) (blocks : ℕ) → blocks ≤ block_limit → large_by which (nat_lt block_limit blocks) blocks ≡ None
-not_large which blocks few = none (nat_lt block_limit blocks) refl
+not_large : (which : Which) (blocks : ℕ) → blocks ≤ limit_of which → large_by which (nat_lt (limit_of which) blocks) blocks ≡ None
+not_large which blocks few = none (nat_lt (limit_of which) blocks) refl
   where
-    none : (large : Bool) → nat_lt block_limit blocks ≡ large → large_by which (nat_lt block_limit blocks) blocks ≡ None
-    none true is = absurd (let more = ltb-true block_limit blocks is in omega (arith, more, few))
+    none : (large : Bool) → nat_lt (limit_of which) blocks ≡ large → large_by which (nat_lt (limit_of which) blocks) blocks ≡ None
+    none true is = absurd (let more = ltb-true (limit_of which) blocks is in omega (arith, more, few))
     none false is = ap (λ (b : Bool). large_by which b blocks) is
 
 -- a file of whole blocks that are few is judged
 pub file_is_judged : (which : Which) (names : Names) (base bytes : List ℕ) (blocks : ℕ) → names base (Segment 0) ≡ Some bytes
-    → length bytes ≡ 8192 * blocks → blocks ≤ block_limit → file_refusal which names base 131072 ≡ None
+    → length bytes ≡ 8192 * blocks → blocks < 131072 → blocks ≤ limit_of which → file_refusal which names base 131072 ≡ None
 unfolding file_refusal
-file_is_judged which names base bytes blocks held long few =
-    rw held (not_large which (blocks_of names base 131072 block_limit) least)
+file_is_judged which names base bytes blocks held long short few =
+    rw held (not_large which (blocks_of names base 131072 (limit_of which)) least)
   where
     counted : segment_length names base 0 ≡ length bytes / 8192
     counted = rw held refl
 
-    least : blocks_of names base 131072 block_limit ≤ block_limit
+    least : blocks_of names base 131072 (limit_of which) ≤ limit_of which
     least =
-        let all = one_segment names base in
-        let fewer = min-le_left (segment_length names base 0) 131072 in
-        omega (arith, all, fewer, counted, long, few)
+        let all = one_segment names base 131072 (limit_of which) (omega (arith, counted, long, short)) in
+        omega (arith, all, counted, long, few)
 
 -- none of these files is refused
 none_refused : (names : Names) → file_refusal Heap names (codes "t") 131072 ≡ None → file_refusal (Index 1) names (codes "i1") 131072 ≡ None
@@ -77,11 +71,11 @@ none_refused : (names : Names) → file_refusal Heap names (codes "t") 131072 �
 unfolding table_refusal first_upto
 none_refused names table by_id by_group = rw (table, by_id, by_group) refl
 
-few_by : (upper : Bool) (leaves : ℕ) → leaves ≤ 67 → (if upper then leaves + 1 else leaves) + 1 ≤ block_limit
+few_by : (upper : Bool) (leaves : ℕ) → leaves ≤ 67 → (if upper then leaves + 1 else leaves) + 1 ≤ 69
 few_by true leaves few = omega (arith, few)
 few_by false leaves few = omega (arith, few)
 
-few_blocks : (rows : List Row) → length rows ≤ 20000 → tree_blocks rows ≤ block_limit
+few_blocks : (rows : List Row) → length rows ≤ 20000 → tree_blocks rows ≤ 69
 few_blocks rows few = few_by (has_upper_root rows) (leaves_for rows) (omega (arith, few))
 
 -- the files that are built are held, and of whole blocks
@@ -116,11 +110,11 @@ pub files_are_judged : (seed rows : ℕ) → rows ≤ 20000 → AreHeld seed row
 files_are_judged seed rows few held =
     let names = built_files seed rows in
     let blocks = tree_blocks (rows_below seed rows) in
-    let most : blocks ≤ block_limit = few_blocks (rows_below seed rows) (omega (arith, length_rows seed rows, few)) in
+    let most : blocks ≤ 69 = few_blocks (rows_below seed rows) (omega (arith, length_rows seed rows, few)) in
     none_refused names
-    (file_is_judged Heap names (codes "t") held.table (pages_for 185 rows) held.holds_table held.table_blocks (omega (arith, few)))
-    (file_is_judged (Index 1) names (codes "i1") held.by_id blocks held.holds_id held.id_blocks most)
-    (file_is_judged (Index 2) names (codes "i2") held.by_group blocks held.holds_group held.group_blocks most)
+    (file_is_judged Heap names (codes "t") held.table (pages_for 185 rows) held.holds_table held.table_blocks (omega (arith, few)) (omega (arith, few)))
+    (file_is_judged (Index 1) names (codes "i1") held.by_id blocks held.holds_id held.id_blocks (omega (arith, most)) (omega (arith, most)))
+    (file_is_judged (Index 2) names (codes "i2") held.by_group blocks held.holds_group held.group_blocks (omega (arith, most)) (omega (arith, most)))
 
 -- What is written of it
 

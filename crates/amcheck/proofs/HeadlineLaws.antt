@@ -28,6 +28,7 @@ use Rattle.bt_steps.specs.Pages.{is_killed}
 use Rattle.bt_steps.specs.Sought.{HasAlive}
 use Rattle.bt_steps.proofs.Members.{either-in, first-in, none-in, other-in}
 use Rattle.indexed_rules.specs.Broken.{AreJoined, IsIndexed}
+use Rattle.indexed_rules.specs.Unique.{AreUnique}
 use Rattle.indexed_rules.proofs.Alive.{searched}
 use Rattle.indexed_rules.specs.Rows.{keys_of}
 use Rattle.amcheck.specs.Headline.{Finds, IsAnswered, IsFound, IsTrueIndex, just_at, pages_of}
@@ -80,7 +81,7 @@ module _ (laws : AreLaws) (specs : List KeySpec) where
       ∙ and_from (not (before_bound (columns_of specs) key true key)) (not (past_bound (columns_of specs) key true key))
       (ap not (not_before key)) (ap not (not_past key))
 
-module _ (laws : AreLaws) (case : CaseRecord) (names : Names) (n : ℕ) (sound : IsSound case) (quiet : IsQuiet case names) (tree : IsTrueTree (tree_of case names n)) (joined : AreJoined case names n) where
+module _ (laws : AreLaws) (case : CaseRecord) (names : Names) (n : ℕ) (sound : IsSound case) (quiet : IsQuiet case names) (tree : IsTrueTree (tree_of case names n)) (joined : AreJoined case names n) (unique : AreUnique case names n) where
   -- each search has its answer
   answered : (bounds : Bounds) → IsAnswered case names n bounds
   answered bounds =
@@ -122,6 +123,7 @@ module _ (laws : AreLaws) (case : CaseRecord) (names : Names) (n : ℕ) (sound :
   index_is_true = record {
     scans = answered;
     rows = λ tid at. let has = live.all tid at in found_by tid has (joined.rows has.row has.among);
+    unique = unique;
     entries = joined.entries;
     table = case_is_true case names quiet;
   }

@@ -20,7 +20,7 @@ use Rattle.amcheck.specs.Laws.{AreLaws}
 use Rattle.amcheck.specs.Numbered.{BreaksNumbered, DoubtsNumbered, IsBehind, numbered_found}
 use Rattle.amcheck.proofs.CaseLaws.{HasCase, one_case, sound_case, the_case, unless_is}
 use Rattle.amcheck.proofs.HeadlineLaws.{index_is_true}
-use Rattle.amcheck.proofs.NumberedLaws.{numbered_doubt_listed, numbered_doubts, numbered_joined, numbered_listed, numbered_sound, numbered_tree}
+use Rattle.amcheck.proofs.NumberedLaws.{numbered_doubt_listed, numbered_doubts, numbered_joined, numbered_listed, numbered_sound, numbered_tree, numbered_unique}
 
 -- What is listed in a part is listed in the whole
 
@@ -134,5 +134,6 @@ module _ (laws : AreLaws) (file name : List ℕ) (names : Names) (lists : Lists)
         tree = tree;
         index =
             index_is_true laws has.case names has.number (sound_case file names has.case has.meant) quiet tree
-            (numbered_joined laws has.case names has.number quiet empty);
+            (numbered_joined laws has.case names has.number quiet empty)
+            (numbered_unique laws has.case names has.number quiet empty);
       }

@@ -28,6 +28,7 @@ use Rattle.bt_levels.specs.Lists.{is_quiet, lists_where}
 use Rattle.bt_levels.proofs.LevelLaws.{empty_quiet, quiet_empty}
 use Rattle.indexed_rules.specs.Broken.{AreJoined, Breaks as BreaksJoin, Doubts as DoubtsJoin, IsJudged as IsJoinJudged}
 use Rattle.indexed_rules.specs.Lists.{indexed_lists}
+use Rattle.indexed_rules.specs.Unique.{AreUnique}
 use Rattle.amcheck.specs.Laws.{AreLaws}
 use Rattle.amcheck.specs.Numbered.{BreaksNumbered, DoubtsNumbered, IsBehind, KeepsTable, KeepsTree, are_quiet, beside_heap, file_at, in_tree, join_found, numbered_found}
 
@@ -225,8 +226,14 @@ module _ (laws : AreLaws) (case : CaseRecord) (names : Names) (n : ℕ) where
     pub numbered_tree : IsTrueTree (tree_of case names n)
     numbered_tree = tree.kept own_empty
 
-    pub numbered_joined : AreJoined case names n
-    numbered_joined =
+    joint_empty : AreEmpty (indexed_lists case names n)
+    joint_empty =
         let rest : AreEmpty (join_found case names n) =
         record { findings = second_is_empty (tree_lists case names n).findings _ empty.findings; unjudged = second_is_empty (tree_lists case names n).unjudged _ empty.unjudged } in
-        join.kept (subst AreEmpty (both_quiet case names n quiet own_empty) rest)
+        subst AreEmpty (both_quiet case names n quiet own_empty) rest
+
+    pub numbered_joined : AreJoined case names n
+    numbered_joined = join.kept joint_empty
+
+    pub numbered_unique : AreUnique case names n
+    numbered_unique = join.unique joint_empty

@@ -24,7 +24,7 @@ use Rattle.amcheck.specs.Laws.{AreLaws}
 use Rattle.amcheck.specs.Numbered.{BreaksNumbered, DoubtsNumbered, IsBehind, IsNumber, numbered_found}
 use Rattle.amcheck.proofs.HeadlineLaws.{index_is_true}
 use Rattle.amcheck.proofs.IndexLaws.{listed_first, listed_second, told_second}
-use Rattle.amcheck.proofs.NumberedLaws.{numbered_doubt_listed, numbered_doubts, numbered_joined, numbered_listed, numbered_sound, numbered_tree}
+use Rattle.amcheck.proofs.NumberedLaws.{numbered_doubt_listed, numbered_doubts, numbered_joined, numbered_listed, numbered_sound, numbered_tree, numbered_unique}
 
 module _ (laws : AreLaws) (case : CaseRecord) (names : Names) where
   abbrev count : ℕ
@@ -99,7 +99,7 @@ module _ (laws : AreLaws) (case : CaseRecord) (names : Names) where
     tree n is = numbered_tree laws case names n quiet (empty n is)
 
     index : (n : ℕ) → IsNumber case n → IsTrueIndex case names n
-    index n is = index_is_true laws case names n sound quiet (tree n is) (numbered_joined laws case names n quiet (empty n is))
+    index n is = index_is_true laws case names n sound quiet (tree n is) (numbered_joined laws case names n quiet (empty n is)) (numbered_unique laws case names n quiet (empty n is))
 
     pub whole_true : IsTrueCase case names
     whole_true = record { heap = case_is_true case names quiet; trees = tree; indexes = index }

@@ -22,6 +22,7 @@ use Rattle.heap_check.specs.declared.rows.LiveRow.{LiveRow}
 use Rattle.indexed_rules.specs.Broken.{IsAt}
 use Rattle.indexed_rules.specs.Entries.{may_be_named}
 use Rattle.indexed_rules.specs.Rows.{key_of, keys_of}
+use Rattle.indexed_rules.specs.Unique.{AreUnique}
 
 -- The pages of index n, as a search reads their bytes: entries, separators and downlinks, siblings, the fast root.
 abbrev pub pages_of : CaseRecord → Names → ℕ → TreeIndex
@@ -68,6 +69,9 @@ pub record IsTrueIndex (case : CaseRecord) (names : Names) (n : ℕ) : Type 0 wh
   pub scans : (bounds : Bounds) → IsAnswered case names n bounds
   -- each live tuple of the table, one that a committed transaction inserted and none deleted, is found;
   pub rows : (tid : Tid) → IsLiveAt case names tid → IsFound case names n tid
+  -- in a unique index under its own key alone: no other live tuple has that key, unless a null in it makes it equal to
+  -- none;
+  pub unique : AreUnique case names n
   -- each entry, killed or not, names a line pointer of the heap: a redirect, a dead one, or that of a tuple that isn't
   -- heap-only;
   pub entries : (block item : ℕ) (e : Entry Value Tid) → IsAt case names n block item e

@@ -13,52 +13,58 @@ use Rattle.rel_files.specs.declared.relation.Relation.{Relation}
 use Rattle.reports.specs.declared.fault.CheckFault.{CheckFault}
 use Rattle.reports.specs.declared.fault.CheckFault.TheVariants.{NoFile, TooLarge, ReadFault, NoMemory}
 use Rattle.reports.specs.declared.fault.Which.{Which}
-use Rattle.attach_files.specs.Refusals.{TellsRefusal, block_limit, fault_of, file_refusal, large_by, refused_by}
+use Rattle.attach_files.specs.Refusals.{TellsRefusal, fault_of, file_refusal, large_by, limit_of, refused_by}
 
--- a relation whose first segment isn't held has no blocks
-pub first_is_last : (len : ℕ → ℕ) (size n : ℕ) → 1 ≤ size → len 0 ≡ 0 → first_not_full len size 0 n ≡ 0
+-- a first segment that isn't full is the last
+pub first_is_last : (len : ℕ → ℕ) (size n : ℕ) → len 0 < size → first_not_full len size 0 n ≡ 0
 unfolding first_not_full
-first_is_last len size zero some none = refl
-first_is_last len size (suc n) some none = rw none (by_test (0 == size) (grind (arith, common_steps)))
+first_is_last len size zero few = refl
+first_is_last len size (suc n) few = by_test (len 0 == size) (grind (arith, common_steps))
   where
     by_test : (t : Bool) → t ≡ false → (if t then first_not_full len size 1 n else 0) ≡ 0
     by_test t e = rw e refl
 
-pub no_blocks : (names : Names) (base : List ℕ) (size limit : ℕ) → 1 ≤ size → names base (Segment 0) ≡ None → blocks_of names base size limit ≡ 0
+pub one_segment : (names : Names) (base : List ℕ) (size limit : ℕ) → segment_length names base 0 < size
+    → blocks_of names base size limit ≡ segment_length names base 0
 unfolding blocks_of last_segment blocks_below
+one_segment names base size limit few =
+    rw (first_is_last (segment_length names base) size (limit / size) few) (omega (arith, few))
+
+-- a relation whose first segment isn't held has no blocks
+pub no_blocks : (names : Names) (base : List ℕ) (size limit : ℕ) → 1 ≤ size → names base (Segment 0) ≡ None → blocks_of names base size limit ≡ 0
 no_blocks names base size limit some none =
     let empty : segment_length names base 0 ≡ 0 = rw none refl in
-    rw (first_is_last (segment_length names base) size (limit / size) some empty, empty) (omega arith)
+    one_segment names base size limit (omega (arith, some, empty)) ∙ empty
 
 -- A file
 
-large_is : (which : Which) (large : Bool) (blocks : ℕ) → large ≡ true → large_by which large blocks ≡ Some (TooLarge which blocks block_limit)
+large_is : (which : Which) (large : Bool) (blocks : ℕ) → large ≡ true → large_by which large blocks ≡ Some (TooLarge which blocks (limit_of which))
 large_is which large blocks e = rw e refl
 
-held_is_large : (which : Which) (o : Option (List ℕ)) (blocks : ℕ) → (o ≡ None → blocks ≡ 0) → block_limit < blocks → refused_by which o blocks ≡ Some (TooLarge which blocks block_limit)
+held_is_large : (which : Which) (o : Option (List ℕ)) (blocks : ℕ) → (o ≡ None → blocks ≡ 0) → limit_of which < blocks → refused_by which o blocks ≡ Some (TooLarge which blocks (limit_of which))
 held_is_large which None blocks none lt = absurd (omega (arith, none refl))
-held_is_large which (Some bytes) blocks none lt = large_is which (nat_lt block_limit blocks) blocks (grind (arith, common_steps))
+held_is_large which (Some bytes) blocks none lt = large_is which (nat_lt (limit_of which) blocks) blocks (grind (arith, common_steps))
 
-held_is_small : (which : Which) (o : Option (List ℕ)) (blocks : ℕ) → IsSome o → blocks ≤ block_limit → refused_by which o blocks ≡ None
+held_is_small : (which : Which) (o : Option (List ℕ)) (blocks : ℕ) → IsSome o → blocks ≤ limit_of which → refused_by which o blocks ≡ None
 held_is_small which None blocks held le = cc
-held_is_small which (Some bytes) blocks held le = small (nat_lt block_limit blocks) (grind (arith, common_steps))
+held_is_small which (Some bytes) blocks held le = small (nat_lt (limit_of which) blocks) (grind (arith, common_steps))
   where
     small : (large : Bool) → large ≡ false → large_by which large blocks ≡ None
     small large e = rw e refl
 
 -- a relation that is attached is refused by nothing
-pub attached_is_not_refused : (which : Which) (names : Names) (base : List ℕ) (size : ℕ) (r : Relation) → IsRelationOf names base size block_limit r → count_of r ≤ block_limit → file_refusal which names base size ≡ None
+pub attached_is_not_refused : (which : Which) (names : Names) (base : List ℕ) (size : ℕ) (r : Relation) → IsRelationOf names base size (limit_of which) r → count_of r ≤ limit_of which → file_refusal which names base size ≡ None
 unfolding file_refusal
 attached_is_not_refused which names base size r is within =
-    let few : blocks_of names base size block_limit ≤ block_limit = omega (arith, is.count, within) in
+    let few : blocks_of names base size (limit_of which) ≤ limit_of which = omega (arith, is.count, within) in
     held_is_small which _ _ is.held few
 
 -- a refusal to attach it is its refusal
-pub refused_is_refusal : (which : Which) (names : Names) (base : List ℕ) (size : ℕ) (fault : AttachFault) → 1 ≤ size → IsRefused names base size block_limit fault → TellsRefusal {T = Relation} (file_refusal which names base size) (Err (fault_of which fault))
+pub refused_is_refusal : (which : Which) (names : Names) (base : List ℕ) (size : ℕ) (fault : AttachFault) → 1 ≤ size → IsRefused names base size (limit_of which) fault → TellsRefusal {T = Relation} (file_refusal which names base size) (Err (fault_of which fault))
 unfolding file_refusal
 refused_is_refusal which names base size attach.NoFile some none = rw none refl
 refused_is_refusal which names base size (attach.TooLarge blocks limit) some large =
-    held_is_large which _ _ (no_blocks names base size block_limit some) large.0
+    held_is_large which _ _ (no_blocks names base size (limit_of which) some) large.0
     ∙ rw (large.1, large.2) refl
 refused_is_refusal which names base size attach.ReadFault some is = tt
 refused_is_refusal which names base size attach.NoMemory some is = tt

@@ -10,22 +10,35 @@ use Rattle.rel_files.specs.declared.relation.Relation.{Relation}
 use Rattle.reports.specs.declared.fault.CheckFault.{CheckFault}
 use Rattle.reports.specs.declared.fault.CheckFault.TheVariants.{NoFile, NoMemory, ReadFault, TooLarge}
 use Rattle.reports.specs.declared.fault.Which.{Which}
+use Rattle.reports.specs.declared.fault.Which.TheVariants.{Heap, Index, Toast}
 
--- how many blocks a file may have
-abbrev pub block_limit : ℕ
-block_limit = 16384
+-- how many blocks a heap may have: 32 GiB of blocks of 8192 bytes; and a TOAST table, and an index: 8 GiB
+abbrev pub heap_limit : ℕ
+heap_limit = 4194304
+
+abbrev pub toast_limit : ℕ
+toast_limit = 1048576
+
+abbrev pub index_limit : ℕ
+index_limit = 1048576
+
+abbrev pub limit_of : Which → ℕ
+limit_of Heap = heap_limit
+limit_of Toast = toast_limit
+limit_of (Index n) = index_limit
 
 -- a file of so many blocks is too large
 abbrev pub large_by : Which → Bool → ℕ → Option CheckFault
-large_by which large blocks = if large then Some (TooLarge which blocks block_limit) else None
+large_by which large blocks = if large then Some (TooLarge which blocks (limit_of which)) else None
 
 abbrev pub refused_by : Which → Option (List ℕ) → ℕ → Option CheckFault
 refused_by which None blocks = Some (NoFile which)
-refused_by which (Some bytes) blocks = large_by which (nat_lt block_limit blocks) blocks
+refused_by which (Some bytes) blocks = large_by which (nat_lt (limit_of which) blocks) blocks
 
 -- why a file can't be judged: it isn't there, or is too large
 unfoldable pub file_refusal : Which → Names → List ℕ → ℕ → Option CheckFault
-file_refusal which names base size = refused_by which (names base (Segment 0)) (blocks_of names base size block_limit)
+file_refusal which names base size =
+    refused_by which (names base (Segment 0)) (blocks_of names base size (limit_of which))
 
 -- an answer is a refusal exactly where there is one; a fault and want of memory say nothing of it
 abbrev pub TellsRefusal : {T : Type 0} → Option CheckFault → Result T CheckFault → Type 0

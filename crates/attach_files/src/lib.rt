@@ -2,7 +2,7 @@
 #![tactic(auto)]
 
 ghost use Rattle.std.specs.Prelude.{◌≡◌, ◌≤◌, IfOk};
-ghost use Rattle.attach_files.specs.Refusals.{IsNamed, TellsRefusal, block_limit, fault_of, file_refusal};
+ghost use Rattle.attach_files.specs.Refusals.{IsNamed, TellsRefusal, fault_of, file_refusal, limit_of};
 ghost use Rattle.outside.specs.Outside.{Asked, IfTold, Tells};
 ghost use Rattle.rel_files.specs.Relation.{IsRelationOf};
 
@@ -11,8 +11,21 @@ use rel_files::{AttachFault, Relation};
 use reports::{CheckFault, Which};
 use std::alloc::Global;
 
-/// How many blocks a heap, a TOAST table or an index may have: 128 MiB of blocks of 8192 bytes.
-pub const BLOCK_LIMIT: u32 = 16384;
+// How many blocks a heap may have (32 GiB of blocks of 8192 bytes), and a TOAST table or an index (8 GiB).
+const HEAP_LIMIT: u32 = 4_194_304;
+
+const OTHER_LIMIT: u32 = 1_048_576;
+
+// How many blocks this file may have.
+fn limit_of(which: Which) -> u32
+    ensures { result ≡ limit_of which }
+{
+    match which {
+        Which::Heap => HEAP_LIMIT,
+        Which::Toast => OTHER_LIMIT,
+        Which::Index(_) => OTHER_LIMIT,
+    }
+}
 
 // The same fault, of the file that is meant.
 fn fault_of(which: Which, fault: AttachFault) -> CheckFault
@@ -30,8 +43,9 @@ fn fault_of(which: Which, fault: AttachFault) -> CheckFault
     }
 }
 
-/// Attaches a file that has to be there, of at most 16384 blocks. `base` is its name without a
-/// segment's number, and `segment_blocks` how many blocks a full segment has (1 to 131072).
+/// Attaches a file that has to be there: a heap of at most 4194304 blocks, or a TOAST table or an index of at most
+/// 1048576. `base` is its name without a segment's number, and `segment_blocks` how many blocks a full segment has
+/// (1 to 131072).
 ///
 /// `NoFile` comes exactly where the first segment isn't there, `TooLarge` exactly where the file has
 /// more blocks, with the count at the first segment where it does, and `ReadFault` only where the
@@ -46,12 +60,13 @@ pub fn attach_file<F: Files>(
     requires some { 1 ≤ segment_blocks }
     requires small { segment_blocks ≤ 131072 }
     ensures named { IfOk result (IsNamed base.now segment_blocks) }
-    ensures told { Tells F.seen files.old result (λ r names. IsRelationOf names base.now segment_blocks block_limit r) }
+    ensures told { Tells F.seen files.old result (λ r names. IsRelationOf names base.now segment_blocks
+        (limit_of which) r) }
     ensures refusal { IfTold F.seen files.old (λ names.
         TellsRefusal (file_refusal which names base.now segment_blocks) result) }
     ensures asked { Asked F.seen files.old files.new result CheckFault.ReadFault }
 {
-    match Relation::attach(alloc, files, base, segment_blocks, BLOCK_LIMIT) {
+    match Relation::attach(alloc, files, base, segment_blocks, limit_of(which)) {
         Ok(relation) => Ok(relation),
         Err(fault) => Err(fault_of(which, fault)),
     }

@@ -4,14 +4,14 @@ use Rattle.outside.specs.Outside.{Names}
 use Rattle.rel_files.specs.Blocks.{block_of}
 use Rattle.rel_files.specs.Relation.{IsRelationOf, long_of}
 use Rattle.case_file.specs.Record.{CaseRecord}
-use Rattle.attach_files.specs.Refusals.{IsNamed, block_limit}
+use Rattle.attach_files.specs.Refusals.{IsNamed, index_limit}
 use Rattle.bt_pages.specs.Trees.{tree_seen}
 use Rattle.bt_pages.specs.declared.tree.TreeRules.{TreeRules}
 use Rattle.bt_levels.specs.Index.{index_of, tree_lists, tree_of}
 use Rattle.bt_levels.specs.Lists.{index_lists}
 
 module _ (case : CaseRecord) (names : Names) (n : ℕ) (rules : TreeRules) (number : rules.number ≡ n) (specs : rules.columns.specs.now ≡ (index_of case n).keys) (more : rules.columns.more.now ≡ (index_of case n).more)
-    (named : IsNamed (index_of case n).file case.segment_blocks rules.relation.now) (is : IsRelationOf names (index_of case n).file case.segment_blocks block_limit rules.relation.now) where
+    (named : IsNamed (index_of case n).file case.segment_blocks rules.relation.now) (is : IsRelationOf names (index_of case n).file case.segment_blocks index_limit rules.relation.now) where
   pub tree-seen : tree_seen names rules ≡ tree_of case names n
   tree-seen = λ i. record {
     number = number i;

@@ -11,7 +11,7 @@ use Rattle.tree_rules.specs.Rules.{BreaksLevelRule, KeepsLevelRules}
 use Rattle.bt_meta.specs.Pages.{has_bad_root, is_no_metapage, meta_of}
 use Rattle.rel_files.specs.Blocks.{long_segment_of}
 use Rattle.case_file.specs.Record.{CaseRecord}
-use Rattle.attach_files.specs.Refusals.{block_limit}
+use Rattle.attach_files.specs.Refusals.{index_limit}
 use Rattle.reports.specs.Lists.{Lists}
 use Rattle.reports.specs.declared.places.Finding.{Finding}
 use Rattle.reports.specs.declared.places.Place.{Place}
@@ -92,7 +92,7 @@ pub record IsBehind (lists : Lists) (rule : Rule) : Type 0 where
 -- the same of index n of a case
 abbrev pub Breaks : CaseRecord → Names → ℕ → Rule → Place → Type 0
 Breaks case names n =
-    BreaksTree (tree_of case names n) (long_segment_of names (index_of case n).file case.segment_blocks block_limit)
+    BreaksTree (tree_of case names n) (long_segment_of names (index_of case n).file case.segment_blocks index_limit)
 
 abbrev pub Doubts : CaseRecord → Names → ℕ → Reason → Place → Type 0
 Doubts case names n = DoubtsTree (tree_of case names n)

@@ -4,7 +4,7 @@ use Rattle.outside.specs.Outside.{Names}
 use Rattle.rel_files.specs.Relation.{IsRelationOf}
 use Rattle.rel_files.specs.declared.relation.Relation.{Relation}
 use Rattle.case_file.specs.Record.{CaseRecord}
-use Rattle.attach_files.specs.Refusals.{IsNamed, block_limit, file_refusal}
+use Rattle.attach_files.specs.Refusals.{IsNamed, file_refusal, index_limit}
 use Rattle.reports.specs.declared.fault.CheckFault.{CheckFault}
 use Rattle.reports.specs.declared.fault.Which.TheVariants.{Index}
 use Rattle.bt_levels.specs.declared.files.TreeFile.{TreeFile}
@@ -23,7 +23,7 @@ refusal_of case names n = file_refusal (Index n) names (index_of case n).file ca
 
 -- it is the file of an index of this case, over these names
 abbrev pub IsFileOf : CaseRecord → Names → TreeFile → Type 0
-IsFileOf case names at = IsRelationOf names (index_of case at.index).file case.segment_blocks block_limit at.relation
+IsFileOf case names at = IsRelationOf names (index_of case at.index).file case.segment_blocks index_limit at.relation
 
 -- the same, whatever the names hold
 pub record BelongsTo (case : CaseRecord) (at : TreeFile) : Type 0 where

@@ -18,7 +18,7 @@ use Rattle.case_file.specs.Keys.{keys_of, row_of}
 use Rattle.case_file.specs.Rules.{applies, breaks, has_name, is_fit, is_key_column, is_needed, is_out_of_range, is_told, is_unknown, key_type}
 use Rattle.case_file.specs.Rules.{key_types, has_key_type, names_no_column}
 use Rattle.case_file.specs.Sound.{IsSoundIndex, IsSoundKey, IsSoundMore}
-use Rattle.case_file.specs.Spots.{element, element_spots, flat_map_from, in_table, include_spots, index_keys_spots, index_spots, key_spots, listed}
+use Rattle.case_file.specs.Spots.{element, element_spots, flat_map_from, in_table, include_spots, index_keys_spots, index_spots, key_spots, listed, unique_spots}
 use Rattle.case_file.specs.Tables.{is_table, tables_at, text_at, text_in, values_at}
 use Rattle.case_file.proofs.Passing.{EachPasses, Passes, passes_after, passes_before}
 use Rattle.case_file.proofs.Rows.{few_values, needed_key, needed_tables, text_found, text_in_range}
@@ -116,13 +116,14 @@ unfolding breaks is_out_of_range applies row_of is_fit values_at
 few_included top k t passes = few_values 24 (get_member (codes "include") t) passes.c4
 
 sound_index : (top : Members) (k : ℕ) (d : Data) (o : Option Members) → as_table d ≡ o → is_some o ≡ true → length (tables_at (codes "column") top) ≤ 64
-    → EachPasses top (in_table (Index k) o ++ index_keys_spots k o ++ include_spots k o)
+    → EachPasses top (in_table (Index k) o ++ index_keys_spots k o ++ include_spots k o ++ unique_spots k o)
     → IsSoundIndex (map column_of (tables_at (codes "column") top)) (index_of (tables_at (codes "column") top) d)
 unfolding in_table keys_of index_of row_of is_needed is_fit tables_at
 sound_index top k d None is there few all = absurd (false≢true there)
 sound_index top k d (Some t) is there few all =
-    let up_to_keys = passes_before top (in_table (Index k) (Some t) ++ index_keys_spots k (Some t)) (include_spots k (Some t)) all in
-    let included = passes_after top (in_table (Index k) (Some t) ++ index_keys_spots k (Some t)) (include_spots k (Some t)) all in
+    let up_to_included = passes_before top (in_table (Index k) (Some t) ++ index_keys_spots k (Some t) ++ include_spots k (Some t)) (unique_spots k (Some t)) all in
+    let up_to_keys = passes_before top (in_table (Index k) (Some t) ++ index_keys_spots k (Some t)) (include_spots k (Some t)) up_to_included in
+    let included = passes_after top (in_table (Index k) (Some t) ++ index_keys_spots k (Some t)) (include_spots k (Some t)) up_to_included in
     let name = needed_key top (Index k) IndexName t up_to_keys.1.0 refl in
     let file = needed_key top (Index k) IndexFile t up_to_keys.1.1.0 refl in
     let keys = needed_key top (Index k) IndexKeys t up_to_keys.1.1.1.0 refl in

@@ -6,6 +6,7 @@ use Rattle.key_orders.specs.declared.columns.KeySpec.{KeySpec}
 use Rattle.key_orders.specs.declared.columns.Value.TheVariants.{Null}
 use Rattle.rel_files.specs.declared.cluster.Cluster.{Cluster}
 use Rattle.case_file.specs.declared.case.Column.{Column}
+use Rattle.case_file.specs.declared.case.Unique.TheVariants.{No}
 use Rattle.case_file.specs.Record.{CaseRecord, IndexRecord}
 
 -- a cluster in which one transaction, 3, wrote something
@@ -21,9 +22,10 @@ abbrev pub rising_key : ℕ → ColType → KeySpec
 rising_key column ctype = record { column = column; ctype = ctype; desc = false; nulls_first = false }
 
 abbrev pub index_on : List ℕ → List ℕ → ℕ → ColType → IndexRecord
-index_on name file column ctype = record { name = name; file = file; keys = rising_key column ctype ∷ []; more = [] }
+index_on name file column ctype =
+    record { name = name; file = file; keys = rising_key column ctype ∷ []; more = []; unique = No }
 
--- the columns `id` and `grp`, with an index on each that includes no other
+-- the columns `id` and `grp`, with an index on each that includes no other and isn't unique
 abbrev pub generated_case : CaseRecord
 generated_case = record {
   segment_blocks = 131072;

@@ -1,9 +1,12 @@
 -- The indexes of a document that breaks no rule.
-use Rattle.std.specs.Prelude.{ℕ, List, [], map, false, Option, Some, None, option_and_then, unwrap_or, position, codes}
+use Rattle.std.specs.Prelude.{ℕ, List, [], map, false, if◌then◌else◌, Option, Some, None, option_and_then, unwrap_or}
+use Rattle.std.specs.Prelude.{position, codes}
 use Rattle.std.specs.List.{slice_get}
 use Rattle.key_orders.specs.declared.columns.KeySpec.{KeySpec}
 use Rattle.key_orders.specs.declared.more.MoreSpec.{MoreSpec}
 use Rattle.toml.specs.Data.{Data, Members, as_str, as_table}
+use Rattle.case_file.specs.declared.case.Unique.{Unique}
+use Rattle.case_file.specs.declared.case.Unique.TheVariants.{No, NullsDistinct, NullsEqual}
 use Rattle.case_file.specs.Columns.{below_or_zero, told_type}
 use Rattle.case_file.specs.Record.{IndexRecord}
 use Rattle.case_file.specs.Rules.{has_name, is_key_column}
@@ -46,10 +49,17 @@ abbrev pub more_in : Option Members → List Data
 more_in (Some t) = values_at (codes "include") t
 more_in None = []
 
+-- whether an index is unique, and how it takes nulls if it is
+unfoldable pub unique_in : Option Members → Unique
+unique_in t =
+    let nulls_not_distinct = flag_in t (codes "nulls_not_distinct") false in
+    if flag_in t (codes "unique") false then (if nulls_not_distinct then NullsEqual else NullsDistinct) else No
+
 unfoldable pub index_of : List Data → Data → IndexRecord
 index_of columns d = record {
   name = text_in (as_table d) (codes "name");
   file = text_in (as_table d) (codes "file");
   keys = map (key_of columns) (keys_in (as_table d));
   more = map (more_of columns) (more_in (as_table d));
+  unique = unique_in (as_table d);
 }

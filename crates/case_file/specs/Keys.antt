@@ -7,8 +7,8 @@ use Rattle.case_file.specs.declared.keys.Key.TheVariants.{SegmentBlocks, Cluster
 use Rattle.case_file.specs.declared.keys.Key.TheVariants.{OldestMulti, NextMember, XactDir, OffsetsDir, MembersDir}
 use Rattle.case_file.specs.declared.keys.Key.TheVariants.{HeapTable, HeapFile, ToastFile, ToastOid, Columns, ColumnName}
 use Rattle.case_file.specs.declared.keys.Key.TheVariants.{ColumnType, ColumnLen, ColumnAlign, ColumnMissing, Indexes}
-use Rattle.case_file.specs.declared.keys.Key.TheVariants.{IndexName, IndexFile, IndexKeys, IndexInclude, KeyColumn}
-use Rattle.case_file.specs.declared.keys.Key.TheVariants.{KeyDesc, KeyNullsFirst}
+use Rattle.case_file.specs.declared.keys.Key.TheVariants.{IndexName, IndexFile, IndexKeys, IndexInclude, IndexUnique}
+use Rattle.case_file.specs.declared.keys.Key.TheVariants.{IndexNullsNotDistinct, KeyColumn, KeyDesc, KeyNullsFirst}
 use Rattle.case_file.specs.declared.keys.Kind.{Kind}
 use Rattle.case_file.specs.declared.keys.Kind.TheVariants.{Text, Integer, Boolean, Array, Table, Tables}
 use Rattle.case_file.specs.declared.keys.Need.{Need}
@@ -54,6 +54,8 @@ row_of IndexName = row (codes "name") Text Always (Between 1 63)
 row_of IndexFile = row (codes "file") Text Always (Between 1 200)
 row_of IndexKeys = row (codes "key") Tables Always (Between 1 8)
 row_of IndexInclude = row (codes "include") Array Optional (Between 0 24)
+row_of IndexUnique = row (codes "unique") Boolean Optional Any
+row_of IndexNullsNotDistinct = row (codes "nulls_not_distinct") Boolean Optional Any
 row_of KeyColumn = row (codes "column") Text Always Any
 row_of KeyDesc = row (codes "desc") Boolean Optional Any
 row_of KeyNullsFirst = row (codes "nulls_first") Boolean Optional Any
@@ -69,7 +71,7 @@ keys_of (IndexKey k j) = KeyColumn ∷ KeyDesc ∷ KeyNullsFirst ∷ []
 
 -- and those that are asked behind them
 unfoldable pub late_keys_of : Place → List Key
-late_keys_of (Index k) = IndexInclude ∷ []
+late_keys_of (Index k) = IndexInclude ∷ IndexUnique ∷ IndexNullsNotDistinct ∷ []
 late_keys_of _ = []
 
 abbrev pub bracketed : ℕ → List ℕ

@@ -5,13 +5,16 @@ use Rattle.key_orders.specs.declared.columns.KeySpec.{KeySpec}
 use Rattle.key_orders.specs.declared.more.MoreSpec.{MoreSpec}
 use Rattle.rel_files.specs.declared.cluster.Cluster.{Cluster}
 use Rattle.case_file.specs.declared.case.Column.{Column}
+use Rattle.case_file.specs.declared.case.Unique.{Unique}
 
--- an index: its name, the base name of its file, its key columns in order, and the columns that it includes beside them
+-- an index: its name, the base name of its file, its key columns in order, the columns that it includes beside them,
+-- and whether it is unique
 pub record IndexRecord : Type 0 where
   pub name : List ℕ
   pub file : List ℕ
   pub keys : List KeySpec
   pub more : List MoreSpec
+  pub unique : Unique
 
 -- the number of the first index of a name; they are numbered from 1
 abbrev pub index_named : List IndexRecord → List ℕ → Option ℕ

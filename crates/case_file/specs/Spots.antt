@@ -7,7 +7,7 @@ use Rattle.case_file.specs.declared.keys.Place.{Place}
 use Rattle.case_file.specs.declared.keys.Place.TheVariants.{Top, Cluster, Heap, Column, Index, IndexKey}
 use Rattle.case_file.specs.declared.keys.Key.{Key}
 use Rattle.case_file.specs.declared.keys.Key.TheVariants.{SegmentBlocks, ClusterTable, HeapTable, Columns, Indexes}
-use Rattle.case_file.specs.declared.keys.Key.TheVariants.{IndexInclude}
+use Rattle.case_file.specs.declared.keys.Key.TheVariants.{IndexInclude, IndexUnique, IndexNullsNotDistinct}
 use Rattle.case_file.specs.declared.spots.Spot.{Spot as CodeSpot}
 use Rattle.case_file.specs.declared.spots.Spot.TheVariants.{Whole, Listed, Element}
 use Rattle.case_file.specs.Keys.{element_text, keys_of, key_text, place_text}
@@ -53,9 +53,17 @@ include_spots k (Some t) =
     ∷ flat_map_from (element_spots (Index k) IndexInclude) 0 (values_at (codes "include") t)
 include_spots k None = []
 
+abbrev pub unique_spots : ℕ → Option Members → List Spot
+unique_spots k (Some t) = listed (Index k) IndexUnique t ∷ listed (Index k) IndexNullsNotDistinct t ∷ []
+unique_spots k None = []
+
+-- an index: the keys that are asked before its key columns, these columns, and the keys that are asked behind them
 abbrev pub index_spots : ℕ → Data → List Spot
 index_spots k d =
-    in_table (Index k) (as_table d) ++ index_keys_spots k (as_table d) ++ include_spots k (as_table d)
+    in_table (Index k) (as_table d)
+    ++ index_keys_spots k (as_table d)
+    ++ include_spots k (as_table d)
+    ++ unique_spots k (as_table d)
 
 -- the parts of the key table
 abbrev pub top_part : Members → List Spot

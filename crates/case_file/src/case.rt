@@ -21,6 +21,20 @@ pub struct Column {
     pub missing: Value,
 }
 
+/// Whether an index is unique, and whether one that is takes nulls as equal (`UNIQUE` and `NULLS NOT
+/// DISTINCT` in PostgreSQL's manual, `CREATE INDEX`; `indisunique` and `indnullsnotdistinct` of
+/// `pg_index`).
+#[derive(Clone, Copy, Debug, PartialEq, Eq)]
+pub enum Unique {
+    /// Rows of the table may have equal keys.
+    No,
+    /// No two rows may have equal keys. A null differs from every value and from other nulls, so a
+    /// key with a null equals no key.
+    NullsDistinct,
+    /// No two rows may have equal keys, and a null equals a null.
+    NullsEqual,
+}
+
 /// An index of the case.
 #[derive(Drop)]
 pub struct Index {
@@ -28,6 +42,7 @@ pub struct Index {
     file: String,
     keys: Vec<KeySpec>,
     more: Vec<MoreSpec>,
+    unique: Unique,
 }
 
 impl Model for Index {
@@ -41,6 +56,7 @@ impl Model for Index {
       file = string_bytes i.file;
       keys = i.keys.items;
       more = i.more.items;
+      unique = i.unique;
     } };
 }
 
@@ -114,12 +130,19 @@ impl Model for Case {
 }
 
 impl Index {
-    pub fn new(name: String, file: String, keys: Vec<KeySpec>, more: Vec<MoreSpec>) -> Index
+    pub fn new(
+        name: String,
+        file: String,
+        keys: Vec<KeySpec>,
+        more: Vec<MoreSpec>,
+        unique: Unique,
+    ) -> Index
         ensures { result ≡ record {
           name = string_bytes name;
           file = string_bytes file;
           keys = keys.items;
           more = more.items;
+          unique = unique;
         } }
     {
         Index {
@@ -127,6 +150,7 @@ impl Index {
             file,
             keys,
             more,
+            unique,
         }
     }
 
@@ -152,6 +176,12 @@ impl Index {
         ensures { result.now ≡ self.now.more }
     {
         &self.more
+    }
+
+    fn unique(&self) -> Unique
+        ensures { result ≡ self.now.unique }
+    {
+        self.unique
     }
 }
 
@@ -277,6 +307,15 @@ impl Case {
         ensures { option_map (λ i. i.more) (slice_get self.now.indexes (n - 1)) ≡ Some result.now }
     {
         self.indexes[n as usize - 1].more()
+    }
+
+    /// Whether index `n` is unique and how it takes nulls, where `n` counts from 1 in the order of the
+    /// text.
+    pub fn index_unique(&self, n: u16) -> Unique
+        requires { (1 ≤ n) × (n ≤ length self.now.indexes) }
+        ensures { option_map (λ i. i.unique) (slice_get self.now.indexes (n - 1)) ≡ Some result }
+    {
+        self.indexes[n as usize - 1].unique()
     }
 
     /// The number of the index of a name, from 1; `None` exactly where no index has it.

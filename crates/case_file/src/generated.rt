@@ -1,8 +1,8 @@
 //! The case of the files that the generator builds.
-ghost use Rattle.std.specs.Prelude.{◌≡◌, [], ◌∷◌, IfOk};
-ghost use Rattle.case_file.specs.Generated.{generated_case, generated_cluster, rising_key, whole_column};
+ghost use Rattle.std.specs.Prelude.{◌≡◌, IfOk};
+ghost use Rattle.case_file.specs.Generated.{generated_case, generated_cluster, index_on, whole_column};
 
-use crate::case::{Case, Column, Index};
+use crate::case::{Case, Column, Index, Unique};
 use crate::columns::types_of;
 use key_orders::{ColType, KeySpec, Value};
 use outside::NoMemory;
@@ -42,7 +42,7 @@ fn generated_columns(alloc: Global) -> Result<Vec<Column>, NoMemory>
     Ok(columns)
 }
 
-// An index on one column, from its lowest value to its highest, nulls last.
+// An index on one column, from its lowest value to its highest, nulls last, that isn't unique.
 fn generated_index(
     alloc: Global,
     name: &str,
@@ -50,12 +50,7 @@ fn generated_index(
     column: u16,
     ctype: ColType,
 ) -> Result<Index, NoMemory>
-    ensures { IfOk result (λ i. i ≡ record {
-      name = name.now;
-      file = file.now;
-      keys = rising_key column ctype ∷ [];
-      more = [];
-    }) }
+    ensures { IfOk result (λ i. i ≡ index_on name.now file.now column ctype) }
 {
     let mut keys = Vec::new(alloc);
     keys.push(KeySpec {
@@ -66,7 +61,7 @@ fn generated_index(
     })?;
     let name = String::from_str(alloc, name)?;
     let file = String::from_str(alloc, file)?;
-    Ok(Index::new(name, file, keys, Vec::new(alloc)))
+    Ok(Index::new(name, file, keys, Vec::new(alloc), Unique::No))
 }
 
 // The two indexes, one on each column.
@@ -83,9 +78,9 @@ impl Case {
     /// The case of the generated table: its columns are `id`, an int8, and `grp`, an int4, without missing
     /// values; its heap is the file `t`, with full segments of 131072 blocks, and it has no TOAST table. Its
     /// indexes are `t_id` in the file `i1`, on the first column, and `t_grp` in the file `i2`, on the second,
-    /// both rising with nulls last; neither includes another column. Of its cluster transaction 3 is the oldest
-    /// and 4 the next, multixact 1 the oldest and the next, and 0 the next member; the folders are `xact`,
-    /// `offsets` and `members`.
+    /// both rising with nulls last; neither includes another column or is unique. Of its cluster transaction 3
+    /// is the oldest and 4 the next, multixact 1 the oldest and the next, and 0 the next member; the folders are
+    /// `xact`, `offsets` and `members`.
     pub fn generated(alloc: Global) -> Result<Case, NoMemory>
         ensures { IfOk result (λ c. c ≡ generated_case) }
     {

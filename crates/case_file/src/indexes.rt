@@ -2,10 +2,10 @@
 ghost use Rattle.std.specs.Prelude.{◌≡◌, map, option_copied, option_map, IfOk, position, Some};
 ghost use Rattle.toml.specs.View.{view, table_view};
 ghost use Rattle.case_file.specs.Indexes.{any_column_named, column_named, index_of, key_of, keys_in, more_in, more_of};
-ghost use Rattle.case_file.specs.Indexes.{table_of};
+ghost use Rattle.case_file.specs.Indexes.{table_of, unique_in};
 ghost use Rattle.case_file.specs.Rules.{has_name, is_key_column};
 
-use crate::case::Index;
+use crate::case::{Index, Unique};
 use crate::columns::{below_2_16, told_type};
 use crate::rules::{has_name, is_key_column};
 use crate::tables::{flag_in, string_in, tables_at, text_in, values_at};
@@ -122,6 +122,22 @@ fn more_in(index: Option<&Table>) -> &[Value]
     }
 }
 
+#[tactic(auto, unfolding(crate::specs::Indexes::unique_in))]
+fn unique_in(index: Option<&Table>) -> Unique
+    ensures { result ≡ unique_in (option_map (λ t. table_view t.now) index.entry) }
+{
+    let nulls_not_distinct = flag_in(index, "nulls_not_distinct", false);
+    if flag_in(index, "unique", false) {
+        if nulls_not_distinct {
+            Unique::NullsEqual
+        } else {
+            Unique::NullsDistinct
+        }
+    } else {
+        Unique::No
+    }
+}
+
 #[tactic(auto, unfolding(crate::specs::Indexes::index_of))]
 fn index_of(alloc: Global, columns: &[Value], index: &Value) -> Result<Index, NoMemory>
     ensures { IfOk result (λ i. i ≡ index_of (map view columns.now) (view index.now)) }
@@ -131,7 +147,7 @@ fn index_of(alloc: Global, columns: &[Value], index: &Value) -> Result<Index, No
     let file = string_in(alloc, table, "file")?;
     let keys = keys_of(alloc, columns, keys_in(table))?;
     let more = all_more_of(alloc, columns, more_in(table))?;
-    Ok(Index::new(name, file, keys, more))
+    Ok(Index::new(name, file, keys, more, unique_in(table)))
 }
 
 /// The indexes of a document, in order.

@@ -43,6 +43,8 @@ pub enum Key {
     IndexFile,
     IndexKeys,
     IndexInclude,
+    IndexUnique,
+    IndexNullsNotDistinct,
     KeyColumn,
     KeyDesc,
     KeyNullsFirst,
@@ -153,6 +155,8 @@ pub fn row(key: Key) -> KeyRow
         Key::IndexFile => key_row("file", Text, Always, Between(1, 200)),
         Key::IndexKeys => key_row("key", Tables, Always, Between(1, 8)),
         Key::IndexInclude => key_row("include", Array, Optional, Between(0, 24)),
+        Key::IndexUnique => key_row("unique", Boolean, Optional, Any),
+        Key::IndexNullsNotDistinct => key_row("nulls_not_distinct", Boolean, Optional, Any),
         Key::KeyColumn => key_row("column", Text, Always, Any),
         Key::KeyDesc => key_row("desc", Boolean, Optional, Any),
         Key::KeyNullsFirst => key_row("nulls_first", Boolean, Optional, Any),
@@ -201,7 +205,11 @@ pub fn late_keys(place: Place) -> &'static [Key]
     ensures { result.now ≡ late_keys_of place }
 {
     match place {
-        Place::Index(_) => &[Key::IndexInclude],
+        Place::Index(_) => &[
+            Key::IndexInclude,
+            Key::IndexUnique,
+            Key::IndexNullsNotDistinct,
+        ],
         _ => &[],
     }
 }

@@ -18,6 +18,6 @@ mod spots;
 mod tables;
 mod texts;
 
-pub use case::{Case, Column};
+pub use case::{Case, Column, Unique};
 pub use fault::{CaseFault, CaseRule};
 pub use read::read_case;

@@ -5,7 +5,7 @@ ghost use Rattle.toml.specs.View.{view, table_view};
 ghost use Rattle.case_file.specs.Keys.{keys_of};
 ghost use Rattle.case_file.specs.Spots.{column_spots, element_spots, flat_map_from, in_table, include_spots};
 ghost use Rattle.case_file.specs.Spots.{index_keys_spots, index_spots, key_spots, listed, listed_all, spot_view};
-ghost use Rattle.case_file.specs.Spots.{spots_view, spots};
+ghost use Rattle.case_file.specs.Spots.{spots_view, spots, unique_spots};
 
 use crate::keys::{Key, Place, place_keys};
 use crate::tables::{table_at, tables_at, values_at};
@@ -151,13 +151,33 @@ fn add_included<'a>(
     Ok(())
 }
 
+fn add_unique<'a>(
+    spots: &mut Vec<Spot<'a>>,
+    k: usize,
+    index: Option<&'a Table>,
+) -> Result<(), NoMemory>
+    ensures { OnOk result (spots_view spots.new.items
+        ≡ spots_view spots.old.items ++ unique_spots k (option_map (λ t. table_view t.now) index.entry)) }
+{
+    if let Some(table) = index {
+        let place = Place::Index(k);
+        add(spots, Spot::Listed(place, Key::IndexUnique, table))?;
+        add(
+            spots,
+            Spot::Listed(place, Key::IndexNullsNotDistinct, table),
+        )?;
+    }
+    Ok(())
+}
+
 fn add_index<'a>(spots: &mut Vec<Spot<'a>>, k: usize, index: &'a Value) -> Result<(), NoMemory>
     ensures { OnOk result (spots_view spots.new.items ≡ spots_view spots.old.items ++ index_spots k (view index.now)) }
 {
     let table = index.as_table();
     add_table(spots, Place::Index(k), table)?;
     add_keys_of_index(spots, k, table)?;
-    add_included(spots, k, table)
+    add_included(spots, k, table)?;
+    add_unique(spots, k, table)
 }
 
 fn add_indexes<'a>(spots: &mut Vec<Spot<'a>>, indexes: &'a [Value]) -> Result<(), NoMemory>

@@ -1,7 +1,7 @@
 //! That texts mean what docs/CASE-FILE.md says, by hand-made examples: no clause ties the document's words to these.
 use crate::case_texts::{EDITS, FULL};
 use crate::checks::{holds, same};
-use case_file::{Case, CaseFault, Column, read_case};
+use case_file::{Case, CaseFault, Column, Unique, read_case};
 use key_orders::{KeySpec, MoreSpec, Value};
 use std::alloc::Global;
 use std::process::Abort;
@@ -71,6 +71,10 @@ fn describe_more(alloc: Global, more: &MoreSpec) -> Result<String, Fail> {
     Ok(format!(in alloc; " {more:?}")?)
 }
 
+fn describe_unique(alloc: Global, unique: Unique) -> Result<String, Fail> {
+    Ok(format!(in alloc; " {unique:?},")?)
+}
+
 fn describe_index(alloc: Global, case: &Case, n: u16) -> Result<String, Fail> {
     if n < 1 || case.index_count() < n {
         return Err(Fail::from("no such index"));
@@ -82,7 +86,7 @@ fn describe_index(alloc: Global, case: &Case, n: u16) -> Result<String, Fail> {
     for more in case.index_more(n) {
         push(&mut out, describe_more(alloc, more))?;
     }
-    out.push_str(",")?;
+    push(&mut out, describe_unique(alloc, case.index_unique(n)))?;
     Ok(out)
 }
 

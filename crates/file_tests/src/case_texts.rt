@@ -43,6 +43,8 @@ column = "id"
 name = "t_note"
 file = "i2"
 include = ["sum", "day"]
+unique = true
+nulls_not_distinct = true
 [[index.key]]
 column = "note"
 desc = true
@@ -110,6 +112,13 @@ C3 index[0].include[0] | file = "i1" -> file = "i1"\ninclude = [1]
 C3 index[0].include[1] | file = "i1" -> file = "i1"\ninclude = ["id", ["id"], 1]
 C3 index[1].include[2] | include = ["sum", "day"] -> include = ["sum", "day", { name = "id" }]
 C3 index[0].include[0] | file = "i1" -> file = "i1"\n[[index.include]]\nname = "id"
+C3 index[0].unique | file = "i1" -> file = "i1"\nunique = 1
+C3 index[0].unique | file = "i1" -> file = "i1"\nunique = "true"
+C3 index[0].unique | file = "i1" -> file = "i1"\n[index.unique]\nid = true
+C3 index[1].unique | unique = true -> unique = [true]
+C3 index[1].nulls_not_distinct | nulls_not_distinct = true -> nulls_not_distinct = "true"
+C3 index[1].nulls_not_distinct | nulls_not_distinct = true -> nulls_not_distinct = { flag = true }
+C3 index[0].nulls_not_distinct | file = "i1" -> file = "i1"\nnulls_not_distinct = 0
 C4 segment_blocks | segment_blocks = 1024 -> segment_blocks = 0
 C4 segment_blocks | segment_blocks = 1024 -> segment_blocks = 131073
 C4 cluster.next_xid | next_xid = 1000 -> next_xid = 2
@@ -187,11 +196,14 @@ C6 column[1] | type = "bool" -> type = "bool"\n"not null" = true
 C6 column[0] | type = "int8" -> type = "int8"\nlen = 8
 C6 column[2] | type = "text" -> type = "text"\nalign = 4
 C6 column[4] | type = "varlena" -> type = "varlena"\nlen = 4
-C6 index[0] | file = "i1" -> file = "i1"\nunique = true
+C6 index[0] | file = "i1" -> file = "i1"\nnulls_distinct = true
 C6 index[1].key[0] | desc = true -> desc = true\ncollation = "C"
 C6 index[0] | file = "i1" -> file = "i1"\nincludes = ["id"]
 C6 index[1].key[0] | desc = true -> desc = true\ninclude = ["id"]
 C6 column[0] | type = "int8" -> type = "int8"\ninclude = []
+C6 index[1].key[0] | desc = true -> desc = true\nunique = true
+C6 index[0].key[0] | column = "id" -> column = "id"\nnulls_not_distinct = false
+C6 column[0] | type = "int8" -> type = "int8"\nunique = false
 C7 cluster | oldest_xid = 700 -> oldest_xid = 2000
 C7 cluster | oldest_xid = 700 -> oldest_xid = 1001
 C7 cluster | next_xid = 1000\noldest_xid = 700 -> next_xid = 2147483651\noldest_xid = 3
@@ -207,7 +219,7 @@ C4 cluster.next_xid | next_xid = 1000\noldest_xid = 700 -> oldest_xid = 0\nnext_
 C5 index[1].name | segment_blocks = 1024 -> colour = 1 | name = "t_note" -> name = "t_pkey"
 C5 index[0].key[0].column | name = "t_note" -> name = "t_pkey" | column = "id" -> column = "sum"
 C6 index[1].key[0] | oldest_xid = 700 -> oldest_xid = 2000 | desc = true -> desc = true\nnulls = 1
-C6 index[0].key[0] | column = "id" -> column = "id"\nnulls = 1 | file = "i2" -> file = "i2"\nunique = true
+C6 index[0].key[0] | column = "id" -> column = "id"\nnulls = 1 | file = "i2" -> file = "i2"\nmethod = "btree"
 C6 cluster | next_member = 4 -> next_member = 4\nx = 1 | file = "t" -> file = "t"\nx = 1
 C3 index[1].key[0].desc | include = ["sum", "day"] -> include = 1 | desc = true -> desc = 1
 C3 index[0].include | file = "i1" -> file = "i1"\ninclude = 1 | name = "t_note" -> name = 1
@@ -220,10 +232,17 @@ C4 index[0].include | file = "i1" -> file = "i1"\ninclude = [<24 names>"x"]
 C5 index[0].key[0].column | file = "i1" -> file = "i1"\ninclude = ["x"] | column = "id" -> column = "sum"
 C5 index[0].include[0] | file = "i1" -> file = "i1"\ninclude = ["x"] | column = "note" -> column = "sum"
 C5 index[1].include[1] | segment_blocks = 1024 -> colour = 1 | include = ["sum", "day"] -> include = ["sum", "x", "y"]
+C2 index[1].name | unique = true -> unique = 1 | name = "t_note"\n -> <none>
+C3 index[1].key[1].nulls_first | unique = true -> unique = 1 | nulls_first = true -> nulls_first = 1
+C3 index[1].include[1] | unique = true -> unique = 1 | include = ["sum", "day"] -> include = ["sum", 1]
+C3 index[1].unique | unique = true\nnulls_not_distinct = true -> nulls_not_distinct = 1\nunique = 1
+C3 index[0].nulls_not_distinct | file = "i1" -> file = "i1"\nnulls_not_distinct = 1 | name = "t_note" -> name = 1
+C3 index[1].unique | file = "i2" -> file = "" | unique = true -> unique = 1
+C3 index[1].nulls_not_distinct | name = "flag" -> name = "id" | nulls_not_distinct = true -> nulls_not_distinct = 1
 ok blocks 1024, cluster 1000 700 6 1 4, dirs pg_xact pg_multixact/offsets pg_multixact/members, heap t, toast o 16400
 columns Int8 null, Bool true, Text null, Fixed { len: 4, align: 4 } 05000000, Varlena { align: 4 } null
 index 1 i1 KeySpec { column: 0, ctype: Int8, desc: false, nulls_first: false }
-index 2 i2 KeySpec { column: 2, ctype: Text, desc: true, nulls_first: true } KeySpec { column: 1, ctype: Bool, desc: false, nulls_first: true } MoreSpec { column: 4, ctype: Varlena { align: 4 } } MoreSpec { column: 3, ctype: Fixed { len: 4, align: 4 } },
+index 2 i2 KeySpec { column: 2, ctype: Text, desc: true, nulls_first: true } KeySpec { column: 1, ctype: Bool, desc: false, nulls_first: true } MoreSpec { column: 4, ctype: Varlena { align: 4 } } MoreSpec { column: 3, ctype: Fixed { len: 4, align: 4 } } NullsEqual,
 blocks 131072, | segment_blocks = 1024\n -> <none>
 blocks 131072, | segment_blocks = 1024 -> segment_blocks = 131072
 blocks 1, | segment_blocks = 1024 -> segment_blocks = 1
@@ -265,13 +284,23 @@ ctype: Text, desc: false, nulls_first: false | desc = true -> desc = false
 ctype: Text, desc: true, nulls_first: false | desc = true -> desc = true\nnulls_first = false
 ctype: Bool, desc: false, nulls_first: false | nulls_first = true\n -> <none>
 i1 KeySpec { column: 0, ctype: Int8, desc: false, nulls_first: false } KeySpec { column: 0, ctype: Int8 | column = "id"\n -> column = "id"\n<7 keys>
-ctype: Bool, desc: false, nulls_first: true }, | include = ["sum", "day"]\n -> <none>
-index 1 i1 KeySpec { column: 0, ctype: Int8, desc: false, nulls_first: false }, index 2 | file = "i1" -> file = "i1"\ninclude = []
-false } MoreSpec { column: 0, ctype: Int8 } MoreSpec { column: 1, ctype: Bool } MoreSpec { column: 0, ctype: Int8 }, index 2 | file = "i1" -> file = "i1"\ninclude = ["id", "flag", "id"]
-nulls_first: false }<24 included>, index 2 | file = "i1" -> file = "i1"\ninclude = [<24 names>]
-nulls_first: true } MoreSpec { column: 2, ctype: Text }, | include = ["sum", "day"] -> include = ['note']
+ctype: Bool, desc: false, nulls_first: true } NullsEqual, | include = ["sum", "day"]\n -> <none>
+index 1 i1 KeySpec { column: 0, ctype: Int8, desc: false, nulls_first: false } No, index 2 | file = "i1" -> file = "i1"\ninclude = []
+false } MoreSpec { column: 0, ctype: Int8 } MoreSpec { column: 1, ctype: Bool } MoreSpec { column: 0, ctype: Int8 } No, index 2 | file = "i1" -> file = "i1"\ninclude = ["id", "flag", "id"]
+nulls_first: false }<24 included> No, index 2 | file = "i1" -> file = "i1"\ninclude = [<24 names>]
+nulls_first: true } MoreSpec { column: 2, ctype: Text } NullsEqual, | include = ["sum", "day"] -> include = ['note']
 MoreSpec { column: 4, ctype: Varlena { align: 8 } } MoreSpec | type = "varlena"\nalign = 4 -> type = "varlena"\nalign = 8
+nulls_first: false } No, index 2 | file = "i1" -> file = "i1"\nunique = false
+nulls_first: false } No, index 2 | file = "i1" -> file = "i1"\nnulls_not_distinct = true
+nulls_first: false } No, index 2 | file = "i1" -> file = "i1"\nunique = false\nnulls_not_distinct = true
+nulls_first: false } NullsDistinct, index 2 | file = "i1" -> file = "i1"\nunique = true
+nulls_first: false } NullsDistinct, index 2 | file = "i1" -> file = "i1"\nnulls_not_distinct = false\nunique = true
+nulls_first: false } NullsEqual, index 2 | file = "i1" -> file = "i1"\nnulls_not_distinct = true\nunique = true
+align: 4 } } NullsDistinct, | nulls_not_distinct = true\n -> <none>
+align: 4 } } No, | unique = true\n -> <none>
+align: 4 } } No, | unique = true\nnulls_not_distinct = true\n -> <none>
 no toast, columns Int4 null, no index | * -> index = []\n[cluster]\n<cluster>\n[heap]\nfile = "t"\n[[column]]\nname = "a"\ntype = "int4"
-columns Int4 null, index 1 i KeySpec { column: 0, ctype: Int4, desc: true, nulls_first: true }, | * -> heap.file = "t"\ncolumn = [{ name = "a", type = "int4" }]\nindex = [{ name = "x", file = "i", key = [{ column = "a", desc = true }] }]\n[cluster]\n<cluster>
-columns Int4 null, index 1 i KeySpec { column: 0, ctype: Int4, desc: false, nulls_first: false } MoreSpec { column: 0, ctype: Int4 }, | * -> heap.file = "t"\ncolumn = [{ name = "a", type = "int4" }]\nindex = [{ name = "x", include = ["a"], file = "i", key = [{ column = "a" }] }]\n[cluster]\n<cluster>
+columns Int4 null, index 1 i KeySpec { column: 0, ctype: Int4, desc: true, nulls_first: true } No, | * -> heap.file = "t"\ncolumn = [{ name = "a", type = "int4" }]\nindex = [{ name = "x", file = "i", key = [{ column = "a", desc = true }] }]\n[cluster]\n<cluster>
+columns Int4 null, index 1 i KeySpec { column: 0, ctype: Int4, desc: false, nulls_first: false } MoreSpec { column: 0, ctype: Int4 } No, | * -> heap.file = "t"\ncolumn = [{ name = "a", type = "int4" }]\nindex = [{ name = "x", include = ["a"], file = "i", key = [{ column = "a" }] }]\n[cluster]\n<cluster>
+columns Int4 null, index 1 i KeySpec { column: 0, ctype: Int4, desc: false, nulls_first: false } NullsDistinct, | * -> heap.file = "t"\ncolumn = [{ name = "a", type = "int4" }]\nindex = [{ unique = true, name = "x", file = "i", key = [{ column = "a" }] }]\n[cluster]\n<cluster>
 "#;

@@ -23,7 +23,7 @@ use Rattle.hot_chains.specs.Chains.{is_live_tuple, item_at}
 use Rattle.toast_chunks.specs.Chunks.{is_whole}
 use Rattle.toast_chunks.specs.declared.map.Chunk.{Chunk}
 use Rattle.toast_chunks.proofs.Finding.{is_whole-from}
-use Rattle.attach_files.specs.Refusals.{block_limit}
+use Rattle.attach_files.specs.Refusals.{heap_limit}
 use Rattle.reports.specs.Added.{each_upto}
 use Rattle.heap_pages.specs.declared.verdict.ItemVerdict.TheVariants.{Passes}
 use Rattle.heap_pages.specs.Broken.{AllPass, HasExternal}
@@ -187,7 +187,7 @@ unread_same names old new done case next none =
 pub nothing_in_hand : (case : CaseRecord) (names : Names) (toast : Option Relation) (chunks : List Chunk) (page : RowPage) → page.count ≡ 0 → IsInHand case names toast chunks page
 nothing_in_hand case names toast chunks page none = λ i first last. absurd (omega (arith, first, last, none))
 
-pub heap_count : (case : CaseRecord) (names : Names) (n : ℕ) (r : Relation) → IsRelationOf names case.heap_file case.segment_blocks block_limit r → n < blocks_in_relation r → n < heap_blocks case names
+pub heap_count : (case : CaseRecord) (names : Names) (n : ℕ) (r : Relation) → IsRelationOf names case.heap_file case.segment_blocks heap_limit r → n < blocks_in_relation r → n < heap_blocks case names
 unfolding heap_blocks
 heap_count case names n r is below = subst (λ (m : ℕ). n < m) is.count below
 

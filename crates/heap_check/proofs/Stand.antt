@@ -28,7 +28,7 @@ use Rattle.toast_chunks.specs.declared.map.Chunk.{Chunk}
 use Rattle.toast_chunks.specs.declared.rows.ChunkRow.{ChunkRow}
 use Rattle.vis_map.specs.Bits.{no_bits}
 use Rattle.reports.proofs.Parts.{All-upto}
-use Rattle.attach_files.specs.Refusals.{IsNamed, block_limit}
+use Rattle.attach_files.specs.Refusals.{IsNamed, toast_limit}
 use Rattle.heap_pages.specs.declared.table.TableKind.{TableKind}
 use Rattle.heap_pages.specs.declared.table.TableKind.TheVariants as kind
 use Rattle.heap_pages.specs.declared.verdict.ItemVerdict.{ItemVerdict}
@@ -143,13 +143,13 @@ toast_types case names = refl
 same_toast : (t u : List ℕ × ℕ) → ◌≡◌ {A = Option (List ℕ × ℕ)} (Some t) (Some u) → t.0 ≡ u.0
 same_toast t u e = cc
 
-pages_stand : (case : CaseRecord) (names : Names) (file : List ℕ) (r : Relation) → IsRelationOf names file case.segment_blocks block_limit r → IsNamed file case.segment_blocks r → OfPages case names (Stands names r) file
+pages_stand : (case : CaseRecord) (names : Names) (file : List ℕ) (r : Relation) → IsRelationOf names file case.segment_blocks toast_limit r → IsNamed file case.segment_blocks r → OfPages case names (Stands names r) file
 unfolding toast_blocks
 pages_stand case names file r relation named = λ block below.
     block_stands names r (toast_table_of case names) file case.segment_blocks block (toast_kind case names) (subst (λ n. block < n) (sym relation.count) below) named.named named.sized (toast_types case names)
 
 -- each chunk of a case stands at its place in the TOAST table
-pub all_stand : (case : CaseRecord) (names : Names) (t : List ℕ × ℕ) (r : Relation) → case.toast ≡ Some t → IsRelationOf names t.0 case.segment_blocks block_limit r → IsNamed t.0 case.segment_blocks r → AllStand names r (chunks_of case names)
+pub all_stand : (case : CaseRecord) (names : Names) (t : List ℕ × ℕ) (r : Relation) → case.toast ≡ Some t → IsRelationOf names t.0 case.segment_blocks toast_limit r → IsNamed t.0 case.segment_blocks r → AllStand names r (chunks_of case names)
 all_stand case names t r is relation named =
     All-chunks case names (Stands names r) (λ file oid has.
     subst (OfPages case names (Stands names r)) (same_toast t (file, oid) (sym is ∙ has)) (pages_stand case names t.0 r relation named))

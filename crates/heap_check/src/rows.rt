@@ -1,12 +1,13 @@
 //! The live rows of a heap, one after the other.
-ghost use Rattle.std.specs.Prelude.{◌≡◌, ◌∷◌, List, Some, IfOk, IfSome, OnErr};
+ghost use Rattle.std.specs.Prelude.{◌≡◌, ◌-◌, ◌∷◌, List, Some, IfOk, IfSome, OnErr};
 ghost use Rattle.outside.specs.Outside.{Asked, IfTold, Names, Tells};
+ghost use Rattle.heap_files.specs.Case.{heap_blocks};
 ghost use Rattle.heap_files.specs.Found.{IsQuiet};
 ghost use Rattle.heap_files.specs.Files.{BelongTo, IsSoundHeapOf, files_of};
 ghost use Rattle.heap_check.specs.RowCursor.{IsAtRow};
 ghost use Rattle.heap_check.specs.RowFits.{FitColumns};
 ghost use Rattle.heap_check.specs.RowPages.{IsFirst, IsRow};
-ghost use Rattle.heap_check.specs.Rows.{rows_of};
+ghost use Rattle.heap_check.specs.Rows.{block_rows, each_from, rows_of};
 ghost use Rattle.heap_check.specs.declared.rows.LiveRow.{LiveRow as Row};
 
 use crate::row_cells::Cells;
@@ -70,6 +71,17 @@ impl<'a> LiveRows<'a> {
             cells.push(self.cursor.value(k).to_cell(alloc)?)?;
         }
         Ok(Some(cells))
+    }
+
+    /// Goes to the beginning of a block, counted from 0: then the rows of this block and of those behind it are left.
+    /// Nothing is read for it, and no memory taken.
+    pub fn seek_block(&mut self, block: u32)
+        ensures left { (names : Names) → rows_left names self.new
+            ≡ each_from (block_rows (case_of self.old) names) block (heap_blocks (case_of self.old) names - block) }
+        ensures told { (names : Names) → AreRowsOf names self.old → AreRowsOf names self.new }
+        ensures heap { IsSameHeap self.old self.new }
+    {
+        self.cursor.go_to(block);
     }
 
     /// The next live row, by rising TID; `None` exactly where none is left.

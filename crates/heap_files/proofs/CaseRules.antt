@@ -4,7 +4,7 @@ use Rattle.std.specs.Prelude.{Option, Some, None, IfSome, map, nat_lt, if◌then
 use Rattle.std.proofs.lemmas.Grind.{common_steps}
 use Rattle.std.proofs.Common.{arith}
 use Rattle.attach_files.proofs.Refusals.{first_is_last, no_blocks}
-use Rattle.attach_files.specs.Refusals.{IsNamed, block_limit}
+use Rattle.attach_files.specs.Refusals.{IsNamed, heap_limit, toast_limit}
 use Rattle.outside.specs.Adds.{each_below}
 use Rattle.outside.specs.Outside.{Names}
 use Rattle.outside.specs.declared.files.Part.TheVariants.{Segment}
@@ -45,7 +45,7 @@ no_long_segment : (names : Names) (base : List ℕ) (size limit : ℕ) → 1 ≤
 unfolding front_long_segment_of long_at last_segment
 no_long_segment names base size limit some none =
     let empty : segment_length names base 0 ≡ 0 = rw none refl in
-    rw (first_is_last (segment_length names base) size ((limit - 1) / size) some empty, empty) (by_test (nat_lt size 0) (grind (arith, common_steps)))
+    rw (first_is_last (segment_length names base) size ((limit - 1) / size) (omega (arith, some, empty)), empty) (by_test (nat_lt size 0) (grind (arith, common_steps)))
   where
     by_test : (t : Bool) → t ≡ false → ◌≡◌ {A = Option ℕ} (if t then Some 0 else None) None
     by_test t e = rw e refl
@@ -95,7 +95,7 @@ pub table_is_case : (case : CaseRecord) (names : Names) (columns : List ColType)
 unfolding table_with table_of
 table_is_case case names columns toast files e1 e2 e3 = rw (e1, e2, e3) refl
 
-pub heap_is_case : (case : CaseRecord) (names : Names) (table : Table) (chunks : List Chunk) (bits : ℕ → MapBits) (r : Relation) → table ≡ table_of case names → chunks ≡ chunks_of case names → ◌≡◌ {A = ℕ → MapBits} bits (case_bits case names) → IsNamed case.heap_file case.segment_blocks r → IsRelationOf names case.heap_file case.segment_blocks block_limit r
+pub heap_is_case : (case : CaseRecord) (names : Names) (table : Table) (chunks : List Chunk) (bits : ℕ → MapBits) (r : Relation) → table ≡ table_of case names → chunks ≡ chunks_of case names → ◌≡◌ {A = ℕ → MapBits} bits (case_bits case names) → IsNamed case.heap_file case.segment_blocks r → IsRelationOf names case.heap_file case.segment_blocks heap_limit r
     → table_found table chunks bits names (base_of r) (size_of r) (count_of r) (long_of r) ≡ heap_found case names
 unfolding heap_found heap_blocks heap_long_segment
 heap_is_case case names table chunks bits r e whole f called is =
@@ -115,7 +115,7 @@ pub record ToastOf (case : CaseRecord) (names : Names) (r : Relation) : Type 0 w
   pub table : List ℕ × ℕ
   pub has : case.toast ≡ Some table
   pub called : IsNamed table.0 case.segment_blocks r
-  pub attached : IsRelationOf names table.0 case.segment_blocks block_limit r
+  pub attached : IsRelationOf names table.0 case.segment_blocks toast_limit r
 
 toast_by : (case : CaseRecord) (names : Names) (r : Relation) (o : Option (List ℕ × ℕ)) → case.toast ≡ o → IsToastIn names case.segment_blocks o (Some r) → IsToastNamed case.segment_blocks o (Some r) → ToastOf case names r
 toast_by case names r None e is called = absurd is

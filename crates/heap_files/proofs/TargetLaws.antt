@@ -8,7 +8,7 @@ use Rattle.page_layout.specs.declared.rules.Rule.{Rule}
 use Rattle.rel_files.specs.Blocks.{block_of}
 use Rattle.rel_files.specs.Relation.{IsRelationOf, count_of}
 use Rattle.rel_files.specs.declared.relation.Relation.{Relation}
-use Rattle.attach_files.specs.Refusals.{IsNamed, block_limit}
+use Rattle.attach_files.specs.Refusals.{IsNamed, heap_limit}
 use Rattle.case_file.specs.Record.{CaseRecord}
 use Rattle.root_set.specs.Targets.{GrowsByPage, targets_of, targets_on}
 use Rattle.heap_pages.proofs.PageLaws.{page_is_quiet}
@@ -38,7 +38,7 @@ passed pages n page rule set is broken = λ keep. absurd (broken-and-kept (sym b
 -- The pages of a case's heap
 
 pub of_heap : (case : CaseRecord) (names : Names) (r : Relation) (set : List (List Bool)) → IsNamed case.heap_file case.segment_blocks r
-    → IsRelationOf names case.heap_file case.segment_blocks block_limit r → HasTargets (pages_in names r) (count_of r) set
+    → IsRelationOf names case.heap_file case.segment_blocks heap_limit r → HasTargets (pages_in names r) (count_of r) set
     → HasTargets (heap_page case names) (heap_blocks case names) set
 unfolding heap_blocks
 of_heap case names r set named relation = λ has.

@@ -2,7 +2,7 @@
 -- and pages, as the names hold them.
 use Rattle.std.specs.Prelude.{ℕ, List, map, Option, None}
 use Rattle.std.specs.Option.{option_map}
-use Rattle.attach_files.specs.Refusals.{block_limit}
+use Rattle.attach_files.specs.Refusals.{heap_limit, toast_limit}
 use Rattle.outside.specs.Outside.{Names}
 use Rattle.rel_files.specs.Blocks.{block_of, blocks_of, front_blocks_of, front_long_segment_of, long_segment_of}
 use Rattle.case_file.specs.Record.{CaseRecord}
@@ -38,10 +38,10 @@ table_of case names = record {
 }
 
 unfoldable pub heap_blocks : CaseRecord → Names → ℕ
-heap_blocks case names = blocks_of names case.heap_file case.segment_blocks block_limit
+heap_blocks case names = blocks_of names case.heap_file case.segment_blocks heap_limit
 
 unfoldable pub heap_long_segment : CaseRecord → Names → Option ℕ
-heap_long_segment case names = long_segment_of names case.heap_file case.segment_blocks block_limit
+heap_long_segment case names = long_segment_of names case.heap_file case.segment_blocks heap_limit
 
 abbrev pub heap_page : CaseRecord → Names → ℕ → List ℕ
 heap_page case names block = case_page case names case.heap_file block
@@ -75,10 +75,10 @@ toast_table_of case names = record {
 }
 
 unfoldable pub toast_blocks : CaseRecord → Names → List ℕ → ℕ
-toast_blocks case names file = blocks_of names file case.segment_blocks block_limit
+toast_blocks case names file = blocks_of names file case.segment_blocks toast_limit
 
 unfoldable pub toast_long_segment : CaseRecord → Names → List ℕ → Option ℕ
-toast_long_segment case names file = long_segment_of names file case.segment_blocks block_limit
+toast_long_segment case names file = long_segment_of names file case.segment_blocks toast_limit
 
 -- a table of which no map says anything
 abbrev pub unmapped : ℕ → MapBits

@@ -1,7 +1,7 @@
 -- Which files of a case are judged, and which case is refused for its files.
 use Rattle.std.specs.Prelude.{◌≡◌, ℕ, Bool, List, Option, Some, None, IfSome}
 use Rattle.std.specs.Option.{option_or}
-use Rattle.attach_files.specs.Refusals.{IsNamed, block_limit, file_refusal}
+use Rattle.attach_files.specs.Refusals.{IsNamed, file_refusal, heap_limit, toast_limit}
 use Rattle.outside.specs.Outside.{Names}
 use Rattle.rel_files.specs.Relation.{FindsFront, IsRelationOf}
 use Rattle.rel_files.specs.declared.relation.Relation.{Relation}
@@ -35,13 +35,13 @@ refusal_of case names =
 -- the TOAST table is attached where the case has one
 abbrev pub IsToastIn : Names → ℕ → Option (List ℕ × ℕ) → Option Relation → Type 0
 IsToastIn names size None None = Unit {0}
-IsToastIn names size (Some t) (Some r) = IsRelationOf names t.0 size block_limit r
+IsToastIn names size (Some t) (Some r) = IsRelationOf names t.0 size toast_limit r
 IsToastIn names size None (Some r) = ⊥
 IsToastIn names size (Some t) None = ⊥
 
 -- the files are those of a case, over these names
 pub record AreFilesOf (case : CaseRecord) (names : Names) (files : HeapFiles) : Type 0 where
-  pub heap : IsRelationOf names case.heap_file case.segment_blocks block_limit files.heap
+  pub heap : IsRelationOf names case.heap_file case.segment_blocks heap_limit files.heap
   pub map :
       FindsFront names (map_name case.heap_file) case.segment_blocks (map_pages_for (heap_blocks case names)) files.map
   pub toast : IsToastIn names case.segment_blocks case.toast files.toast

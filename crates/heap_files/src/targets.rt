@@ -7,8 +7,8 @@ use outside::NoMemory;
 use page_layout::{PageKind, PageView};
 use root_set::{RootSet, set_tells_of_pages};
 
-// The most blocks that a set takes. A table that is judged has no more than 16384.
-const MAX_BLOCKS: usize = 65536;
+// A set takes fewer blocks. A table that is judged has no more than 4194304.
+const MAX_BLOCKS: usize = 0x1_0000_0000;
 
 /// Adds the line pointers of the page of the next block to those of the blocks before, where it breaks no rule of its
 /// own. Behind one that does, the set tells nothing.

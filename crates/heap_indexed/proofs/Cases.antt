@@ -15,7 +15,7 @@ use Rattle.bt_levels.specs.Sound.{IsSoundIndexOf, block_count, file_of, held_blo
 use Rattle.heap_check.specs.declared.rows.LiveRow.{LiveRow}
 use Rattle.heap_check.specs.Rows.{rows_of}
 use Rattle.indexed_rules.specs.Entries.{has_alive, may_be_named}
-use Rattle.indexed_rules.specs.Lists.{entries_lists, indexed_lists, leaves_lists, of_each, row_lists, rows_lists}
+use Rattle.indexed_rules.specs.Lists.{entries_lists, joined_lists, leaves_lists, of_each, row_lists, rows_lists}
 use Rattle.index_targets.specs.Passes.{strays_of}
 use Rattle.heap_indexed.specs.Rows.{owed_for}
 
@@ -52,6 +52,6 @@ unfolding strays_of
 no-strays names tree = nothing-upto (block_count tree - 1)
 
 -- and both
-pub both-are : (case : CaseRecord) (names : Names) (n : ℕ) → indexed_lists case names n ≡ joined (rows_lists case names n) (entries_lists case names n)
-unfolding indexed_lists
+pub both-are : (case : CaseRecord) (names : Names) (n : ℕ) → joined_lists case names n ≡ joined (rows_lists case names n) (entries_lists case names n)
+unfolding joined_lists
 both-are case names n = refl

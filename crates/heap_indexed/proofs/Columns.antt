@@ -14,10 +14,10 @@ use Rattle.heap_files.specs.declared.files.SoundHeap.{SoundHeap}
 use Rattle.bt_levels.specs.declared.sound.SoundTree.{SoundTree}
 use Rattle.bt_levels.specs.Files.{number_of}
 use Rattle.bt_levels.specs.Sound.{file_of, index_columns}
-use Rattle.heap_indexed.specs.Joined.{BelongTogether}
+use Rattle.row_keys.specs.Joined.{BelongTogether}
 use Rattle.heap_indexed.specs.Meetings.{columns_of_all}
-use Rattle.heap_indexed.specs.Rows.{AreAskedFrom, columns_in}
-use Rattle.heap_indexed.proofs.KeyLaws.{columns-many, columns-there}
+use Rattle.row_keys.specs.Rows.{AreAskedFrom, columns_in}
+use Rattle.row_keys.proofs.KeyLaws.{columns-many, columns-there}
 
 key : SoundTree → List ℕ
 key tree = columns_in (index_columns tree)

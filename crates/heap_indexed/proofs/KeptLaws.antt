@@ -21,7 +21,7 @@ use Rattle.heap_indexed.specs.Judging.{TellsOf}
 use Rattle.heap_indexed.specs.Looking.{has_entry}
 use Rattle.heap_indexed.specs.Meetings.{IsKeptRow, IsPut}
 use Rattle.heap_indexed.specs.Rows.{lists_of_row, owed_for}
-use Rattle.heap_indexed.proofs.KeyLaws.{key-count, values-many}
+use Rattle.row_keys.proofs.KeyLaws.{key-count, values-many}
 use Rattle.heap_indexed.proofs.Owed.{owed-first, owed-none}
 
 -- the same rows are kept in other slots with these keys

@@ -1,12 +1,10 @@
-pub mod Ahead
+pub mod Asked
 pub mod Cases
 pub mod Columns
 pub mod Each
 pub mod KeptLaws
-pub mod KeyLaws
 pub mod MetLaws
 pub mod Owed
-pub mod Pages
 pub mod Places
 pub mod Spots
 pub mod Widths

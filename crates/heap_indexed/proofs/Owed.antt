@@ -27,7 +27,8 @@ use Rattle.indexed_rules.specs.Lists.{missing_rule, row_lists, row_lists_by}
 use Rattle.indexed_rules.specs.Rows.{key_numbers, more_numbers, values_at}
 use Rattle.heap_indexed.specs.Looking.{has_entry}
 use Rattle.heap_indexed.specs.Meetings.{HasValues}
-use Rattle.heap_indexed.specs.Rows.{IsFound, Settles, lists_of_row, owed_for, rows_from}
+use Rattle.row_keys.specs.Rows.{IsFound}
+use Rattle.heap_indexed.specs.Rows.{Settles, lists_of_row, owed_for, rows_from}
 
 -- Rows
 

@@ -6,21 +6,13 @@ use Rattle.bt_levels.specs.Sound.{index_columns}
 use Rattle.heap_files.specs.declared.files.SoundHeap.{SoundHeap}
 use Rattle.heap_check.specs.declared.row_cursor.RowCursor.{RowCursor}
 use Rattle.heap_check.specs.RowCursor.{IsSameCursor, asked_at}
-use Rattle.heap_indexed.specs.declared.keys.KeyedHeap.{KeyedHeap}
+use Rattle.row_keys.specs.declared.keys.KeyedHeap.{KeyedHeap}
 use Rattle.heap_indexed.specs.declared.ranges.Ranges.{Ranges}
-use Rattle.heap_indexed.specs.Joined.{BelongTogether}
+use Rattle.row_keys.specs.Joined.{BelongTogether}
 use Rattle.heap_indexed.specs.Meetings.{IsIndexNo, IsOfTable}
-use Rattle.heap_indexed.specs.Rows.{AreAskedFrom, IsIndexAt, columns_in}
+use Rattle.row_keys.specs.Rows.{AreAskedFrom, IsIndexAt, columns_in}
 
 -- a cursor of the same heap that is asked for the same columns
-pub same-index : (index : KeyedHeap) (old new : RowCursor) → IsSameCursor old new → IsIndexAt index old → IsIndexAt index new
-same-index index old new same at = record {
-  belong = at.belong;
-  case = same.case ∙ at.case;
-  heap = same.heap ∙ at.heap;
-  asked = subst (AreAskedFrom index.first (columns_in (index_columns index.at.tree.now))) (sym same.asked) at.asked;
-}
-
 pub same-table : (ranges : Ranges) (old new : RowCursor) → IsSameCursor old new → IsOfTable ranges old → IsOfTable ranges new
 same-table ranges old new same at = record {
   belong = at.belong;
@@ -31,9 +23,6 @@ same-table ranges old new same at = record {
     each = λ k tree lt. subst (AreAskedFrom (get_or ranges.firsts.now k 0) (columns_in (index_columns (get_or ranges.at.trees.now k tree)))) (sym same.asked) (at.firsts.each k tree lt);
   };
 }
-
-pub same-then : (a b d : RowCursor) → IsSameCursor a b → IsSameCursor b d → IsSameCursor a d
-same-then a b d one two = record { case = two.case ∙ one.case; heap = two.heap ∙ one.heap; asked = two.asked ∙ one.asked }
 
 -- the index at a place is one of the table's
 pub index-at : (ranges : Ranges) (cursor : RowCursor) (j : ℕ) (index : KeyedHeap) → IsOfTable ranges cursor → IsIndexNo ranges j index → j < length ranges.at.trees.now → IsIndexAt index cursor

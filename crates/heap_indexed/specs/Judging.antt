@@ -9,7 +9,7 @@ use Rattle.row_slots.specs.Slots.{Tables, keys_in, met_in}
 use Rattle.heap_check.specs.declared.row_cursor.RowCursor.{RowCursor}
 use Rattle.heap_check.specs.RowCursor.{IsCursorOf, rows_here}
 use Rattle.heap_indexed.specs.declared.joined.LookUps.{LookUps}
-use Rattle.heap_indexed.specs.declared.keys.KeyedHeap.{KeyedHeap}
+use Rattle.row_keys.specs.declared.keys.KeyedHeap.{KeyedHeap}
 use Rattle.heap_indexed.specs.declared.meeting.Meeting.{Meeting}
 use Rattle.heap_indexed.specs.declared.row_judge.RowJudge.{RowJudge}
 use Rattle.heap_indexed.specs.Looking.{AreOf, has_entry}

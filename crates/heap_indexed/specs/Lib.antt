@@ -1,4 +1,3 @@
-pub mod Joined
 pub mod Looking
 pub mod Rows
 pub mod Judging

@@ -19,13 +19,14 @@ use Rattle.indexed_rules.specs.Rows.{key_numbers, more_numbers, values_at}
 use Rattle.index_targets.specs.Passes.{strays_of}
 use Rattle.row_slots.specs.Slots.{Tables, keys_in, keys_with, met_in}
 use Rattle.heap_indexed.specs.declared.joined.IndexedTable.{IndexedTable}
-use Rattle.heap_indexed.specs.declared.keys.KeyedHeap.{KeyedHeap}
+use Rattle.row_keys.specs.declared.keys.KeyedHeap.{KeyedHeap}
 use Rattle.heap_indexed.specs.declared.meeting.Meeting.{Meeting}
 use Rattle.heap_indexed.specs.declared.ranges.Ranges.{Ranges}
-use Rattle.heap_indexed.specs.Joined.{BelongTogether, HoldTogether}
+use Rattle.row_keys.specs.Joined.{BelongTogether, HoldTogether}
 use Rattle.heap_indexed.specs.Judging.{IsBehind}
 use Rattle.heap_indexed.specs.Looking.{AreOf}
-use Rattle.heap_indexed.specs.Rows.{AreAskedFrom, columns_in, owed_for, rows_from}
+use Rattle.row_keys.specs.Rows.{AreAskedFrom, columns_in}
+use Rattle.heap_indexed.specs.Rows.{owed_for, rows_from}
 
 -- The heap and its indexes
 

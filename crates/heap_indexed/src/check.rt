@@ -1,25 +1,27 @@
 //! The check of a heap against an index of it by look-ups.
-ghost use Rattle.std.specs.Prelude.{◌≡◌, ◌⊎◌, ◌≤◌, ◌+◌, ◌*◌, IfErr, OnOk, length};
+ghost use Rattle.std.specs.Prelude.{◌≡◌, ◌⊎◌, ◌↔◌, ◌≤◌, ◌+◌, ◌*◌, IfErr, OnOk, length, true};
 ghost use Rattle.outside.specs.Adds.{AddsIn};
-ghost use Rattle.outside.specs.Outside.{Asked, IfTold};
+ghost use Rattle.outside.specs.Outside.{Asked, IfTold, Tells};
 ghost use Rattle.reports.specs.Added.{report_lists};
 ghost use Rattle.bt_levels.specs.Files.{number_of};
 ghost use Rattle.bt_levels.specs.Sound.{file_of};
 ghost use Rattle.bt_search.specs.Lookups.{most_visits};
 ghost use Rattle.heap_check.specs.Rows.{rows_of};
-ghost use Rattle.indexed_rules.specs.Lists.{entries_lists, indexed_lists, rows_lists};
-ghost use Rattle.heap_indexed.specs.Joined.{BelongTogether, HoldTogether};
+ghost use Rattle.indexed_rules.specs.Lists.{entries_lists, indexed_lists, joined_lists, rows_lists};
+ghost use Rattle.row_keys.specs.Joined.{BelongTogether, HoldTogether};
 ghost use Rattle.heap_indexed.specs.Looking.{AreOf, look_length};
 
-use crate::joined::{IndexedHeap, LookUps};
-use crate::keys::{KeyedHeap, columns_of};
+use crate::joined::LookUps;
 use crate::row_judge::RowJudge;
 use bt_search::ways_are_short;
+use duplicate_keys::check_duplicates;
 use heap_check::RowCursor;
 use index_targets::check_entries;
+use indexed_rules::heaps_and_indexes_are_judged;
 use outside::Files;
 use reports::{CheckFault, PageFault, Report};
 use root_set::set_tells_of_pages;
+use row_keys::{IndexedHeap, KeyedHeap, columns_of};
 use row_slots::RowSlots;
 use std::alloc::Global;
 
@@ -115,9 +117,79 @@ pub fn probe_rows<F: Files>(
     Ok(())
 }
 
+// Adds what is found of the live rows (X1, U6) by look-ups, and then of what the entries name (X2).
+fn check_joined<F: Files>(
+    alloc: Global,
+    files: &mut F,
+    at: IndexedHeap<'_>,
+    report: &mut Report,
+) -> Result<(), CheckFault>
+    requires belong { BelongTogether at.case.now at.heap.now at.tree.now }
+    requires hold { IfTold F.seen files.old (λ names. HoldTogether names at.case.now at.heap.now at.tree.now) }
+    ensures lists { IfTold F.seen files.old (λ names. AddsIn report_lists result report.old report.new
+        (joined_lists at.entry.case.now names (number_of (file_of at.entry.tree.now)))) }
+    ensures only { IfErr result (λ e. e ≡ CheckFault.ReadFault ⊎ e ≡ CheckFault.NoMemory) }
+    ensures asked { Asked F.seen files.old files.new result CheckFault.ReadFault }
+{
+    let mut look_ups = LookUps::new(alloc)?;
+    probe_rows(alloc, files, at, &mut look_ups, report)?;
+    check_strays(alloc, files, at, report)?;
+    Ok(())
+}
+
+// Whether nothing is in a report.
+fn is_empty(report: &Report) -> bool
+    ensures { (result ≡ true) ↔ (length report.now.findings ≡ 0) × (length report.now.unjudged ≡ 0) }
+{
+    let counts = report.counts();
+    counts.0 == 0 && counts.1 == 0
+}
+
+// Adds the rows of a unique index whose keys earlier rows have (X3) to the report on the index, where nothing is in it.
+pub(crate) fn add_duplicates<F: Files>(
+    alloc: Global,
+    files: &mut F,
+    at: IndexedHeap<'_>,
+    report: &mut Report,
+) -> Result<(), PageFault>
+    requires belong { BelongTogether at.case.now at.heap.now at.tree.now }
+    requires hold { IfTold F.seen files.old (λ names. HoldTogether names at.case.now at.heap.now at.tree.now) }
+    requires joined { IfTold F.seen files.old (λ names.
+        report.old ≡ joined_lists at.case.now names (number_of (file_of at.tree.now))) }
+    ensures lists { IfTold F.seen files.old (λ names. OnOk result (report.new
+        ≡ indexed_lists at.entry.case.now names (number_of (file_of at.entry.tree.now)))) }
+    ensures asked { Asked F.seen files.old files.new result PageFault.ReadFault }
+{
+    heaps_and_indexes_are_judged();
+    if !is_empty(report) {
+        return Ok(());
+    }
+    check_duplicates(alloc, files, at, report)
+}
+
+// The report on a heap and an index of it, told by look-ups.
+pub(crate) fn index_report<F: Files>(
+    alloc: Global,
+    files: &mut F,
+    at: IndexedHeap<'_>,
+) -> Result<Report, CheckFault>
+    requires belong { BelongTogether at.case.now at.heap.now at.tree.now }
+    requires hold { IfTold F.seen files.old (λ names. HoldTogether names at.case.now at.heap.now at.tree.now) }
+    ensures report { Tells F.seen files.old result (λ report names.
+        report ≡ indexed_lists at.entry.case.now names (number_of (file_of at.entry.tree.now))) }
+    ensures only { IfErr result (λ e. e ≡ CheckFault.ReadFault ⊎ e ≡ CheckFault.NoMemory) }
+    ensures asked { Asked F.seen files.old files.new result CheckFault.ReadFault }
+{
+    let mut report = Report::new(alloc);
+    check_joined(alloc, files, at, &mut report)?;
+    add_duplicates(alloc, files, at, &mut report)?;
+    Ok(report)
+}
+
 /// Judges a heap and an index of it together, in both of which nothing was found, by look-ups, and adds to the report
-/// what is found: first of the live rows (X1, U6), by rising TID, and then each entry of the index, killed or not, that
-/// names what no entry may name (X2), by block, item and place in the item.
+/// what is found: first of the live rows (X1, U6), by rising TID, then each entry of the index, killed or not, that
+/// names what no entry may name (X2), by block, item and place in the item; and where there is none of these and the
+/// index is unique, each live row whose key one with a lower TID has too (X3), by rising TID.
 ///
 /// `ReadFault` comes only where the count of the files' faults rose, and `NoFile` and `TooLarge` never. After an error
 /// the report has a first part of what it would have got.
@@ -134,8 +206,7 @@ pub fn check_indexed<F: Files>(
     ensures only { IfErr result (λ e. e ≡ CheckFault.ReadFault ⊎ e ≡ CheckFault.NoMemory) }
     ensures asked { Asked F.seen files.old files.new result CheckFault.ReadFault }
 {
-    let mut look_ups = LookUps::new(alloc)?;
-    probe_rows(alloc, files, at, &mut look_ups, report)?;
-    check_strays(alloc, files, at, report)?;
+    let own = index_report(alloc, files, at)?;
+    report.append(own)?;
     Ok(())
 }

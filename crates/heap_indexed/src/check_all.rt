@@ -7,14 +7,13 @@ ghost use Rattle.bt_levels.specs.Files.{number_of};
 ghost use Rattle.bt_levels.specs.Sound.{file_of};
 ghost use Rattle.heap_check.specs.RowCursor.{AreAsked, asked_at};
 ghost use Rattle.heap_check.specs.declared.row_cursor.RowCursor.{RowCursor as Cursor};
-ghost use Rattle.indexed_rules.specs.Lists.{indexed_lists};
-ghost use Rattle.heap_indexed.specs.Joined.{BelongTogether, HoldTogether};
+ghost use Rattle.indexed_rules.specs.Lists.{indexed_lists, joined_lists};
+ghost use Rattle.row_keys.specs.Joined.{BelongTogether, HoldTogether};
 ghost use Rattle.heap_indexed.specs.Meetings.{AreFirsts, AreInWork, BelongToIt, HoldIt, columns_of_all};
-ghost use Rattle.heap_indexed.specs.Rows.{columns_in};
+ghost use Rattle.row_keys.specs.Rows.{columns_in};
 
-use crate::check::check_indexed;
-use crate::joined::{IndexedHeap, IndexedTable};
-use crate::keys::columns_of;
+use crate::check::{add_duplicates, index_report};
+use crate::joined::IndexedTable;
 use crate::meeting::Meeting;
 use crate::ranges::Ranges;
 use bt_levels::SoundTree;
@@ -22,6 +21,7 @@ use heap_check::RowCursor;
 use outside::{Files, NoMemory};
 use reports::{CheckFault, PageFault, Report};
 use root_set::set_tells_of_pages;
+use row_keys::{IndexedHeap, columns_of};
 use std::alloc::Global;
 use std::collections::VecDeque;
 use varlena_attrs::IndexColumns;
@@ -109,7 +109,7 @@ fn reports_of(alloc: Global, meetings: Vec<Meeting>) -> Result<VecDeque<Report>,
     Ok(reports)
 }
 
-// The report of each index, told by entries that meet rows.
+// What is found of the rows and the entries of each index (X1, U6, X2), told by entries that meet rows.
 fn meet_all<F: Files>(
     alloc: Global,
     files: &mut F,
@@ -118,7 +118,8 @@ fn meet_all<F: Files>(
     requires belong { BelongToIt at }
     requires hold { IfTold F.seen files.old (λ names. HoldIt names at) }
     ensures reports { Tells F.seen files.old result (λ reports names. reports.items
-        ≡ map (λ tree. indexed_lists at.entry.case.now names (number_of (file_of tree))) at.entry.trees.now) }
+        ≡ map (λ tree. joined_lists at.entry.case.now names (number_of (file_of tree))) at.entry.trees.now) }
+    ensures count { IfOk result (λ reports. length reports.items ≡ length at.entry.trees.now) }
     ensures asked { Asked F.seen files.old files.new result PageFault.ReadFault }
 {
     set_tells_of_pages();
@@ -133,6 +134,34 @@ fn meet_all<F: Files>(
     };
     ranges.judge_all(files, &mut meetings, &mut cursor)?;
     let reports = reports_of(alloc, meetings)?;
+    Ok(reports)
+}
+
+// Adds to the report on each index, where nothing is in it, the rows whose keys earlier rows have (X3).
+fn judge_keys<F: Files>(
+    alloc: Global,
+    files: &mut F,
+    at: IndexedTable<'_>,
+    joined: VecDeque<Report>,
+) -> Result<VecDeque<Report>, PageFault>
+    requires belong { BelongToIt at }
+    requires hold { IfTold F.seen files.old (λ names. HoldIt names at) }
+    requires count { length joined.items ≡ length at.trees.now }
+    requires joined { IfTold F.seen files.old (λ names. joined.items
+        ≡ map (λ tree. joined_lists at.case.now names (number_of (file_of tree))) at.trees.now) }
+    ensures reports { Tells F.seen files.old result (λ reports names. reports.items
+        ≡ map (λ tree. indexed_lists at.entry.case.now names (number_of (file_of tree))) at.entry.trees.now) }
+    ensures asked { Asked F.seen files.old files.new result PageFault.ReadFault }
+{
+    let IndexedTable { case, heap, trees } = at;
+    let mut joined = joined;
+    let mut reports = VecDeque::new(alloc);
+    while let Some(found) = joined.pop_front() {
+        let mut report = found;
+        let tree = &trees[reports.len()];
+        add_duplicates(alloc, files, IndexedHeap { case, heap, tree }, &mut report)?;
+        push_report(&mut reports, report)?;
+    }
     Ok(reports)
 }
 
@@ -154,26 +183,9 @@ pub fn meet_indexes<F: Files>(
     ensures only { IfErr result (λ e. e ≡ CheckFault.ReadFault ⊎ e ≡ CheckFault.NoMemory) }
     ensures asked { Asked F.seen files.old files.new result CheckFault.ReadFault }
 {
-    let reports = meet_all(alloc, files, at)?;
+    let joined = meet_all(alloc, files, at)?;
+    let reports = judge_keys(alloc, files, at, joined)?;
     Ok(reports)
-}
-
-// The report on one index, told by look-ups.
-fn probe_index<F: Files>(
-    alloc: Global,
-    files: &mut F,
-    at: IndexedHeap<'_>,
-) -> Result<Report, CheckFault>
-    requires belong { BelongTogether at.case.now at.heap.now at.tree.now }
-    requires hold { IfTold F.seen files.old (λ names. HoldTogether names at.case.now at.heap.now at.tree.now) }
-    ensures report { Tells F.seen files.old result (λ report names.
-        report ≡ indexed_lists at.entry.case.now names (number_of (file_of at.entry.tree.now))) }
-    ensures only { IfErr result (λ e. e ≡ CheckFault.ReadFault ⊎ e ≡ CheckFault.NoMemory) }
-    ensures asked { Asked F.seen files.old files.new result CheckFault.ReadFault }
-{
-    let mut report = Report::new(alloc);
-    check_indexed(alloc, files, at, &mut report)?;
-    Ok(report)
 }
 
 // The report of each index, told by look-ups.
@@ -193,17 +205,15 @@ fn probe_indexes<F: Files>(
     let mut reports = VecDeque::new(alloc);
     for j in 0..trees.len() {
         let tree = &trees[j];
-        let report = probe_index(alloc, files, IndexedHeap { case, heap, tree })?;
+        let report = index_report(alloc, files, IndexedHeap { case, heap, tree })?;
         push_report(&mut reports, report)?;
     }
     Ok(reports)
 }
 
 /// Judges a heap together with each of these indexes of it, in all of which nothing was found, and gives a report for
-/// each, in their order: first what is found of the live rows (X1, U6), by rising TID, and then each entry of the
-/// index, killed or not, that names what no entry may name (X2), by block, item and place in the item. The rows of a
-/// heap of fewer than 64 blocks are looked up ([`check_indexed`]), and those of a larger one are met
-/// ([`meet_indexes`]).
+/// each, in their order: that which [`check_indexed`](crate::check_indexed) adds. The rows of a heap of fewer than 64
+/// blocks are looked up, and those of a larger one are met ([`meet_indexes`]).
 ///
 /// `ReadFault` comes only where the count of the files' faults rose, and `NoFile` and `TooLarge` never.
 pub fn check_indexes<F: Files>(

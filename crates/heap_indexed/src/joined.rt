@@ -23,14 +23,6 @@ use std::alloc::Global;
 // How many pages of an index are kept.
 const CACHE_PAGES: usize = 64;
 
-/// A heap and an index of it, in which nothing was found, and the case that both are of.
-#[derive(Clone, Copy)]
-pub struct IndexedHeap<'a> {
-    pub case: &'a Case,
-    pub heap: &'a SoundHeap,
-    pub tree: &'a SoundTree,
-}
-
 /// The heap of a case and indexes of it, in all of which nothing was found.
 #[derive(Clone, Copy)]
 pub struct IndexedTable<'a> {

@@ -17,10 +17,10 @@ ghost use Rattle.row_slots.specs.Slots.{AreAllMet, IsBegun, keys_in, keys_with, 
 ghost use Rattle.heap_indexed.specs.Looking.{AreOf};
 ghost use Rattle.heap_indexed.specs.Judging.{IsBehind, IsReadyBehind};
 ghost use Rattle.heap_indexed.specs.Meetings.{InWork, IsKept, IsPut, IsToFinish};
-ghost use Rattle.heap_indexed.specs.Rows.{IsFound, IsIndexAt, owed_for, rows_from};
+ghost use Rattle.row_keys.specs.Rows.{IsFound, IsIndexAt};
+ghost use Rattle.heap_indexed.specs.Rows.{owed_for, rows_from};
 
 use crate::joined::LookUps;
-use crate::keys::KeyedHeap;
 use crate::row_judge::RowJudge;
 use heap_check::{RowCursor, RowPlace};
 use index_targets::check_entries;
@@ -28,6 +28,7 @@ use key_orders::{KeyRefs, MoreRefs, Tid, ValueRef};
 use outside::{Files, NoMemory};
 use reports::{PageFault, Report};
 use root_set::RootSet;
+use row_keys::KeyedHeap;
 use row_slots::RowSlots;
 use std::alloc::Global;
 use stored_keys::RowValues;
@@ -77,7 +78,7 @@ fn keep_values(slots: &mut RowSlots, root: Tid, values: RowValues<'_>) -> Result
 }
 
 // Keeps the row at which a cursor is under its root, with its values; whether it is kept. One of which a value is
-// compressed isn't. Only an index that includes columns asks for places for their values.
+// compressed isn't. Only an index that includes many columns asks for places of their own for their values.
 fn keep_row_at(
     slots: &mut RowSlots,
     index: KeyedHeap<'_>,
@@ -91,12 +92,15 @@ fn keep_row_at(
         → IsPut (index_columns index.entry.at.tree.now) slots.old slots.new root row) }
     ensures met { met_in slots.new ≡ met_in slots.old }
 {
-    let mut key = KeyRefs::new();
-    if !index.read_key(cursor, &mut key) {
+    let mut values = KeyRefs::new();
+    if !index.read_key(cursor, &mut values) {
         return Ok(false);
     }
-    let key = key.as_slice();
-    if !index.includes() {
+    if index.is_narrow() {
+        if !index.read_beside(cursor, &mut values) {
+            return Ok(false);
+        }
+        let key = values.as_slice();
         let kept = keep_values(slots, root, RowValues { key, more: &[] })?;
         return Ok(kept);
     }
@@ -104,6 +108,7 @@ fn keep_row_at(
     if !index.read_more(cursor, &mut more) {
         return Ok(false);
     }
+    let key = values.as_slice();
     let more = more.as_slice();
     let kept = keep_values(slots, root, RowValues { key, more })?;
     Ok(kept)

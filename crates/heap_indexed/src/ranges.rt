@@ -15,19 +15,23 @@ ghost use Rattle.index_targets.specs.Passes.{strays_of};
 ghost use Rattle.heap_indexed.specs.Judging.{IsBehind};
 ghost use Rattle.heap_indexed.specs.Meetings.{AreInWork, AreToFinish, EachFor, HaveKept, HoldIt, IsIndexNo, IsJudged};
 ghost use Rattle.heap_indexed.specs.Meetings.{IsOfTable};
-ghost use Rattle.heap_indexed.specs.Rows.{IsFound, owed_for, rows_from};
+ghost use Rattle.row_keys.specs.Rows.{IsFound};
+ghost use Rattle.heap_indexed.specs.Rows.{owed_for, rows_from};
 
-use crate::joined::{IndexedHeap, IndexedTable};
-use crate::keys::KeyedHeap;
+use crate::joined::IndexedTable;
 use crate::meeting::Meeting;
 use heap_check::{RowCursor, RowPlace};
 use outside::{Files, NoMemory};
 use page_layout::MAX_ITEMS;
 use reports::PageFault;
 use root_set::RootSet;
+use row_keys::{IndexedHeap, KeyedHeap};
 
-// The bytes that the rows of a range may use for all indexes together before the range ends with a block: 50 MiB.
+// The bytes that the rows of a range may use for all indexes together before the range ends with a block: 50 MiB, or
+// 256 for each block of the heap, a 32nd of its bytes, where that is more. So the number of ranges is bounded.
 const RANGE_BYTES: usize = 52_428_800;
+
+const RANGE_BYTES_A_BLOCK: usize = 256;
 
 /// A heap and its indexes, and for each index which of the values that a cursor over the heap is asked for is its
 /// first, counted from 0.
@@ -37,13 +41,18 @@ pub struct Ranges<'a> {
     pub firsts: &'a [usize],
 }
 
+// How many bytes the rows of a range may use in a heap of so many blocks.
+fn range_bytes(blocks: u32) -> usize {
+    RANGE_BYTES.max(blocks as usize * RANGE_BYTES_A_BLOCK)
+}
+
 // Whether the rows of the range take as much memory as they may.
-fn are_full(meetings: &[Meeting]) -> bool {
+fn are_full(meetings: &[Meeting], most: usize) -> bool {
     let mut bytes = 0usize;
     for j in 0..meetings.len() {
         bytes = bytes.saturating_add(meetings[j].slots.bytes());
     }
-    RANGE_BYTES <= bytes
+    most <= bytes
 }
 
 impl<'a> Ranges<'a> {
@@ -206,10 +215,12 @@ impl<'a> Ranges<'a> {
         ensures cursor { IsSameCursor cursor.old cursor.new }
         ensures asked { Asked F.seen files.old files.new result PageFault.ReadFault }
     {
-        let count = self.at.heap.heap().blocks() - cursor.next_block();
+        let blocks = self.at.heap.heap().blocks();
+        let most = range_bytes(blocks);
+        let count = blocks - cursor.next_block();
         for k in 0..count {
             self.keep_block(files, meetings, cursor)?;
-            if are_full(meetings) {
+            if are_full(meetings, most) {
                 return Ok(());
             }
         }

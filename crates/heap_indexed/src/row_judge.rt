@@ -17,16 +17,17 @@ ghost use Rattle.indexed_rules.specs.Lists.{missing_rule};
 ghost use Rattle.heap_indexed.specs.Looking.{has_entry, look_length};
 ghost use Rattle.heap_indexed.specs.Judging.{IsBetween, IsReady, IsWithin};
 ghost use Rattle.heap_indexed.specs.Meetings.{HasValues};
-ghost use Rattle.heap_indexed.specs.Rows.{IsFound, IsIndexAt, Settles, lists_of_row, owed_for, rows_from};
+ghost use Rattle.row_keys.specs.Rows.{IsFound, IsIndexAt};
+ghost use Rattle.heap_indexed.specs.Rows.{Settles, lists_of_row, owed_for, rows_from};
 
 use crate::joined::{IndexedRow, LookUps};
-use crate::keys::KeyedHeap;
 use heap_check::{RowCursor, RowPlace};
 use key_orders::{KeyRefs, MoreRefs, Tid};
 use outside::{Files, NoMemory};
 use page_layout::{MAX_ITEMS, Rule};
 use rel_files::ReadFault;
 use reports::{PageFault, Place, Reason, Report};
+use row_keys::KeyedHeap;
 use row_slots::RowSlots;
 use stored_keys::RowValues;
 

@@ -1,3 +1,4 @@
 mod Each
 pub mod Alive
+pub mod Duplicates
 mod Judging

@@ -5,7 +5,7 @@ use Rattle.outside.specs.Adds.{Joins, each_below}
 use Rattle.outside.specs.Outside.{Names}
 use Rattle.page_layout.specs.Page.{count_of}
 use Rattle.page_layout.specs.declared.rules.Rule.{Rule}
-use Rattle.page_layout.specs.declared.rules.Rule.TheVariants.{X1, X2}
+use Rattle.page_layout.specs.declared.rules.Rule.TheVariants.{X1, X2, X3}
 use Rattle.varlena_attrs.specs.Columns.{TreeColumns}
 use Rattle.key_orders.specs.declared.columns.Value.{Value}
 use Rattle.key_orders.specs.declared.Tid.{Tid}
@@ -14,6 +14,8 @@ use Rattle.tree_image.specs.Image.{first_data, item_at, keys_in}
 use Rattle.bt_steps.specs.Pages.{is_live_leaf}
 use Rattle.reports.specs.Added.{doubt_at, each_upto, finding_at, joined, nothing, report_lists}
 use Rattle.reports.specs.Lists.{Lists}
+use Rattle.reports.specs.declared.places.Finding.{Finding}
+use Rattle.reports.specs.declared.places.UnjudgedPlace.{UnjudgedPlace}
 use Rattle.reports.specs.declared.places.Place.TheVariants.{Entry, Tuple}
 use Rattle.reports.specs.declared.places.Reason.TheVariants.{U6}
 use Rattle.bt_levels.specs.Index.{case_columns, tree_of}
@@ -21,6 +23,7 @@ use Rattle.heap_check.specs.Rows.{rows_of}
 use Rattle.heap_check.specs.declared.rows.LiveRow.{LiveRow}
 use Rattle.indexed_rules.specs.Entries.{tree_entries, has_alive, may_be_named}
 use Rattle.indexed_rules.specs.Rows.{key_numbers, more_numbers, values_at}
+use Rattle.indexed_rules.specs.Unique.{is_duplicate}
 
 -- what each of these gives, in their order
 abbrev pub of_each : {L X : Type 0} → Joins L → (X → L) → List X → L
@@ -108,5 +111,28 @@ entries_lists case names n =
     (tree_of case names n).block
 
 -- both
+unfoldable pub joined_lists : CaseRecord → Names → ℕ → Lists
+joined_lists case names n = joined (rows_lists case names n) (entries_lists case names n)
+
+-- X3, where a row has the key of an earlier one
+abbrev pub duplicate_rule : (duplicate : Bool) → Option Rule
+duplicate_rule true = Some X3
+duplicate_rule false = None
+
+unfoldable pub duplicate_lists : CaseRecord → Names → ℕ → LiveRow → Lists
+duplicate_lists case names n row = finding_at (Tuple n row.tid) (duplicate_rule (is_duplicate case names n row))
+
+-- the live rows by rising TID: X3
+unfoldable pub duplicates_lists : CaseRecord → Names → ℕ → Lists
+duplicates_lists case names n = of_each report_lists (duplicate_lists case names n) (rows_of case names)
+
+-- these findings and doubts, or others where there are none
+abbrev pub or_else : List Finding → List UnjudgedPlace → Lists → Lists
+or_else [] [] others = others
+or_else [] (u ∷ us) others = record { findings = []; unjudged = u ∷ us }
+or_else (f ∷ fs) us others = record { findings = f ∷ fs; unjudged = us }
+
+-- all: keys are compared only where each live row has its entry, and each entry names what it may name
 unfoldable pub indexed_lists : CaseRecord → Names → ℕ → Lists
-indexed_lists case names n = joined (rows_lists case names n) (entries_lists case names n)
+indexed_lists case names n =
+    or_else (joined_lists case names n).findings (joined_lists case names n).unjudged (duplicates_lists case names n)

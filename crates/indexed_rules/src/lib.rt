@@ -1,5 +1,6 @@
-//! The rules that join a heap and an index of it: each live tuple has its entry (X1, U6), and each entry names
-//! what it may name (X2). Definitions and the laws that tie a report's lists to them; no code.
+//! The rules that join a heap and an index of it: each live tuple has its entry (X1, U6), each entry names what it may
+//! name (X2), and in a unique index no live tuple has the key of another (X3). Definitions and the laws that tie a
+//! report's lists to them; no code.
 #![tactic(auto)]
 
 ghost use Rattle.std.specs.Prelude.{ℕ};

@@ -132,11 +132,12 @@ fn lengths_rounded_up(rt: HostRuntime) {
     }
 }
 
-const CODES: [(Rule, &str); 4] = [
+const CODES: [(Rule, &str); 5] = [
     (Rule::S1, "S1"),
     (Rule::H21, "H21"),
     (Rule::B10, "B10"),
     (Rule::X2, "X2"),
+    (Rule::X3, "X3"),
 ];
 
 #[test]

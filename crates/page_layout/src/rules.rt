@@ -138,6 +138,8 @@ pub enum Rule {
     X1,
     /// An entry of the index names no item of the table, an unused one, or a heap-only tuple.
     X2,
+    /// The index is unique, and a live tuple with a lower TID has an equal key.
+    X3,
 }
 
 impl Rule {
@@ -203,6 +205,7 @@ impl Rule {
             Rule::L9 => "L9",
             Rule::X1 => "X1",
             Rule::X2 => "X2",
+            Rule::X3 => "X3",
         }
     }
 }

@@ -1,5 +1,5 @@
 -- The values of blocks, kept as bits: a value that is looked up, and a block that is added.
-use Rattle.std.proofs.Common.{◌≡◌, ◌∙◌, ℕ, ◌+◌, ◌-◌, ◌*◌, ◌%◌, ◌<◌, ◌≤◌, Bool, true, false, List, [], ◌∷◌, ◌++◌, length, get_or, map, refl, ap, sym, arith, inl, inr, zero, suc}
+use Rattle.std.proofs.Common.{◌≡◌, ◌∙◌, ℕ, ◌+◌, ◌-◌, ◌*◌, ◌%◌, ◌^◌, ◌<◌, ◌≤◌, Bool, true, false, List, [], ◌∷◌, ◌++◌, length, get_or, map, refl, ap, sym, arith, inl, inr, zero, suc}
 use Rattle.std.specs.Prelude.{◌&&◌, ◌==◌, nat_le, nat_lt}
 use Rattle.std.specs.List.{range_with_len}
 use Rattle.std.proofs.lemmas.Bool.{and_left, and_right, cases_lt, le-leb, le-ltb, lt-leb, lt-ltb}
@@ -149,10 +149,11 @@ page_values page bits start told =
 
 -- What is true of each set stays true
 
-packed_more : (starts bits new : List ℕ) (e : ℕ) → 1 ≤ length starts → IsPacked starts bits → end_of starts ≤ e
+packed_more : (starts bits new : List ℕ) (e : ℕ) → 1 ≤ length starts → count_in starts < 2 ^ 32 → IsPacked starts bits
+    → end_of starts ≤ e
     → e ≤ end_of starts + 2042 → e ≤ 8 * length new → ((p : ℕ) → e ≤ p → is_set new p ≡ false)
     → IsPacked (starts ++ e ∷ []) new
-packed_more starts bits new e begun packed low high within clear =
+packed_more starts bits new e begun short packed low high within clear =
     let last = new_end starts e in
     let one = length_more starts e in
     record {
@@ -163,6 +164,7 @@ packed_more starts bits new e begun packed low high within clear =
             omega (arith, last, ap (λ b. get_or (starts ++ e ∷ []) b 0) there, get_or-append_seam starts e [] 0)
       ];
       few = omega (arith, last, one, packed.few);
+      short = omega (arith, one, short, begun);
       within = omega (arith, last);
       clear = λ p past. clear p (omega (arith, last));
     }
@@ -174,10 +176,11 @@ pub record HasTargets (start : ℕ) (bits new page : List ℕ) : Type 0 where
   pub items : (j : ℕ) → j < count_of page → is_set new (start + j) ≡ is_target page (1 + j)
   pub behind : (p : ℕ) → start + count_of page ≤ p → is_set new p ≡ false
 
-pub packed_by_page : (starts bits new page : List ℕ) → 1 ≤ length starts → IsPacked starts bits → count_of page ≤ 2042
+pub packed_by_page : (starts bits new page : List ℕ) → 1 ≤ length starts → count_in starts < 2 ^ 32
+    → IsPacked starts bits → count_of page ≤ 2042
     → HasTargets (end_of starts) bits new page → IsPacked (starts ++ (end_of starts + count_of page) ∷ []) new
-packed_by_page starts bits new page begun packed few has =
-    packed_more starts bits new (end_of starts + count_of page) begun packed (omega arith) (omega (arith, few)) has.room has.behind
+packed_by_page starts bits new page begun short packed few has =
+    packed_more starts bits new (end_of starts + count_of page) begun short packed (omega arith) (omega (arith, few)) has.room has.behind
 
 pub block_by_page : (starts bits new page : List ℕ) → 1 ≤ length starts → IsPacked starts bits
     → HasTargets (end_of starts) bits new page
@@ -203,6 +206,7 @@ pub packed_empty : (starts bits : List ℕ) → starts ≡ [] → bits ≡ [] �
 packed_empty starts bits none empty = rw (none, empty) record {
   ordered = λ block below. absurd (omega arith);
   few = omega (arith, no_end);
+  short = omega arith;
   within = omega (arith, no_end);
   clear = λ p past. no_bits p;
 }
@@ -220,6 +224,7 @@ one_start = record {
   packed = λ bits packed. record {
     ordered = λ k below. let first : k ≡ 0 = omega arith in rw first (omega arith);
     few = packed.few;
+    short = omega arith;
     within = packed.within;
     clear = packed.clear;
   };

@@ -1,6 +1,6 @@
 -- How a set is kept: the truth values of all items side by side as bits, block after block, and where those of each
 -- block begin. Places of bits count from 0, in each byte from the lowest bit up.
-use Rattle.std.specs.Prelude.{◌≡◌, ℕ, ◌+◌, ◌-◌, ◌*◌, ◌/◌, ◌%◌, ◌<◌, ◌≤◌, Bool, false, ◌==◌, List, get_or, length, map}
+use Rattle.std.specs.Prelude.{◌≡◌, ℕ, ◌+◌, ◌-◌, ◌*◌, ◌/◌, ◌%◌, ◌^◌, ◌<◌, ◌≤◌, Bool, false, ◌==◌, List, get_or, length, map}
 use Rattle.std.specs.Int.{bit_at}
 use Rattle.std.specs.List.{range_with_len}
 
@@ -33,6 +33,7 @@ pub record IsPacked (starts bits : List ℕ) : Type 0 where
   pub ordered : (k : ℕ) → k < length starts → get_or starts k 0 ≤ end_of starts
   -- a page has at most 2042 items
   pub few : end_of starts ≤ 2042 * count_in starts
+  pub short : count_in starts ≤ 2 ^ 32
   pub within : end_of starts ≤ 8 * length bits
   pub clear : (place : ℕ) → end_of starts ≤ place → is_set bits place ≡ false
 

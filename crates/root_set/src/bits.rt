@@ -1,5 +1,5 @@
 //! Bits side by side in bytes, each in its byte from the lowest up. Places count from 0.
-ghost use Rattle.std.specs.Prelude.{◌≡◌, ◌+◌, ◌*◌, ◌<◌, ◌≤◌, ℕ, false, ◌==◌, ◌||◌, length, vec_len, OnOk};
+ghost use Rattle.std.specs.Prelude.{◌≡◌, ◌+◌, ◌*◌, ◌^◌, ◌<◌, ◌≤◌, ℕ, false, ◌==◌, ◌||◌, length, vec_len, OnOk};
 ghost use Rattle.page_layout.specs.declared.page.PageKind.TheVariants.{Heap};
 ghost use Rattle.page_layout.specs.Page.{count_of, page_rule_of};
 ghost use Rattle.page_layout.specs.View.{page_bytes};
@@ -43,8 +43,9 @@ pub(crate) fn make_room(bits: &mut Vec<u8>, places: usize) -> Result<(), NoMemor
 }
 
 // Sets from a place on, where no bit is set yet, one for each item of a page that an entry may name.
-pub(crate) fn set_targets(bits: &mut [u8], start: u32, page: PageView<'_>)
+pub(crate) fn set_targets(bits: &mut [u8], start: usize, page: PageView<'_>)
     requires page { page_rule_of Heap (page_bytes page) ≡ None }
+    requires few { start + count_of (page_bytes page) < 2 ^ 64 }
     requires room { start + count_of (page_bytes page) ≤ 8 * length bits.old }
     requires clear { (p : ℕ) → start ≤ p → is_set bits.old p ≡ false }
     ensures before { (p : ℕ) → p < start → is_set bits.new p ≡ is_set bits.old p }
@@ -54,7 +55,7 @@ pub(crate) fn set_targets(bits: &mut [u8], start: u32, page: PageView<'_>)
 {
     for j in 0..page.item_count() {
         if is_target(page, j + 1) {
-            set_bit(bits, start as usize + j as usize);
+            set_bit(bits, start + j as usize);
         }
     }
 }

@@ -1,5 +1,5 @@
 //! The set, kept as one bit for each line pointer.
-ghost use Rattle.std.specs.Prelude.{◌≡◌, ◌+◌, ◌*◌, ◌<◌, ◌≤◌, ◌++◌, ◌∷◌, [], None, length, OnErr, OnOk};
+ghost use Rattle.std.specs.Prelude.{◌≡◌, ◌+◌, ◌*◌, ◌<◌, ◌≤◌, ◌^◌, ◌++◌, ◌∷◌, [], None, length, OnErr, OnOk};
 ghost use Rattle.page_layout.specs.declared.page.PageKind.TheVariants.{Heap};
 ghost use Rattle.page_layout.specs.Page.{page_rule_of};
 ghost use Rattle.page_layout.specs.View.{page_bytes};
@@ -16,13 +16,13 @@ use std::marker::Model;
 /// The set of the line pointers of a heap's first blocks that an index entry may name. Contracts see for
 /// each block, from block 0 on, the truth values of its items, from item 1 on (`targets_on`).
 ///
-/// It takes a bit for each line pointer and four bytes for each block: 4.3 MB for 16384 blocks of 2042
-/// items, and less than 13 MB while it grows.
+/// It takes a bit for each line pointer and eight bytes for each block: 4.4 MB for 16384 blocks of 2042
+/// items, and less than three times as much while it grows.
 #[derive(Drop)]
 pub struct RootSet {
     // For each block the place of its first bit, and last the place behind the last block's bits. It is
     // empty, or a lone 0, while there is no block.
-    starts: Vec<u32>,
+    starts: Vec<usize>,
     // A bit for each item, 1 where an entry may name it, block after block.
     bits: Vec<u8>,
 }
@@ -51,10 +51,10 @@ impl RootSet {
 
     /// Adds the line pointers of the next block: of a page that breaks none of the rules of a heap's page
     /// (P1 to P4), whatever its line pointers and tuples are. A new page has none. After `NoMemory` the set
-    /// is as it was. A set takes at most 65536 blocks.
+    /// is as it was. A set takes fewer than 2^32 blocks.
     pub fn add_page(&mut self, page: PageView<'_>) -> Result<(), NoMemory>
         requires page { page_rule_of Heap (page_bytes page) ≡ None }
-        requires few { length self.old < 65536 }
+        requires few { length self.old < 2 ^ 32 }
         ensures ok { OnOk result (self.new ≡ self.old ++ targets_on (page_bytes page.entry) ∷ []) }
         ensures err { OnErr result (self.new ≡ self.old) }
     {
@@ -80,7 +80,7 @@ impl RootSet {
 }
 
 // Enters the start of block 0, where there is none yet.
-fn begin(starts: &mut Vec<u32>) -> Result<(), NoMemory>
+fn begin(starts: &mut Vec<usize>) -> Result<(), NoMemory>
     ensures begun { OnOk result (1 ≤ length starts.new.items) }
     ensures same { AreSameStarts starts.old.items starts.new.items }
 {
@@ -92,7 +92,7 @@ fn begin(starts: &mut Vec<u32>) -> Result<(), NoMemory>
 
 // The end of the last block, where the next one begins.
 #[tactic(auto, unfolding(crate::specs::Packed::end_of))]
-fn end_of(starts: &[u32]) -> u32
+fn end_of(starts: &[usize]) -> usize
     requires { 1 ≤ length starts.now }
     ensures { result ≡ end_of starts.now }
 {
@@ -100,10 +100,14 @@ fn end_of(starts: &[u32]) -> u32
 }
 
 // Adds the values of a page behind those of the blocks before, or nothing, where memory is wanting.
-fn add_values(starts: &mut Vec<u32>, bits: &mut Vec<u8>, page: PageView<'_>) -> Result<(), NoMemory>
+fn add_values(
+    starts: &mut Vec<usize>,
+    bits: &mut Vec<u8>,
+    page: PageView<'_>,
+) -> Result<(), NoMemory>
     requires packed { IsPacked starts.old.items bits.old.items }
     requires begun { 1 ≤ length starts.old.items }
-    requires few { count_in starts.old.items < 65536 }
+    requires few { count_in starts.old.items < 2 ^ 32 }
     requires page { page_rule_of Heap (page_bytes page) ≡ None }
     ensures packed { IsPacked starts.new.items bits.new.items }
     ensures ok { OnOk result (blocks_of starts.new.items bits.new.items
@@ -112,8 +116,8 @@ fn add_values(starts: &mut Vec<u32>, bits: &mut Vec<u8>, page: PageView<'_>) -> 
         ≡ blocks_of starts.old.items bits.old.items) }
 {
     let start = end_of(starts);
-    let end = start + u32::from(page.item_count());
-    make_room(bits, end as usize)?;
+    let end = start + usize::from(page.item_count());
+    make_room(bits, end)?;
     starts.push(end)?;
     set_targets(bits, start, page);
     Ok(())
@@ -121,7 +125,7 @@ fn add_values(starts: &mut Vec<u32>, bits: &mut Vec<u8>, page: PageView<'_>) -> 
 
 // Whether a line pointer is one of the blocks and its value is true.
 #[inline]
-fn has_value(starts: &[u32], bits: &[u8], tid: Tid) -> bool
+fn has_value(starts: &[usize], bits: &[u8], tid: Tid) -> bool
     requires { IsPacked starts.now bits.now }
     ensures { result ≡ is_in (blocks_of starts.now bits.now) tid }
 {
@@ -129,6 +133,6 @@ fn has_value(starts: &[u32], bits: &[u8], tid: Tid) -> bool
     if tid.item == 0 || starts.len() <= block + 1 {
         return false;
     }
-    let next = starts[block] as usize + tid.item as usize;
-    next <= starts[block + 1] as usize && is_set(bits, next - 1)
+    let next = starts[block] + tid.item as usize;
+    next <= starts[block + 1] && is_set(bits, next - 1)
 }

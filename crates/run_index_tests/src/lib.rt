@@ -14,3 +14,5 @@ mod indexed;
 mod level_trees;
 #[cfg(test)]
 mod levels;
+#[cfg(test)]
+mod unique;

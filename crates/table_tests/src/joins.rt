@@ -1,6 +1,6 @@
 //! Tables in memory against their indexes: what comes of them, and how often pages are read and looked at.
 ghost use Rattle.std.specs.Prelude.{IfOk};
-ghost use Rattle.heap_indexed.specs.Joined.{BelongTogether};
+ghost use Rattle.row_keys.specs.Joined.{BelongTogether};
 
 use crate::sound::{sound_heap, sound_tree};
 use bt_levels::SoundTree;
@@ -8,9 +8,10 @@ use bt_search::{PageCache, Visits, probe};
 use bt_steps::Sought;
 use case_file::Case;
 use heap_check::{LiveRows, SoundHeap};
-use heap_indexed::{IndexedHeap, IndexedTable, LookUps, check_indexed, meet_indexes, probe_rows};
+use heap_indexed::{IndexedTable, LookUps, check_indexed, meet_indexes, probe_rows};
 use key_orders::{KeyRefs, Octets, Tid, ValueRef, fits_columns};
 use reports::Report;
+use row_keys::IndexedHeap;
 use std::alloc::Global;
 use std::test::Fail;
 use test_files::{Kind, Table, UntoldFiles, Wrong};

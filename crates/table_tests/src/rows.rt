@@ -89,7 +89,11 @@ fn is_one_row(
         return Ok(false);
     };
     let next = rows.next_row(alloc, files)?;
-    Ok(is_zeros(&row, 1996) && next.is_none())
+    rows.seek_block(1);
+    let behind = rows.next_row(alloc, files)?;
+    rows.seek_block(0);
+    let again = rows.next_row(alloc, files)?;
+    Ok(is_zeros(&row, 1996) && next.is_none() && behind.is_none() && again.is_some())
 }
 
 // No hint of the second says that the row's inserter committed: pg_xact does.

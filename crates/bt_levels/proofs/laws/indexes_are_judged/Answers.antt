@@ -1,5 +1,5 @@
 use Rattle.rel_files.specs.Blocks.{long_segment_of}
-use Rattle.attach_files.specs.Refusals.{block_limit}
+use Rattle.attach_files.specs.Refusals.{index_limit}
 use Rattle.tree_search.proofs.Whole.{finds}
 use Rattle.tree_rules.proofs.Broken.{silent}
 use Rattle.tree_rules.proofs.Searchable.{searchable}
@@ -13,7 +13,7 @@ pub returns : goal.returns
 unfolding tree_lists
 returns c case names n =
     let tree = tree_of case names n in
-    let long = long_segment_of names (index_of case n).file case.segment_blocks block_limit in
+    let long = long_segment_of names (index_of case n).file case.segment_blocks index_limit in
     let same = same_law tree.specs (c.key_orders_are_total.ensures.same_key tree.specs) in
     let local = λ (keeps : KeepsPages tree). c.kept_rules_make_a_sound_image.ensures tree.specs tree.more tree.blocks tree.block keeps in
     record {

@@ -8,7 +8,7 @@ use Rattle.bt_levels.specs.Sound.{file_of}
 use Rattle.heap_files.specs.Case.{heap_blocks, heap_page}
 use Rattle.indexed_rules.specs.Lists.{entries_lists}
 use Rattle.heap_indexed.proofs.Cases.{strays-are}
-use Rattle.heap_indexed.proofs.Pages.{set-says}
+use Rattle.row_keys.proofs.Pages.{set-says}
 use Rattle.heap_indexed.proofs.check.check_strays.Goals as goal
 
 pub check_entries-requires : goal.check_entries-requires

@@ -13,11 +13,12 @@ use Rattle.heap_check.specs.RowCursor.{next_in}
 use Rattle.heap_check.specs.Rows.{rows_of}
 use Rattle.heap_check.specs.declared.rows.LiveRow.{LiveRow}
 use Rattle.indexed_rules.specs.Lists.{rows_lists}
-use Rattle.heap_indexed.specs.Rows.{AreAskedFrom, columns_in, rows_from}
+use Rattle.row_keys.specs.Rows.{AreAskedFrom, columns_in}
+use Rattle.heap_indexed.specs.Rows.{rows_from}
 use Rattle.heap_indexed.proofs.Cases.{rows-are}
-use Rattle.heap_indexed.proofs.KeyLaws.{asked-all, columns-there}
+use Rattle.row_keys.proofs.KeyLaws.{asked-all, columns-there}
 use Rattle.heap_indexed.proofs.Owed.{rows-all}
-use Rattle.heap_indexed.proofs.Pages.{count-is}
+use Rattle.row_keys.proofs.Pages.{count-is}
 use Rattle.heap_indexed.proofs.check.probe_in_turn.Goals as goal
 
 pub returns-in_err-columns-clause-lists : goal.returns-in_err-columns-clause-lists

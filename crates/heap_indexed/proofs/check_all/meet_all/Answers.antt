@@ -9,7 +9,7 @@ use Rattle.heap_files.specs.Case.{heap_blocks, heap_page}
 use Rattle.heap_files.specs.Files.{heap_in, targets_in}
 use Rattle.heap_check.specs.RowCursor.{AreAsked, asked_at}
 use Rattle.heap_check.specs.Rows.{rows_of}
-use Rattle.indexed_rules.specs.Lists.{indexed_lists}
+use Rattle.indexed_rules.specs.Lists.{joined_lists}
 use Rattle.heap_indexed.specs.declared.meeting.Meeting.{Meeting}
 use Rattle.heap_indexed.specs.Meetings.{AreFirsts, AreInWork, EachFor, columns_of_all}
 use Rattle.heap_indexed.specs.Rows.{rows_from}
@@ -17,7 +17,7 @@ use Rattle.heap_indexed.proofs.Cases.{both-are, rows-are, strays-are}
 use Rattle.heap_indexed.proofs.Columns.{all-there}
 use Rattle.heap_indexed.proofs.Each.{reports-are, written-back}
 use Rattle.heap_indexed.proofs.Owed.{rows-all}
-use Rattle.heap_indexed.proofs.Pages.{count-is, set-says}
+use Rattle.row_keys.proofs.Pages.{count-is, set-says}
 use Rattle.heap_indexed.proofs.check_all.meet_all.Goals as goal
 
 pub new-requires-clause-asked : goal.new-requires-clause-asked
@@ -66,7 +66,7 @@ returns-clause-reports g c = λ names told.
     let blocks : count_of (heap_in heap) ≡ heap_blocks case names = count-is case names heap c.requires.belong.heap hold.heap in
     let says = set-says case names heap c.requires.belong.heap hold.heap set refl (c.set_tells_of_pages.ensures.tells (heap_page case names) (heap_blocks case names)) in
     let judged = c.in_ok-judge_all.ensures.judged names told in
-    let all : EachFor (λ (tree : SoundTree) (m : Meeting). joined m.rows m.entries ≡ indexed_lists case names (number_of (file_of tree))) trees c.judge_all.new.meetings = record {
+    let all : EachFor (λ (tree : SoundTree) (m : Meeting). joined m.rows m.entries ≡ joined_lists case names (number_of (file_of tree))) trees c.judge_all.new.meetings = record {
       same = judged.same;
       each = λ k t d lt.
           let tree : SoundTree = slice_index_or trees k t in
@@ -78,4 +78,4 @@ returns-clause-reports g c = λ names told.
           ∙ sym (both-are case names (number_of (file_of tree)));
     } in
     let end = written-back c.in_ok-meetings.meetings.len c.judge_all.new.meetings c.in_ok-meetings.meetings.items (omega (arith, c.in_ok-meetings.ensures.count, judged.same, c.deref_mut.ensures.len, ap length c.deref_mut.ensures.value)) in
-    c.in_ok-reports.ensures ∙ ap (λ (ms : List Meeting). map (λ (m : Meeting). joined m.rows m.entries) ms) end ∙ reports-are (λ (tree : SoundTree). indexed_lists case names (number_of (file_of tree))) trees c.judge_all.new.meetings all
+    c.in_ok-reports.ensures ∙ ap (λ (ms : List Meeting). map (λ (m : Meeting). joined m.rows m.entries) ms) end ∙ reports-are (λ (tree : SoundTree). joined_lists case names (number_of (file_of tree))) trees c.judge_all.new.meetings all

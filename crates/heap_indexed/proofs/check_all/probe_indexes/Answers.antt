@@ -6,11 +6,11 @@ use Rattle.bt_levels.specs.Files.{number_of}
 use Rattle.bt_levels.specs.Sound.{file_of}
 use Rattle.indexed_rules.specs.Lists.{indexed_lists}
 use Rattle.bt_levels.specs.declared.sound.SoundTree.{SoundTree}
-use Rattle.heap_indexed.specs.Joined.{HoldTogether}
+use Rattle.row_keys.specs.Joined.{HoldTogether}
 use Rattle.heap_indexed.proofs.check_all.probe_indexes.Goals as goal
 
-pub probe_index-requires-clause-hold : goal.probe_index-requires-clause-hold
-probe_index-requires-clause-hold g c = λ names told.
+pub index_report-requires-clause-hold : goal.index_report-requires-clause-hold
+index_report-requires-clause-hold g c = λ names told.
     let tree : SoundTree = c.index-trees-j.result in
     subst (λ (t : SoundTree). HoldTogether names c.args.at.case.now c.args.at.heap.now t) (sym c.index-trees-j.is) ((c.requires.hold names (sym c.loop-j.invariant.asked.same ∙ told)).each c.loop-j.j tree (omega arith))
 

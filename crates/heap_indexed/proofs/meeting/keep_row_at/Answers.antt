@@ -1,20 +1,27 @@
-use Rattle.std.proofs.Common.{◌∙◌, ◌++◌, List, [], map, sym, ap}
-use Rattle.key_orders.specs.declared.more.MoreSpec.{MoreSpec}
-use Rattle.indexed_rules.specs.Rows.{values_at}
+use Rattle.std.proofs.Common.{◌∙◌, ◌++◌, List, append-nil, arith, sym, ap}
+use Rattle.key_orders.specs.declared.columns.Value.{Value}
 use Rattle.row_slots.specs.Slots.{keys_in, keys_with}
+use Rattle.row_keys.proofs.KeyLaws.{beside}
 use Rattle.heap_indexed.proofs.meeting.keep_row_at.Goals as goal
 
-pub returns-then-not-includes-clause-kept : goal.returns-then-not-includes-clause-kept
-returns-then-not-includes-clause-kept c = λ kept names row rows are is. record {
-  key = c.read_key.new.key;
-  more = [];
-  values = record {
-    of_key = sym (c.if-not-read_key.ensures.key names row rows are is);
-    included = ap (λ (ms : List MoreSpec). values_at (map (λ m. m.column) ms) row.cells) (c.includes.ensures c.if-not-includes.true);
-  };
-  put = c.in_ok-kept.ensures.kept kept ∙ (λ i. keys_with (keys_in c.args.slots.now) c.args.root (c.as_slice-key.ensures.values i ++ []));
-  fresh = c.in_ok-kept.ensures.fresh kept;
-}
+pub read_beside-requires-clause-room : goal.read_beside-requires-clause-room
+read_beside-requires-clause-room c =
+    omega (arith, (c.if-not-read_key.ensures.fits).whole, c.is_narrow.ensures c.if-is_narrow.true)
+
+pub returns-then-is_narrow-clause-kept : goal.returns-then-is_narrow-clause-kept
+returns-then-is_narrow-clause-kept c = λ kept names row rows are is.
+    let values : List Value = c.read_beside.new.values in
+    let both = beside c.read_key.new.key values _ (c.if-not-read_beside.ensures names row rows are is) in
+    record {
+      key = c.read_key.new.key;
+      more = both.0;
+      values = record {
+        of_key = sym (c.if-not-read_key.ensures.key names row rows are is);
+        included = both.1;
+      };
+      put = c.in_ok-kept.ensures.kept kept ∙ ap (λ (vs : List Value). keys_with (keys_in c.args.slots.now) c.args.root vs) (append-nil _ ∙ c.as_slice-key.ensures.values ∙ both.2);
+      fresh = c.in_ok-kept.ensures.fresh kept;
+    }
 
 pub returns-clause-kept : goal.returns-clause-kept
 returns-clause-kept c = λ kept names row rows are is. record {
@@ -24,6 +31,6 @@ returns-clause-kept c = λ kept names row rows are is. record {
     of_key = sym (c.if-not-read_key.ensures.key names row rows are is);
     included = sym (c.if-not-read_more.ensures.more names row rows are is);
   };
-  put = c.in_ok-kept-2.ensures.kept kept ∙ (λ i. keys_with (keys_in c.args.slots.now) c.args.root (c.as_slice-key.ensures.values i ++ c.as_slice-more.ensures.values i));
+  put = c.in_ok-kept-2.ensures.kept kept ∙ (λ i. keys_with (keys_in c.args.slots.now) c.args.root (c.as_slice-key-2.ensures.values i ++ c.as_slice-more.ensures.values i));
   fresh = c.in_ok-kept-2.ensures.fresh kept;
 }

@@ -39,7 +39,7 @@ returns c =
     } in
     rw (c.in_ok-push.ensures.items, with_items_is c.make_room.new.bits new long, start, count)
     record {
-      packed = packed_by_page starts bits new page c.requires.begun c.requires.packed (omega (arith, c.item_count.ensures.limit, c.item_count.ensures.value)) has;
+      packed = packed_by_page starts bits new page c.requires.begun c.requires.few c.requires.packed (omega (arith, c.item_count.ensures.limit, c.item_count.ensures.value)) has;
       ok = block_by_page starts bits new page c.requires.begun c.requires.packed has;
       err = tt;
     }

@@ -4,6 +4,11 @@ use Rattle.root_set.proofs.Blocks.{no_block, no_item, no_such_item, value_found}
 use Rattle.root_set.proofs.set.has_value.Goals as goal
 use Rattle.root_set.proofs.set.has_value.Goals.{then-tid-eq0-via-then-tid-eq0, then-tid-eq0-via-else-tid-eq0+then-starts-block}
 
+pub overflow_add-next : goal.overflow_add-next
+overflow_add-next c =
+    let ordered = c.requires.ordered c.args.tid.block (omega (arith, c.if-starts-block.false)) in
+    omega (arith, ordered, c.requires.few, c.requires.short)
+
 pub returns-then-tid-eq0 : goal.returns-then-tid-eq0
 returns-then-tid-eq0 c = elim c.then-tid-eq0.branch [
   | then-tid-eq0-via-then-tid-eq0 w ↦ sym (no_item _ c.args.tid w.if-tid-eq0.true)

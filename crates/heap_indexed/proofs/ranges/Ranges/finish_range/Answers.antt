@@ -10,11 +10,12 @@ use Rattle.heap_check.specs.RowCursor.{next_in}
 use Rattle.heap_check.specs.declared.rows.LiveRow.{LiveRow}
 use Rattle.index_targets.specs.Passes.{strays_of}
 use Rattle.heap_indexed.specs.declared.meeting.Meeting.{Meeting}
-use Rattle.heap_indexed.specs.Joined.{HoldTogether}
+use Rattle.row_keys.specs.Joined.{HoldTogether}
 use Rattle.heap_indexed.specs.Meetings.{InWork}
 use Rattle.heap_indexed.specs.Rows.{owed_for, rows_from}
 use Rattle.heap_indexed.proofs.Each.{above-set, below-set, still-before}
-use Rattle.heap_indexed.proofs.Places.{index-at, same-table, same-then}
+use Rattle.row_keys.proofs.Places.{same-then}
+use Rattle.heap_indexed.proofs.Places.{index-at, same-table}
 use Rattle.heap_indexed.proofs.ranges.Ranges.finish_range.Goals as goal
 
 pub finish_range-requires-clause-index : goal.finish_range-requires-clause-index

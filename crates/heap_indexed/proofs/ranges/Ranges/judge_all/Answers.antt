@@ -16,7 +16,8 @@ use Rattle.heap_indexed.specs.Rows.{owed_for, rows_from}
 use Rattle.heap_indexed.proofs.Cases.{no-strays}
 use Rattle.heap_indexed.proofs.Each.{each-map}
 use Rattle.heap_indexed.proofs.Owed.{owed-upto}
-use Rattle.heap_indexed.proofs.Places.{same-table, same-then}
+use Rattle.row_keys.proofs.Places.{same-then}
+use Rattle.heap_indexed.proofs.Places.{same-table}
 use Rattle.heap_indexed.proofs.ranges.Ranges.judge_all.Goals as goal
 
 -- the first range: nothing was found before it

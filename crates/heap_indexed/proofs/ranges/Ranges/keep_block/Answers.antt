@@ -5,7 +5,7 @@ use Rattle.heap_check.specs.RowCursor.{case_at, next_in, rows_here}
 use Rattle.heap_check.specs.Rows.{block_rows}
 use Rattle.heap_check.specs.declared.rows.LiveRow.{LiveRow}
 use Rattle.heap_indexed.specs.Meetings.{AreInWork}
-use Rattle.heap_indexed.proofs.Pages.{block-few}
+use Rattle.row_keys.proofs.Pages.{block-few}
 use Rattle.heap_indexed.proofs.Places.{same-table}
 use Rattle.heap_indexed.proofs.ranges.Ranges.keep_block.Goals as goal
 

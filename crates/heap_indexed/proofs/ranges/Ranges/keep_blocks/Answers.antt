@@ -6,7 +6,8 @@ use Rattle.heap_check.specs.declared.rows.LiveRow.{LiveRow}
 use Rattle.heap_indexed.specs.Meetings.{AreInWork}
 use Rattle.heap_indexed.specs.Rows.{rows_from}
 use Rattle.heap_indexed.proofs.Owed.{rows-next, rows-none}
-use Rattle.heap_indexed.proofs.Places.{same-table, same-then}
+use Rattle.row_keys.proofs.Places.{same-then}
+use Rattle.heap_indexed.proofs.Places.{same-table}
 use Rattle.heap_indexed.proofs.ranges.Ranges.keep_blocks.Goals as goal
 
 pub keep_block-requires-clause-table : goal.keep_block-requires-clause-table

@@ -6,7 +6,7 @@ use Rattle.reports.specs.Lists.{Lists}
 use Rattle.heap_check.specs.declared.rows.LiveRow.{LiveRow}
 use Rattle.heap_indexed.specs.declared.meeting.Meeting.{Meeting}
 use Rattle.heap_indexed.specs.Meetings.{AreInWork, InWork}
-use Rattle.heap_indexed.specs.Rows.{IsFound}
+use Rattle.row_keys.specs.Rows.{IsFound}
 use Rattle.heap_indexed.proofs.ranges.Ranges.keep_row.Given as goal
 
 -- the row is kept for each index before this one, and for the others all is as it was

@@ -8,7 +8,8 @@ use Rattle.heap_check.specs.RowCursor.{rows_here}
 use Rattle.heap_indexed.specs.declared.meeting.Meeting.{Meeting}
 use Rattle.heap_indexed.specs.Meetings.{AreInWork, HaveKept}
 use Rattle.heap_indexed.proofs.Owed.{none-left}
-use Rattle.heap_indexed.proofs.Places.{same-table, same-then}
+use Rattle.row_keys.proofs.Places.{same-then}
+use Rattle.heap_indexed.proofs.Places.{same-table}
 use Rattle.heap_indexed.proofs.ranges.Ranges.keep_rows.Goals as goal
 
 -- none is left

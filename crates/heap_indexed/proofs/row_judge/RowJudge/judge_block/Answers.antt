@@ -5,7 +5,7 @@ use Rattle.reports.specs.Added.{report_lists}
 use Rattle.heap_check.specs.RowCursor.{rows_here}
 use Rattle.heap_indexed.specs.Rows.{owed_for}
 use Rattle.heap_indexed.proofs.Owed.{left-is, none-left, owed-none}
-use Rattle.heap_indexed.proofs.Places.{same-index, same-then}
+use Rattle.row_keys.proofs.Places.{same-index, same-then}
 use Rattle.heap_indexed.proofs.row_judge.RowJudge.judge_block.Goals as goal
 
 pub judge_next-requires-clause-told : goal.judge_next-requires-clause-told

@@ -5,7 +5,8 @@ use Rattle.reports.specs.Added.{report_lists}
 use Rattle.heap_indexed.specs.Looking.{look_length}
 use Rattle.heap_check.specs.RowCursor.{IsSameCursor, next_in, rows_here}
 use Rattle.heap_indexed.specs.Judging.{IsWithin}
-use Rattle.heap_indexed.specs.Rows.{IsIndexAt, owed_for}
+use Rattle.row_keys.specs.Rows.{IsIndexAt}
+use Rattle.heap_indexed.specs.Rows.{owed_for}
 use Rattle.heap_indexed.proofs.row_judge.RowJudge.judge_block.Given as goal
 
 -- what was added and what is owed then is what was owed

@@ -9,10 +9,10 @@ use Rattle.heap_indexed.specs.Looking.{look_length}
 use Rattle.heap_check.specs.RowCursor.{next_in}
 use Rattle.heap_check.specs.Rows.{block_rows}
 use Rattle.heap_check.specs.declared.rows.LiveRow.{LiveRow}
-use Rattle.heap_indexed.specs.declared.keys.KeyedHeap.{KeyedHeap}
+use Rattle.row_keys.specs.declared.keys.KeyedHeap.{KeyedHeap}
 use Rattle.heap_indexed.specs.Rows.{owed_for, rows_from}
 use Rattle.heap_indexed.proofs.Owed.{blocks-owed, rows-next}
-use Rattle.heap_indexed.proofs.Places.{same-index, same-then}
+use Rattle.row_keys.proofs.Places.{same-index, same-then}
 use Rattle.heap_indexed.proofs.row_judge.RowJudge.judge_blocks.Goals as goal
 
 -- what the rows of a block give, counted from one

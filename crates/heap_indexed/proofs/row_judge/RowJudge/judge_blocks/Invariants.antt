@@ -6,7 +6,8 @@ use Rattle.heap_indexed.specs.Looking.{look_length}
 use Rattle.heap_check.specs.RowCursor.{IsSameCursor, next_in}
 use Rattle.heap_check.specs.Rows.{block_rows}
 use Rattle.heap_indexed.specs.Judging.{IsBetween}
-use Rattle.heap_indexed.specs.Rows.{IsIndexAt, owed_for, rows_from}
+use Rattle.row_keys.specs.Rows.{IsIndexAt}
+use Rattle.heap_indexed.specs.Rows.{owed_for, rows_from}
 use Rattle.heap_indexed.proofs.row_judge.RowJudge.judge_blocks.Given as goal
 
 -- the rows of so many blocks were judged

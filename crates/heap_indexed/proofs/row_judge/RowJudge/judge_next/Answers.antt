@@ -9,7 +9,7 @@ use Rattle.heap_check.specs.declared.rows.LiveRow.{LiveRow}
 use Rattle.heap_check.specs.RowCursor.{IsPlaceOfFirst, rows_here}
 use Rattle.heap_indexed.specs.Rows.{owed_for}
 use Rattle.heap_indexed.proofs.Owed.{Settles-exit, found-row, left-is, row-cut, row-step}
-use Rattle.heap_indexed.proofs.Places.{same-index}
+use Rattle.row_keys.proofs.Places.{same-index}
 use Rattle.heap_indexed.proofs.row_judge.RowJudge.judge_next.Goals as goal
 
 pub returns-in_err-place-clause-lists : goal.returns-in_err-place-clause-lists

@@ -6,8 +6,8 @@ use Rattle.heap_check.specs.RowCursor.{case_at, next_in}
 use Rattle.heap_check.specs.Rows.{block_rows}
 use Rattle.heap_check.specs.declared.rows.LiveRow.{LiveRow}
 use Rattle.heap_indexed.specs.Rows.{owed_for}
-use Rattle.heap_indexed.proofs.Pages.{block-few}
-use Rattle.heap_indexed.proofs.Places.{same-index}
+use Rattle.row_keys.proofs.Pages.{block-few}
+use Rattle.row_keys.proofs.Places.{same-index}
 use Rattle.heap_indexed.proofs.row_judge.RowJudge.judge_next_block.Goals as goal
 
 pub take_block-requires-clause-told : goal.take_block-requires-clause-told

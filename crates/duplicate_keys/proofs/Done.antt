@@ -1,0 +1,34 @@
+-- The end of the walk over the entries.
+use Rattle.std.proofs.Common.{◌≡◌, ◌∙◌, List, ap, subst}
+use Rattle.outside.specs.Outside.{Names}
+use Rattle.tree_search.specs.Keys.{Entry}
+use Rattle.tree_search.specs.Search.{IsWanted}
+use Rattle.key_orders.specs.declared.columns.Value.{Value}
+use Rattle.key_orders.specs.declared.Tid.{Tid}
+use Rattle.key_orders.specs.Scans.{Bounds, order_of}
+use Rattle.bt_levels.specs.Sound.{image_of, specs_of}
+use Rattle.bt_steps.specs.Pages.{is_killed}
+use Rattle.bt_search.specs.Spots.{scan_on}
+use Rattle.case_file.specs.declared.case.Unique.{Unique}
+use Rattle.row_keys.specs.declared.joined.IndexedHeap.{IndexedHeap}
+use Rattle.duplicate_keys.specs.declared.roots.Roots.{Roots}
+use Rattle.duplicate_keys.specs.Groups.{Group, closed, entries_met, first_group, later_rows}
+use Rattle.duplicate_keys.specs.Tables.{IsDone, IsWalked, no_bounds, table_for}
+use denote.Bor.{Bor}
+
+pub done : (names : Names) (at : IndexedHeap) (unique : Unique) (roots : Bor Roots) (bounds : Bounds) → bounds ≡ no_bounds → (first walked ended : Group) → first ≡ first_group unique
+    → IsWalked names (record { index = record { at = at; first = 0 }; unique = unique; roots = roots }) bounds first walked
+    → ended ≡ closed (table_for names at unique roots.now) walked
+    → IsDone names at unique roots.now ended
+done names at unique roots bounds free first walked ended start walk close =
+    let t = table_for names at unique roots.now in
+    record {
+      entries = walk.entries;
+      wanted = subst (λ (b : Bounds). IsWanted (order_of (specs_of at.tree.now)) is_killed (image_of names at.tree.now) (scan_on at.tree.now b) walk.entries) free walk.wanted;
+      is = close ∙ ap (closed t) (walk.walked ∙ ap (entries_met t walk.entries) start);
+    }
+
+pub later-is : (names : Names) (at : IndexedHeap) (unique : Unique) (roots : Roots) (es : List (Entry Value Tid)) (group : Group) → group ≡ closed (table_for names at unique roots) (entries_met (table_for names at unique roots) es (first_group unique))
+    → group.met.later ≡ later_rows (table_for names at unique roots) es
+unfolding later_rows table_for
+later-is names at unique roots es group is = ap (λ (g : Group). g.met.later) is

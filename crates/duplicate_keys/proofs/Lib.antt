@@ -1,0 +1,10 @@
+pub mod Grouped
+pub mod HeapRows
+pub mod Ordered
+pub mod Sorting
+pub mod Listing
+pub mod Steps
+pub mod Fitting
+pub mod Adding
+pub mod Done
+pub mod NotUnique

@@ -1,0 +1,24 @@
+use Rattle.std.proofs.Common.{◌∙◌, ap, arith, sym}
+use Rattle.outside.proofs.Adding.{Adds-exit, Begins-none}
+use Rattle.reports.specs.Added.{report_lists}
+use Rattle.bt_levels.specs.Files.{number_of}
+use Rattle.bt_levels.specs.Sound.{file_of}
+use Rattle.indexed_rules.specs.Lists.{duplicates_lists}
+use Rattle.indexed_rules.specs.Unique.{unique_of}
+use Rattle.duplicate_keys.proofs.NotUnique.{nothing-added}
+use Rattle.duplicate_keys.proofs.check.check_duplicates.Goals as goal
+
+pub unique_of-unique-requires : goal.unique_of-unique-requires
+unique_of-unique-requires g c =
+    let index = c.requires.belong.index in
+    (omega (arith, index.belongs.first, c.index-index.ensures, index.number), omega (arith, index.belongs.last, c.index-index.ensures, index.number))
+
+pub returns-in-No-clause-lists : goal.returns-in-No-clause-lists
+returns-in-No-clause-lists g c = λ names told.
+    let case = c.args.at.case.now in
+    nothing-added case names (number_of (file_of c.args.at.tree.now)) (ap (unique_of case) (sym c.index-index.ensures) ∙ sym c.unique_of-unique.ensures ∙ c.in-No.is) c.args.report.now
+
+pub returns-in_err-later-clause-lists : goal.returns-in_err-later-clause-lists
+returns-in_err-later-clause-lists g c = λ names told.
+    let owed = duplicates_lists c.args.at.case.now names (number_of (file_of c.args.at.tree.now)) in
+    Adds-exit report_lists c.from_residual.result _ c.args.report.now c.args.report.now owed c.from_residual.ensures.1 (Begins-none report_lists c.args.report.now owed)

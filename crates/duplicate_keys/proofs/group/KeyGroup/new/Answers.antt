@@ -1,0 +1,13 @@
+use Rattle.std.proofs.Common.{◌∙◌, false, ap}
+use Rattle.stored_keys.specs.Stored.{key_read}
+use Rattle.duplicate_keys.proofs.Steps.{empty-key}
+use Rattle.duplicate_keys.proofs.group.KeyGroup.new.Goals as goal
+
+pub returns : goal.returns
+returns c = λ i. record {
+  key = (ap key_read c.new.ensures.items ∙ empty-key) i;
+  counted = c.counts.ensures i;
+  count = 0;
+  block = 0;
+  met = record { some = false; later = c.new-2.ensures.items i };
+}

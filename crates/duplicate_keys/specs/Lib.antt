@@ -1,0 +1,4 @@
+pub mod Groups
+pub mod Later
+pub mod Roots
+pub mod Tables

@@ -1,0 +1,62 @@
+-- An index and its heap, as the code goes through them.
+use Rattle.std.specs.Prelude.{◌≡◌, ℕ, cond, nat_lt, true, List, []}
+use Rattle.outside.specs.Outside.{Names}
+use Rattle.rel_files.specs.Relation.{count_of}
+use Rattle.tree_search.specs.Keys.{Entry}
+use Rattle.tree_search.specs.Search.{IsWanted}
+use Rattle.key_orders.specs.declared.columns.Value.{Value}
+use Rattle.key_orders.specs.declared.Tid.{Tid}
+use Rattle.key_orders.specs.Scans.{Bounds, bounds_of, order_of}
+use Rattle.case_file.specs.Record.{CaseRecord}
+use Rattle.bt_levels.specs.Sound.{image_of, index_columns, specs_of}
+use Rattle.bt_steps.specs.Pages.{is_killed}
+use Rattle.bt_search.specs.Spots.{scan_on}
+use Rattle.heap_files.specs.Files.{heap_in}
+use Rattle.heap_check.specs.declared.rows.LiveRow.{LiveRow}
+use Rattle.heap_check.specs.Rows.{block_rows}
+use Rattle.indexed_rules.specs.Rows.{key_numbers, values_at}
+use Rattle.duplicate_keys.specs.declared.grouping.Grouping.{Grouping}
+use Rattle.row_keys.specs.declared.joined.IndexedHeap.{IndexedHeap}
+use Rattle.case_file.specs.declared.case.Unique.{Unique}
+use Rattle.duplicate_keys.specs.declared.roots.Roots.{Roots}
+use Rattle.duplicate_keys.specs.Groups.{Group, Table, closed, entries_met, first_group, rows_met}
+use Rattle.duplicate_keys.specs.Roots.{is_root_in}
+
+-- the rows of a block, of a heap of so many
+abbrev pub rows_within : CaseRecord → Names → (blocks : ℕ) → ℕ → List LiveRow
+rows_within case names blocks b = cond (nat_lt b blocks) (block_rows case names b) []
+
+-- an index and its heap, and what may be the root of a row
+unfoldable pub table_for : Names → IndexedHeap → Unique → Roots → Table
+table_for names at unique roots = record {
+  unique = unique;
+  key_in = λ row. values_at (key_numbers (index_columns at.tree.now)) row.cells;
+  rows_in = rows_within at.case.now names (count_of (heap_in at.heap.now));
+  may_root = is_root_in roots;
+}
+
+abbrev pub table_seen : Names → Grouping → Table
+table_seen names grouping = table_for names grouping.index.at grouping.unique grouping.roots.now
+
+-- the group after these rows
+abbrev pub group_after : Table → Group → List LiveRow → Group
+group_after t g rows = record g { met = rows_met t g.key rows g.met }
+
+-- the group after all unkilled entries of the index
+pub record IsWalked (names : Names) (grouping : Grouping) (bounds : Bounds) (old new : Group) : Type 0 where
+  pub entries : List (Entry Value Tid)
+  pub wanted : IsWanted (order_of (specs_of grouping.index.at.tree.now)) is_killed
+      (image_of names grouping.index.at.tree.now) (scan_on grouping.index.at.tree.now bounds) entries
+  pub walked : new ≡ entries_met (table_seen names grouping) entries old
+
+-- a scan without bounds
+abbrev pub no_bounds : Bounds
+no_bounds = bounds_of [] true [] true
+
+-- the group after all unkilled entries of the index, from the first to the end of the last group
+pub record IsDone (names : Names) (at : IndexedHeap) (unique : Unique) (roots : Roots) (group : Group) : Type 0 where
+  pub entries : List (Entry Value Tid)
+  pub wanted : IsWanted (order_of (specs_of at.tree.now)) is_killed (image_of names at.tree.now)
+      (scan_on at.tree.now no_bounds) entries
+  pub is : group ≡ closed (table_for names at unique roots)
+      (entries_met (table_for names at unique roots) entries (first_group unique))

@@ -1,0 +1,180 @@
+//! The check of the keys of a unique index.
+ghost use Rattle.std.specs.Prelude.{◌≡◌, ◌<◌, ◌≤◌, ◌^◌, All, IfOk, OnOk, length, true};
+ghost use Rattle.outside.specs.Adds.{AddsIn};
+ghost use Rattle.outside.specs.Outside.{Asked, IfTold, Names, Tells};
+ghost use Rattle.reports.specs.Added.{report_lists};
+ghost use Rattle.bt_levels.specs.Files.{number_of};
+ghost use Rattle.bt_levels.specs.Sound.{file_of};
+ghost use Rattle.heap_check.specs.RowCursor.{IsCursorOf, rows_ahead};
+ghost use Rattle.heap_check.specs.Rows.{rows_of};
+ghost use Rattle.indexed_rules.specs.Broken.{AreJoined};
+ghost use Rattle.indexed_rules.specs.Lists.{duplicates_lists};
+ghost use Rattle.indexed_rules.specs.Unique.{unique_of};
+ghost use Rattle.row_keys.specs.Joined.{BelongTogether, HoldTogether};
+ghost use Rattle.duplicate_keys.specs.Later.{later_lists};
+ghost use Rattle.duplicate_keys.specs.Roots.{is_root_in};
+ghost use Rattle.duplicate_keys.specs.Tables.{IsDone};
+
+use crate::group::KeyGroup;
+use crate::grouping::Grouping;
+use crate::roots::Roots;
+use case_file::{Case, Unique};
+use heap_check::{RowCursor, rows_are_live_tuples};
+use key_orders::{Scan, Tid, key_orders_are_total};
+use outside::{Files, NoMemory};
+use page_layout::Rule;
+use reports::{PageFault, Place, Report};
+use row_keys::{IndexedHeap, KeyedHeap, columns_of};
+use std::alloc::Global;
+
+// Whether an index of a case is unique, and how it takes nulls.
+fn unique_of(case: &Case, n: u16) -> Unique
+    requires { (1 ≤ n) × (n ≤ length case.now.indexes) }
+    ensures { result ≡ unique_of case.now n }
+{
+    case.index_unique(n)
+}
+
+// Adds X3 at the rows of these numbers.
+fn add_later(numbers: &[u64], index: u16, report: &mut Report) -> Result<(), NoMemory>
+    requires { All (λ n. n < 2 ^ 48) numbers.now }
+    ensures { AddsIn report_lists result report.old report.new (later_lists index numbers.now) }
+{
+    for k in 0..numbers.len() {
+        let tid = Tid {
+            block: (numbers[k] / 65536) as u32,
+            item: (numbers[k] % 65536) as u16,
+        };
+        report.add_rule(Place::Tuple(index, tid), Some(Rule::X3))?;
+    }
+    Ok(())
+}
+
+// Puts the roots of all rows that are ahead of a cursor into a set.
+fn add_roots<F: Files>(
+    files: &mut F,
+    cursor: &mut RowCursor<'_>,
+    roots: &mut Roots,
+) -> Result<(), PageFault>
+    requires told { IfTold F.seen files.old (λ names. IsCursorOf names cursor.old) }
+    ensures roots { IfTold F.seen files.old (λ names. OnOk result
+        (All (λ row. is_root_in roots.new row.root ≡ true) (rows_ahead names cursor.old))) }
+    ensures asked { Asked F.seen files.old files.new result PageFault.ReadFault }
+{
+    for k in 0..u64::MAX {
+        let Some(place) = cursor.find(files)? else {
+            return Ok(());
+        };
+        roots.insert(place.root);
+        cursor.pass();
+    }
+    Err(PageFault::NoMemory)
+}
+
+// The set of the roots of all rows of a heap.
+fn roots_of<F: Files>(alloc: Global, files: &mut F, at: IndexedHeap<'_>) -> Result<Roots, PageFault>
+    requires belong { BelongTogether at.case.now at.heap.now at.tree.now }
+    requires hold { IfTold F.seen files.old (λ names. HoldTogether names at.case.now at.heap.now at.tree.now) }
+    ensures roots { Tells F.seen files.old result (λ roots names.
+        All (λ row. is_root_in roots row.root ≡ true) (rows_of at.entry.case.now names)) }
+    ensures asked { Asked F.seen files.old files.new result PageFault.ReadFault }
+{
+    let mut roots = Roots::new(alloc, at.heap.heap().blocks())?;
+    let mut cursor = RowCursor::new(alloc, at.case, at.heap, &[])?;
+    add_roots(files, &mut cursor, &mut roots)?;
+    Ok(roots)
+}
+
+// The group after all entries of an index, with the rows before which one with the same key stands.
+fn group_rows<F: Files>(
+    alloc: Global,
+    files: &mut F,
+    at: IndexedHeap<'_>,
+    unique: Unique,
+    roots: &Roots,
+) -> Result<KeyGroup, PageFault>
+    requires belong { BelongTogether at.case.now at.heap.now at.tree.now }
+    requires hold { IfTold F.seen files.old (λ names. HoldTogether names at.case.now at.heap.now at.tree.now) }
+    ensures done { Tells F.seen files.old result (λ group names. IsDone names at.entry unique roots.now group) }
+    ensures asked { Asked F.seen files.old files.new result PageFault.ReadFault }
+{
+    at.case.sound();
+    let columns = columns_of(alloc, &at.tree.columns())?;
+    let mut cursor = RowCursor::new(alloc, at.case, at.heap, &columns)?;
+    let Ok(scan) = Scan::new(alloc, at.tree.columns().specs, &[], true, &[], true) else {
+        return Err(PageFault::NoMemory);
+    };
+    let mut group = KeyGroup::new(alloc, unique);
+    let index = KeyedHeap { at, first: 0 };
+    let grouping = Grouping {
+        index,
+        unique,
+        roots,
+    };
+    grouping.walk(files, &scan, &mut cursor, &mut group)?;
+    grouping.close(files, &mut cursor, &mut group)?;
+    Ok(group)
+}
+
+// The numbers of the rows before which one with the same key stands, rising.
+fn later_rows<F: Files>(
+    alloc: Global,
+    files: &mut F,
+    at: IndexedHeap<'_>,
+    unique: Unique,
+) -> Result<Vec<u64>, PageFault>
+    requires belong { BelongTogether at.case.now at.heap.now at.tree.now }
+    requires hold { IfTold F.seen files.old (λ names. HoldTogether names at.case.now at.heap.now at.tree.now) }
+    requires joined { IfTold F.seen files.old (λ names.
+        AreJoined at.case.now names (number_of (file_of at.tree.now))) }
+    requires kind { unique ≡ unique_of at.case.now (number_of (file_of at.tree.now)) }
+    ensures tids { IfOk result (λ later. All (λ n. n < 2 ^ 48) later.items) }
+    ensures lists { Tells F.seen files.old result (λ later names.
+        later_lists (number_of (file_of at.entry.tree.now)) later.items
+        ≡ duplicates_lists at.entry.case.now names (number_of (file_of at.entry.tree.now))) }
+    ensures asked { Asked F.seen files.old files.new result PageFault.ReadFault }
+{
+    rows_are_live_tuples();
+    key_orders_are_total();
+    at.case.sound();
+    let roots = roots_of(alloc, files, at)?;
+    let group = group_rows(alloc, files, at, unique, &roots)?;
+    let mut later = group.into_later();
+    later.sort_unstable();
+    later.dedup();
+    Ok(later)
+}
+
+/// Adds to the report each live row of a heap that has, in a unique index of it, the key of a row with a lower TID (X3),
+/// by rising TID. A null is equal to none, unless the index takes nulls as equal; included columns play no part. Each
+/// live row has its entry in the index, and each entry names what it may (`AreJoined`): nothing was found of either
+/// before. Of an index that isn't unique nothing is added, and nothing is read.
+///
+/// The heap is read once for the roots of its rows, and the leaves of the index once along their chain. Of the entries
+/// that have one key and may be of a row, where they are more than one, each block that they name is read once more.
+///
+/// `ReadFault` comes only where the count of the files' faults rose. After an error the report has a first part of what
+/// it would have got.
+pub fn check_duplicates<F: Files>(
+    alloc: Global,
+    files: &mut F,
+    at: IndexedHeap<'_>,
+    report: &mut Report,
+) -> Result<(), PageFault>
+    requires belong { BelongTogether at.case.now at.heap.now at.tree.now }
+    requires hold { IfTold F.seen files.old (λ names. HoldTogether names at.case.now at.heap.now at.tree.now) }
+    requires joined { IfTold F.seen files.old (λ names.
+        AreJoined at.case.now names (number_of (file_of at.tree.now))) }
+    ensures lists { IfTold F.seen files.old (λ names. AddsIn report_lists result report.old report.new
+        (duplicates_lists at.entry.case.now names (number_of (file_of at.entry.tree.now)))) }
+    ensures asked { Asked F.seen files.old files.new result PageFault.ReadFault }
+{
+    let index = at.tree.index();
+    let unique = unique_of(at.case, index);
+    if let Unique::No = unique {
+        return Ok(());
+    }
+    let later = later_rows(alloc, files, at, unique)?;
+    add_later(&later, index, report)?;
+    Ok(())
+}

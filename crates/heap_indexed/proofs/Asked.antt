@@ -1,0 +1,74 @@
+-- Keys are asked where nothing else is found of an index.
+use Rattle.std.proofs.Common.{◌≡◌, ◌∙◌, ◌+◌, ◌<◌, ◌≤◌, ◌⊎◌, ◌++◌, inl, inr, ℕ, zero, suc, Bool, true, false, List, [], ◌∷◌, length, drop, get_or, map, refl, ap, sym, arith, add-one, drop-cons}
+use Rattle.std.specs.Prelude.{Err, Ok, OnOk, Option, Result, Some, ◌↔◌, take}
+use Rattle.std.specs.Option.{option_to_list}
+use Rattle.std.proofs.lemmas.List.{map-append, take_more}
+use Rattle.std.proofs.lemmas.Bool.{false≢true}
+use Rattle.std.proofs.lemmas.List.{nil_from_length}
+use Rattle.outside.specs.Adds.{AddsIn}
+use Rattle.outside.specs.Outside.{Names}
+use Rattle.case_file.specs.Record.{CaseRecord}
+use Rattle.reports.specs.Added.{joined, report_lists}
+use Rattle.reports.specs.Lists.{Lists}
+use Rattle.reports.specs.declared.places.Finding.{Finding}
+use Rattle.reports.specs.declared.places.UnjudgedPlace.{UnjudgedPlace}
+use Rattle.bt_pages.specs.Broken.{AreEmpty}
+use Rattle.indexed_rules.specs.Lists.{duplicates_lists, indexed_lists, joined_lists, or_else}
+
+some-found : (fs : List Finding) (us : List UnjudgedPlace) (others : Lists) → 1 ≤ length fs ⊎ 1 ≤ length us → or_else fs us others ≡ record { findings = fs; unjudged = us }
+some-found [] [] others some = absurd (omega (arith, some))
+some-found [] (u ∷ us) others some = refl
+some-found (f ∷ fs) us others some = refl
+
+none-found : (fs : List Finding) (us : List UnjudgedPlace) (others : Lists) → length fs ≡ 0 → length us ≡ 0 → or_else fs us others ≡ others
+none-found [] [] others none sure = refl
+none-found [] (u ∷ us) others none sure = absurd (omega (arith, sure))
+none-found (f ∷ fs) us others none sure = absurd (omega (arith, none))
+
+pub not-asked : (case : CaseRecord) (names : Names) (n : ℕ) → 1 ≤ length (joined_lists case names n).findings ⊎ 1 ≤ length (joined_lists case names n).unjudged → joined_lists case names n ≡ indexed_lists case names n
+unfolding indexed_lists
+not-asked case names n some =
+    sym (some-found (joined_lists case names n).findings (joined_lists case names n).unjudged (duplicates_lists case names n) some)
+
+pub asked : (case : CaseRecord) (names : Names) (n : ℕ) → length (joined_lists case names n).findings ≡ 0 → length (joined_lists case names n).unjudged ≡ 0 → indexed_lists case names n ≡ duplicates_lists case names n
+unfolding indexed_lists
+asked case names n none sure =
+    none-found (joined_lists case names n).findings (joined_lists case names n).unjudged (duplicates_lists case names n) none sure
+
+pub nothing-there : (l : Lists) → length l.findings ≡ 0 → length l.unjudged ≡ 0 → AreEmpty l
+nothing-there l none sure = record { findings = nil_from_length l.findings none; unjudged = nil_from_length l.unjudged sure }
+
+pub joined-nothing : (l owed : Lists) → length l.findings ≡ 0 → length l.unjudged ≡ 0 → joined l owed ≡ owed
+joined-nothing l owed none sure =
+    (λ i. record { findings = nil_from_length l.findings none i ++ owed.findings; unjudged = nil_from_length l.unjudged sure i ++ owed.unjudged })
+
+pub some-of : (a b : ℕ) (r : Bool) → r ≡ false → ((r ≡ true) ↔ (a ≡ 0) × (b ≡ 0)) → 1 ≤ a ⊎ 1 ≤ b
+some-of zero zero r is both = absurd (false≢true (sym is ∙ both.1 (refl, refl)))
+some-of zero (suc b) r is both = inr (omega arith)
+some-of (suc a) b r is both = inl (omega arith)
+
+-- what is taken from the front
+pub popped : {X : Type 0} (old new : List X) (o : Option X) (x : X) → old ≡ option_to_list o ++ new → o ≡ Some x → old ≡ x ∷ new
+popped old new o x e is = e ∙ ap (λ (p : Option _). option_to_list p ++ new) is
+
+front-is : {X : Type 0} (x y : X) (xs ys : List X) → x ∷ xs ≡ y ∷ ys → (x ≡ y) × (xs ≡ ys)
+front-is x y xs ys e = (cc, cc)
+
+-- the first of what is left is that of the next, and the others are left
+pub next-left : {X Y : Type 0} (f : X → Y) (xs : List X) (k : ℕ) (x : X) (y : Y) (ys : List Y) → x ≡ get_or xs k x → k < length xs → y ∷ ys ≡ map f (drop k xs) → (y ≡ f x) × (ys ≡ map f (drop (k + 1) xs))
+next-left {X} f xs k x y ys at lt are =
+    let cut : drop k xs ≡ get_or xs k x ∷ drop (k + 1) xs = drop-cons xs k x lt ∙ ap (λ (n : ℕ). get_or xs k x ∷ drop n xs) (sym (add-one k)) in
+    let both = front-is y (f (get_or xs k x)) ys (map f (drop (k + 1) xs)) (are ∙ ap (map f) cut) in
+    (both.0 ∙ ap f (sym at), both.1)
+
+-- one more is done
+pub next-done : {X Y : Type 0} (f : X → Y) (xs : List X) (k : ℕ) (x : X) → x ≡ get_or xs k x → k < length xs → map f (take k xs) ++ f x ∷ [] ≡ map f (take (k + 1) xs)
+next-done f xs k x at lt =
+    ap (λ y. map f (take k xs) ++ f y ∷ []) at
+    ∙ sym (map-append f (take k xs) (get_or xs k x ∷ []))
+    ∙ ap (map f) (sym (take_more xs k x lt))
+
+-- what is added to an empty report
+pub added : {T E : Type 0} (r : Result T E) (old new owed all : Lists) → length old.findings ≡ 0 → length old.unjudged ≡ 0 → owed ≡ all → AddsIn report_lists r old new owed → OnOk r (new ≡ all)
+added (Ok t) old new owed all none sure is adds = adds ∙ joined-nothing old owed none sure ∙ is
+added (Err e) old new owed all none sure is adds = tt

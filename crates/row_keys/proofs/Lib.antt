@@ -1,0 +1,4 @@
+pub mod Ahead
+pub mod KeyLaws
+pub mod Pages
+pub mod Places

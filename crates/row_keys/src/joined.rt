@@ -1,0 +1,13 @@
+//! What is judged together.
+
+use bt_levels::SoundTree;
+use case_file::Case;
+use heap_files::SoundHeap;
+
+/// A heap and an index of it, in which nothing was found, and the case that both are of.
+#[derive(Clone, Copy)]
+pub struct IndexedHeap<'a> {
+    pub case: &'a Case,
+    pub heap: &'a SoundHeap,
+    pub tree: &'a SoundTree,
+}

@@ -1,0 +1,122 @@
+//! The values that a row of a heap has in an index.
+ghost use Rattle.std.specs.Prelude.{◌≡◌, ◌∷◌, ◌++◌, ◌+◌, ◌≤◌, [], IfOk, List, None, Some, false, true};
+ghost use Rattle.std.specs.Prelude.{if◌then◌else◌, length};
+ghost use Rattle.std.specs.Bool.{OnTrue};
+ghost use Rattle.std.specs.Option.{option_map};
+ghost use Rattle.outside.specs.Outside.{Names};
+ghost use Rattle.key_orders.specs.Keys.{IsKey};
+ghost use Rattle.varlena_attrs.specs.Columns.{tree_columns};
+ghost use Rattle.bt_levels.specs.Sound.{index_columns, more_of, specs_of};
+ghost use Rattle.heap_check.specs.RowCursor.{IsAtRow, IsCursorOf, rows_here};
+ghost use Rattle.heap_check.specs.declared.rows.LiveRow.{LiveRow as Row};
+ghost use Rattle.indexed_rules.specs.Rows.{key_numbers, more_numbers, values_at};
+ghost use Rattle.row_keys.specs.Rows.{IsIndexAt, columns_in};
+
+use crate::joined::IndexedHeap;
+use heap_check::{CellRef, RowCursor};
+use key_orders::{KeyRefs, MAX_KEY_COLUMNS, MoreRefs};
+use outside::NoMemory;
+use std::alloc::Global;
+use varlena_attrs::IndexColumns;
+
+/// A heap and an index of it, and which of the values that a cursor over the heap is asked for is the index's first,
+/// counted from 0.
+#[derive(Clone, Copy)]
+pub struct KeyedHeap<'a> {
+    pub at: IndexedHeap<'a>,
+    pub first: usize,
+}
+
+/// The numbers of the columns of an index: those of its key, and behind them those that it includes.
+pub fn columns_of(alloc: Global, columns: &IndexColumns<'_>) -> Result<Vec<u16>, NoMemory>
+    ensures { IfOk result (λ numbers. numbers.items ≡ columns_in (tree_columns columns.now)) }
+{
+    let mut numbers: Vec<u16> = columns.specs.iter().map(|k| k.column).collect(alloc)?;
+    let more: Vec<u16> = columns.more.iter().map(|m| m.column).collect(alloc)?;
+    numbers.extend_from_slice(&more)?;
+    Ok(numbers)
+}
+
+impl KeyedHeap<'_> {
+    /// Reads the key of the row at which a cursor is into a place at hand; false where a value of it is compressed.
+    pub fn read_key<'c>(self, cursor: &'c RowCursor<'_>, key: &mut KeyRefs<'c>) -> bool
+        requires index { IsIndexAt self cursor.now }
+        requires at { IsAtRow cursor.now }
+        ensures key { (names : Names) (row : Row) (rows : List Row) → IsCursorOf names cursor.now
+            → rows_here names cursor.now ≡ row ∷ rows
+            → (if result then Some key.new else None)
+            ≡ values_at (key_numbers (index_columns self.entry.at.tree.now)) row.cells }
+        ensures fits { OnTrue result (IsKey (specs_of self.entry.at.tree.now) key.new) }
+    {
+        self.at.case.sound();
+        let columns = self.at.tree.columns();
+        key.clear();
+        for k in 0..columns.specs.len() {
+            match cursor.value(self.first + k) {
+                CellRef::Held(v) => key.push(v),
+                CellRef::Packed => return false,
+            }
+        }
+        true
+    }
+
+    /// Whether the values of its key and of the columns that it includes are no more than the values of a key may be.
+    pub fn is_narrow(self) -> bool
+        ensures { result ≡ true
+            → length (specs_of self.entry.at.tree.now) + length (more_of self.entry.at.tree.now) ≤ MAX_KEY_COLUMNS }
+    {
+        self.at.tree.specs().len() + self.at.tree.more().len() <= MAX_KEY_COLUMNS
+    }
+
+    /// Reads the values of the columns that the index includes, of the row at which a cursor is, behind those of its
+    /// key; false where one of them is compressed.
+    pub fn read_beside<'c>(self, cursor: &'c RowCursor<'_>, values: &mut KeyRefs<'c>) -> bool
+        requires index { IsIndexAt self cursor.now }
+        requires at { IsAtRow cursor.now }
+        requires room { length values.old + length (more_of self.at.tree.now) ≤ MAX_KEY_COLUMNS }
+        ensures { (names : Names) (row : Row) (rows : List Row) → IsCursorOf names cursor.now
+            → rows_here names cursor.now ≡ row ∷ rows
+            → (if result then Some values.new else None) ≡ option_map (λ more. values.old ++ more)
+            (values_at (more_numbers (index_columns self.entry.at.tree.now)) row.cells) }
+    {
+        let columns = self.at.tree.columns();
+        let first = self.first + columns.specs.len();
+        for k in 0..columns.more.len() {
+            match cursor.value(first + k) {
+                CellRef::Held(v) => values.push(v),
+                CellRef::Packed => return false,
+            }
+        }
+        true
+    }
+
+    /// Whether the index includes columns.
+    pub fn includes(self) -> bool
+        ensures { result ≡ false → (index_columns self.entry.at.tree.now).more ≡ [] }
+    {
+        !self.at.tree.more().is_empty()
+    }
+
+    /// Reads the values of the columns that the index includes, of the row at which a cursor is, into a place at hand;
+    /// false where one of them is compressed.
+    pub fn read_more<'c>(self, cursor: &'c RowCursor<'_>, more: &mut MoreRefs<'c>) -> bool
+        requires index { IsIndexAt self cursor.now }
+        requires at { IsAtRow cursor.now }
+        requires none { more.old ≡ [] }
+        ensures more { (names : Names) (row : Row) (rows : List Row) → IsCursorOf names cursor.now
+            → rows_here names cursor.now ≡ row ∷ rows
+            → (if result then Some more.new else None)
+            ≡ values_at (more_numbers (index_columns self.entry.at.tree.now)) row.cells }
+        ensures count { OnTrue result (length more.new ≡ length (more_of self.entry.at.tree.now)) }
+    {
+        let columns = self.at.tree.columns();
+        let first = self.first + columns.specs.len();
+        for k in 0..columns.more.len() {
+            match cursor.value(first + k) {
+                CellRef::Held(v) => more.push(v),
+                CellRef::Packed => return false,
+            }
+        }
+        true
+    }
+}

@@ -1,0 +1,8 @@
+//! The values that the rows of a heap have in an index of it, as a cursor over the rows lends them.
+#![tactic(auto)]
+
+mod joined;
+mod keys;
+
+pub use joined::IndexedHeap;
+pub use keys::{KeyedHeap, columns_of};
