@@ -17,13 +17,15 @@ mod values;
 
 pub use columns::{ColType, KeySpec, Value, ValueRef};
 pub use compare::{cmp_entry, cmp_sep, cmp_two_seps, cmp_values, fits_columns};
-pub use laws::{goes_right_has_the_laws, key_orders_are_total, keys_are_searchable};
+pub use laws::{
+    goes_right_has_the_laws, key_orders_are_total, keys_are_searchable, within_has_the_laws,
+};
 pub use more::{MAX_MORE_COLUMNS, MoreRefs, MoreSpec};
 pub use octets::Octets;
 pub use orders::{BoolOrder, BytesOrder, IntOrder, KeyOrder, NullPlace, Reversed};
 pub use prefixes::key_prefix;
 pub use refs::{KeyRefs, MAX_KEY_COLUMNS};
-pub use scans::{Scan, ScanFault, goes_right, matches, past_high};
+pub use scans::{Scan, ScanFault, before_low, goes_right, matches, past_high, within};
 pub use separators::{SepRef, Separator};
 pub use types::{ValueKind, value_of};
 pub use values::fits_type;

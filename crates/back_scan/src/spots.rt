@@ -1,0 +1,123 @@
+//! The spots of a leaf, from its last entry down.
+ghost use Rattle.std.specs.Prelude.{◌≡◌, ◌≤◌, ◌<◌, ◌+◌, ◌-◌, None, false, length, true};
+ghost use Rattle.page_layout.specs.Page.{count_of, page_rule_of};
+ghost use Rattle.page_layout.specs.View.{page_bytes};
+ghost use Rattle.varlena_attrs.specs.Columns.{TreeColumns as Columns};
+ghost use Rattle.bt_meta.specs.Flags.{is_half_dead};
+ghost use Rattle.bt_meta.specs.Pages.{opaque_of};
+ghost use Rattle.tree_image.specs.Image.{first_data};
+ghost use Rattle.bt_steps.specs.Entries.{IsRead, keys_at};
+ghost use Rattle.back_scan.specs.Leaves.{IsLastIfRead, entries_by};
+
+use bt_meta::{HeadKind, TreeHead, opaque, tree_head};
+use bt_search::Spot;
+use page_layout::{PageKind, PageView};
+use tree_image::first_data;
+
+/// No place.
+pub const NOWHERE: Spot = Spot {
+    block: 0,
+    item: 0,
+    nth: 0,
+};
+
+// Of `access/nbtree.h`: the number of TIDs is in the bits of the item field below this one (BT_OFFSET_MASK).
+const NUMBER_LIMIT: u16 = 0x1000;
+
+// The spot before the first entry of a page.
+fn front(block: u32) -> Spot
+    ensures block { result.block ≡ block }
+    ensures item { result.item ≡ 0 }
+    ensures nth { result.nth ≡ 0 }
+{
+    Spot {
+        block,
+        item: 0,
+        nth: 0,
+    }
+}
+
+// How many entries a tuple of a leaf with this head has.
+fn entries_by(head: TreeHead) -> u16
+    ensures { result ≡ entries_by head.kind head }
+{
+    match head.kind {
+        HeadKind::Pivot => 0,
+        HeadKind::Plain => 1,
+        HeadKind::Posting => head.item % NUMBER_LIMIT,
+    }
+}
+
+// How many entries item i of a leaf has, by its head alone.
+fn entries_at(page: PageView<'_>, i: u16) -> u16
+    requires page { page_rule_of PageKind.Tree (page_bytes page) ≡ None }
+    requires first { 1 ≤ i }
+    requires last { i ≤ count_of (page_bytes page) }
+    ensures { (columns : Columns) → IsRead columns (page_bytes page.entry) i
+        → result ≡ length (keys_at columns (page_bytes page.entry) i) }
+{
+    let item = page.item(i);
+    if item.is_misplaced_tree_item(page.upper()) {
+        return 0;
+    }
+    entries_by(tree_head(page.piece(item.off, item.len)))
+}
+
+/// The spot of the last entry of the items up to i of a leaf, or the one before all entries.
+pub fn last_upto(block: u32, page: PageView<'_>, i: u16) -> Spot
+    requires page { page_rule_of PageKind.Tree (page_bytes page) ≡ None }
+    requires last { i ≤ count_of (page_bytes page) }
+    ensures block { result.block ≡ block }
+    ensures below { result.item ≤ i }
+    ensures last { (columns : Columns) → IsLastIfRead columns (page_bytes page.entry) i result }
+{
+    if i < first_data(page) {
+        return front(block);
+    }
+    let count = entries_at(page, i);
+    if count == 0 {
+        return front(block);
+    }
+    Spot {
+        block,
+        item: i,
+        nth: count - 1,
+    }
+}
+
+/// The spot before that of an entry.
+pub fn spot_before(page: PageView<'_>, spot: Spot) -> Spot
+    requires page { page_rule_of PageKind.Tree (page_bytes page) ≡ None }
+    requires first { 1 ≤ spot.item }
+    requires last { spot.item ≤ count_of (page_bytes page) }
+    ensures block { result.block ≡ spot.block }
+    ensures below { result.item ≤ spot.item }
+    ensures within { 0 < spot.nth → (result.item ≡ spot.item) × (result.nth + 1 ≡ spot.nth) }
+    ensures next { spot.nth ≡ 0 → (columns : Columns)
+        → IsLastIfRead columns (page_bytes page.entry) (spot.item - 1) result }
+{
+    if 0 < spot.nth {
+        Spot {
+            block: spot.block,
+            item: spot.item,
+            nth: spot.nth - 1,
+        }
+    } else {
+        last_upto(spot.block, page, spot.item - 1)
+    }
+}
+
+/// The spot of the last entry of a page, or the one before all entries where it has none. The items of a half-dead
+/// page aren't read.
+pub fn last_spot(block: u32, page: PageView<'_>) -> Spot
+    ensures block { result.block ≡ block }
+    ensures dead { is_half_dead (opaque_of (page_bytes page.entry)) ≡ true → (result.item ≡ 0) × (result.nth ≡ 0) }
+    ensures last { page_rule_of PageKind.Tree (page_bytes page.entry) ≡ None
+        → is_half_dead (opaque_of (page_bytes page.entry)) ≡ false
+        → (columns : Columns) → IsLastIfRead columns (page_bytes page.entry) (count_of (page_bytes page.entry)) result }
+{
+    if page.page_rule(PageKind::Tree).is_some() || opaque(page).is_half_dead() {
+        return front(block);
+    }
+    last_upto(block, page, page.item_count())
+}

@@ -1,0 +1,113 @@
+//! The line that prints an entry.
+ghost use Rattle.std.specs.Prelude.{◌≡◌, ◌++◌, IfOk, OnOk, map};
+ghost use Rattle.std.specs.Fmt.{signed_decimal};
+ghost use Rattle.std.specs.List.{flat_map};
+ghost use Rattle.key_orders.specs.Values.{value_shown};
+ghost use Rattle.back_scan.specs.Texts.{byte_text, entry_text, next_text, value_text, values_text};
+
+use itoa::Buffer;
+use key_orders::{KeyRefs, Octets, Tid, ValueRef};
+use outside::NoMemory;
+use std::alloc::Global;
+
+// A byte in two lower-case hexadecimal digits.
+#[tactic(auto, unfolding(crate::specs::Texts::byte_text))]
+fn push_byte(text: &mut Octets, b: u8) -> Result<(), NoMemory>
+    ensures { OnOk result (text.new ≡ text.old ++ byte_text b) }
+{
+    let digits = b"0123456789abcdef";
+    let pair = [digits[(b / 16) as usize], digits[(b % 16) as usize]];
+    text.push_slice(&pair)
+}
+
+// Adds bytes in hexadecimal.
+fn push_hexadecimal(text: &mut Octets, bytes: &[u8]) -> Result<(), NoMemory>
+    ensures { OnOk result (text.new ≡ text.old ++ flat_map byte_text bytes.now) }
+{
+    for b in bytes {
+        push_byte(text, *b)?;
+    }
+    Ok(())
+}
+
+// Adds a number with its sign in decimal.
+fn push_number(text: &mut Octets, n: i64) -> Result<(), NoMemory>
+    ensures { OnOk result (text.new ≡ text.old ++ signed_decimal n) }
+{
+    let mut buffer = Buffer::new();
+    text.push_slice(buffer.format(n).as_bytes())
+}
+
+// Adds a value.
+#[tactic(auto, unfolding(crate::specs::Texts::value_text))]
+fn push_value(text: &mut Octets, value: ValueRef<'_>) -> Result<(), NoMemory>
+    ensures { OnOk result (text.new ≡ text.old ++ value_text (value_shown value.entry)) }
+{
+    match value {
+        ValueRef::Null => text.push_slice(b"null"),
+        ValueRef::Bool(false) => text.push_slice(b"false"),
+        ValueRef::Bool(true) => text.push_slice(b"true"),
+        ValueRef::Int(n) => push_number(text, n),
+        ValueRef::Bytes(bytes) => {
+            text.push_slice(b"x")?;
+            push_hexadecimal(text, bytes)
+        }
+    }
+}
+
+// Adds another value after one.
+#[tactic(auto, unfolding(crate::specs::Texts::next_text))]
+fn push_next(text: &mut Octets, value: ValueRef<'_>) -> Result<(), NoMemory>
+    ensures { OnOk result (text.new ≡ text.old ++ next_text (value_shown value.entry)) }
+{
+    text.push_slice(b",")?;
+    push_value(text, value)
+}
+
+// Adds the values after the first.
+fn push_others(text: &mut Octets, values: &[ValueRef<'_>]) -> Result<(), NoMemory>
+    ensures { OnOk result (text.new ≡ text.old ++ flat_map next_text (map value_shown values.now)) }
+{
+    for v in values {
+        push_next(text, *v)?;
+    }
+    Ok(())
+}
+
+// Adds the values of a key, with commas between them.
+#[tactic(auto, unfolding(crate::specs::Texts::values_text))]
+fn push_values(text: &mut Octets, values: &[ValueRef<'_>]) -> Result<(), NoMemory>
+    ensures { OnOk result (text.new ≡ text.old ++ values_text (map value_shown values.now)) }
+{
+    match values {
+        [] => Ok(()),
+        [first, rest @ ..] => {
+            push_value(text, *first)?;
+            push_others(text, rest)
+        }
+    }
+}
+
+/// Adds the line of an entry: `entry`, the values of its key with commas between them, `tid`, and the block and the
+/// item of its TID. A value is `null`, `false`, `true`, a number in decimal, or `x` and its bytes in hexadecimal.
+#[tactic(auto, unfolding(crate::specs::Texts::entry_text))]
+pub fn push_entry_line(text: &mut Octets, key: &KeyRefs<'_>, tid: Tid) -> Result<(), NoMemory>
+    ensures { OnOk result (text.new ≡ text.old ++ entry_text key.now tid) }
+{
+    text.push_slice(b"entry ")?;
+    push_values(text, key.as_slice())?;
+    text.push_slice(b" tid ")?;
+    text.push_decimal(tid.block as u64)?;
+    text.push_slice(b" ")?;
+    text.push_decimal(tid.item as u64)?;
+    text.push_slice(b"\n")
+}
+
+/// That line alone.
+pub fn entry_line(alloc: Global, key: &KeyRefs<'_>, tid: Tid) -> Result<Octets, NoMemory>
+    ensures { IfOk result (λ text. text ≡ entry_text key.now tid) }
+{
+    let mut text = Octets::new(alloc);
+    push_entry_line(&mut text, key, tid)?;
+    Ok(text)
+}

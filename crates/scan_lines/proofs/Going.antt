@@ -1,0 +1,38 @@
+-- One line after another.
+use Rattle.std.proofs.Common.{◌≡◌, ℕ, ◌+◌, List, [], ◌∷◌, ◌++◌, length, append-nil, append_assoc, sym, subst, ap, ◌∙◌, arith}
+use Rattle.std.specs.Prelude.{IsSomeAnd, Option, Some}
+use Rattle.tree_search.specs.Keys.{Entry}
+use Rattle.key_orders.specs.declared.columns.Value.{Value}
+use Rattle.key_orders.specs.declared.Tid.{Tid}
+use Rattle.scan_lines.specs.declared.lines.ScanLines.{ScanLines}
+use Rattle.scan_lines.specs.Lines.{AddsLinesOf, LeavesLinesOf, line_of, lines_of}
+
+-- at first all are left
+pub leaves-all : (es left : List (Entry Value Tid)) (old : ScanLines) → left ≡ es → LeavesLinesOf es left old old
+leaves-all es left old is = record {
+  text = ap (λ (l : List (Entry Value Tid)). old.text ++ lines_of l) is;
+  count = ap (λ (l : List (Entry Value Tid)). old.count + length l) is;
+}
+
+-- one line more
+pub leaves-next : (es left rest : List (Entry Value Tid)) (e : Entry Value Tid) (at : Option (Entry Value Tid)) (old now new : ScanLines)
+    → LeavesLinesOf es left old now → left ≡ e ∷ rest → at ≡ Some e → IsSomeAnd at (λ d. new.text ≡ now.text ++ line_of d) → new.count ≡ now.count + 1
+    → LeavesLinesOf es rest old new
+leaves-next es left rest e at old now new so_far is at_is pushed more =
+    let one : new.text ≡ now.text ++ line_of e = subst (λ (o : Option (Entry Value Tid)). IsSomeAnd o (λ d. new.text ≡ now.text ++ line_of d)) at_is pushed in
+    let all = so_far.count in
+    let longer : length left ≡ length rest + 1 = ap length is ∙ omega arith in
+    record {
+      text = ap (λ (l : List ℕ). l ++ lines_of rest) one ∙ (append_assoc now.text (line_of e) (lines_of rest) ∙ (ap (λ (l : List (Entry Value Tid)). now.text ++ lines_of l) (sym is) ∙ so_far.text));
+      count = omega (arith, all, longer, more);
+    }
+
+-- and where none is left they are added
+pub leaves-none : (es left : List (Entry Value Tid)) (old now : ScanLines) → LeavesLinesOf es left old now → left ≡ [] → AddsLinesOf es old now
+leaves-none es left old now so_far none =
+    let all = so_far.count in
+    let nothing : length left ≡ 0 = ap length none in
+    record {
+      text = sym (append-nil now.text) ∙ (ap (λ (l : List (Entry Value Tid)). now.text ++ lines_of l) (sym none) ∙ so_far.text);
+      count = omega (arith, all, nothing);
+    }

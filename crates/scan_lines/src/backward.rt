@@ -1,0 +1,43 @@
+//! A scan from the high bound down.
+ghost use Rattle.std.specs.Prelude.{◌≡◌, OnOk, reverse};
+ghost use Rattle.outside.specs.Outside.{Asked, IfTold};
+ghost use Rattle.key_orders.specs.Scans.{FitsKey};
+ghost use Rattle.bt_levels.specs.Sound.{HoldsTree, specs_of};
+ghost use Rattle.scan_lines.specs.Lines.{AddsLinesOf};
+ghost use Rattle.scan_lines.specs.Wanted.{wanted_on};
+
+use crate::lines::ScanLines;
+use back_scan::{descend_last, prev_entry};
+use bt_levels::SoundTree;
+use bt_search::{Visits, searches_go_in_steps};
+use key_orders::{Scan, keys_are_searchable};
+use outside::Files;
+use reports::PageFault;
+
+/// Adds the lines of the entries that a scan wants, from the last to the first.
+pub fn add_backward<F: Files>(
+    files: &mut F,
+    tree: &SoundTree,
+    scan: &Scan,
+    page: &mut [u8; 8192],
+    lines: &mut ScanLines,
+) -> Result<(), PageFault>
+    requires holds { IfTold F.seen files.old (λ names. HoldsTree names tree.now) }
+    requires fits { FitsKey (specs_of tree.now) scan.now }
+    ensures lines { OnOk result (IfTold F.seen files.old (λ names.
+        AddsLinesOf (reverse (wanted_on names tree.now scan.now)) lines.old lines.new)) }
+    ensures asked { Asked F.seen files.old files.new result PageFault.ReadFault }
+{
+    keys_are_searchable();
+    searches_go_in_steps();
+    let most = 2 * u64::from(tree.blocks());
+    let mut visits = Visits { count: 0 };
+    let mut spot = descend_last(tree, files, scan, page, &mut visits)?;
+    while visits.count <= most {
+        match prev_entry(tree, files, scan, &mut spot, page, &mut visits)? {
+            None => return Ok(()),
+            Some(at) => lines.push(tree, page, at)?,
+        }
+    }
+    Ok(())
+}

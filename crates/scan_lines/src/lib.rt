@@ -1,0 +1,8 @@
+//! The entries of a B-tree index between two bounds as lines of text, one for each entry, in either direction.
+#![tactic(auto)]
+
+mod backward;
+mod forward;
+mod lines;
+
+pub use lines::{ScanDirection, ScanLines, scan_lines};
