@@ -3,12 +3,13 @@ use Rattle.std.proofs.Common.{◌≢◌, inl, inr, refl, arith}
 use Rattle.amcheck.specs.Answers.{IsOutcomeCode, answer_code}
 use Rattle.amcheck.specs.declared.status.Answer.{Answer}
 use Rattle.amcheck.specs.declared.status.Answer.TheVariants.{Clean, Findings, Unjudged, CaseRefused, NoFile, TooLarge}
-use Rattle.amcheck.specs.declared.status.Answer.TheVariants.{NoBlock}
+use Rattle.amcheck.specs.declared.status.Answer.TheVariants.{NoBlock, Unread}
 
 pub answers_are_known : (answer : Answer) → IsOutcomeCode (answer_code answer)
 answers_are_known Clean = inl (omega arith)
 answers_are_known Findings = inl (omega arith)
 answers_are_known Unjudged = inl (omega arith)
+answers_are_known Unread = inl (omega arith)
 answers_are_known CaseRefused = inl (omega arith)
 answers_are_known NoFile = inl (omega arith)
 answers_are_known TooLarge = inl (omega arith)
@@ -19,6 +20,7 @@ pub no_answer_is_usage : (answer : Answer) → answer_code answer ≢ 3
 no_answer_is_usage Clean e = absurd (omega (arith, e))
 no_answer_is_usage Findings e = absurd (omega (arith, e))
 no_answer_is_usage Unjudged e = absurd (omega (arith, e))
+no_answer_is_usage Unread e = absurd (omega (arith, e))
 no_answer_is_usage CaseRefused e = absurd (omega (arith, e))
 no_answer_is_usage NoFile e = absurd (omega (arith, e))
 no_answer_is_usage TooLarge e = absurd (omega (arith, e))

@@ -1,6 +1,7 @@
 pub mod AllLaws
 pub mod Answers
 pub mod CaseLaws
+pub mod CopyLaws
 pub mod GeneratedLaws
 pub mod HeadlineLaws
 pub mod HeapLaws

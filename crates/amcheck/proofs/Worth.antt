@@ -27,7 +27,7 @@ use Rattle.amcheck.proofs.IndexLaws.{index_doubt_listed, index_doubts, index_lis
 use Rattle.amcheck.proofs.PagesLaws.{file_certain, file_listed, file_sound, pages_are}
 
 -- each finding of a report is a broken rule, and each place that it calls unjudged is in doubt
-sound_report : (laws : AreLaws) (check : Check) (names : Names) (lists : Lists) → judged_by check names ≡ Ok lists → IsSound check names lists
+pub sound_report : (laws : AreLaws) (check : Check) (names : Names) (lists : Lists) → judged_by check names ≡ Ok lists → IsSound check names lists
 sound_report laws (Pages name) names lists e =
     let file = names name (Segment 0) in
     let P : Lists → Type 0 = IsSound (Pages name) names in
@@ -42,7 +42,7 @@ sound_report laws (Generated seed rows) names lists e =
     record { findings = generated_sound laws seed rows lists e; unjudged = generated_doubts laws seed rows lists e }
 
 -- each place where something is stands in it
-complete_report : (laws : AreLaws) (check : Check) (names : Names) (lists : Lists) → judged_by check names ≡ Ok lists → IsComplete check names lists
+pub complete_report : (laws : AreLaws) (check : Check) (names : Names) (lists : Lists) → judged_by check names ≡ Ok lists → IsComplete check names lists
 complete_report laws (Pages name) names lists e =
     let file = names name (Segment 0) in
     let P : Lists → Type 0 = IsComplete (Pages name) names in

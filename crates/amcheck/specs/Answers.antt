@@ -3,8 +3,8 @@ use Rattle.std.specs.Prelude.{◌≡◌, ℕ, ◌≤◌, ◌⊎◌}
 use Rattle.reports.specs.declared.places.Verdict.{Verdict}
 use Rattle.reports.specs.declared.places.Verdict.TheVariants as verdict
 use Rattle.amcheck.specs.declared.status.Answer.{Answer}
-use Rattle.amcheck.specs.declared.status.Answer.TheVariants.{Clean, Findings, Unjudged, CaseRefused, NoFile}
-use Rattle.amcheck.specs.declared.status.Answer.TheVariants.{TooLarge, NoBlock}
+use Rattle.amcheck.specs.declared.status.Answer.TheVariants.{Clean, Findings, Unjudged, Unread, CaseRefused}
+use Rattle.amcheck.specs.declared.status.Answer.TheVariants.{NoFile, TooLarge, NoBlock}
 use Rattle.amcheck.specs.declared.status.Ending.{Ending}
 use Rattle.amcheck.specs.declared.status.Ending.TheVariants.{Answered, Usage, ReadFault, WriteFault, NoMemory}
 
@@ -13,6 +13,7 @@ abbrev pub answer_code : Answer → ℕ
 answer_code Clean = 0
 answer_code Findings = 1
 answer_code Unjudged = 2
+answer_code Unread = 2
 answer_code CaseRefused = 4
 answer_code NoFile = 5
 answer_code TooLarge = 6

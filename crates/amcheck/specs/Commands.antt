@@ -10,6 +10,7 @@ use Rattle.reports.specs.declared.places.Place.{Place}
 use Rattle.reports.specs.declared.places.Reason.{Reason}
 use Rattle.amcheck.specs.All.{BreaksAll, DoubtsAll, HasTrueIndexes, all_judged}
 use Rattle.amcheck.specs.Answers.{GaveUp}
+use Rattle.amcheck.specs.Copy.{copy_outcome}
 use Rattle.amcheck.specs.Generated.{BreaksGenerated, DoubtsGenerated, IsTrueGenerated, counts_of, generated_judged}
 use Rattle.amcheck.specs.Generated.{generated_owed}
 use Rattle.amcheck.specs.Heap.{BreaksHeap, DoubtsHeap, HasTrueHeap, heap_judged}
@@ -18,7 +19,8 @@ use Rattle.amcheck.specs.Numbered.{IsBehind}
 use Rattle.amcheck.specs.Outcome.{Judged, Meets, Outcome, owed_under, reported_under, usage}
 use Rattle.amcheck.specs.Pages.{BreaksFile, pages_judged}
 use Rattle.amcheck.specs.Show.{show_outcome}
-use Rattle.amcheck.specs.Words.{All as Every, Check, Form, Generated, Heap, Index, Judge, Pages, Show, form_of}
+use Rattle.amcheck.specs.Words.{All as Every, Check, Copy, Form, Generated, Heap, Index, Judge, Pages, Show}
+use Rattle.amcheck.specs.Words.{form_of}
 
 -- what a command that judges finds
 abbrev pub judged_by : Check → Names → Judged
@@ -39,6 +41,7 @@ heading_of (Generated seed rows) = counts_of seed rows
 -- what a command owes
 abbrev pub outcome_of : Form → Names → Outcome
 outcome_of (Judge check) names = owed_under (heading_of check) (judged_by check names)
+outcome_of (Copy case) names = copy_outcome case names
 outcome_of (Show kind name block) names = show_outcome kind name block (names name (Segment 0))
 
 abbrev pub outcome_by : Option Form → Names → Outcome

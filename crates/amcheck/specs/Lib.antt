@@ -1,7 +1,9 @@
 pub mod All
 pub mod Answers
 pub mod Cases
+pub mod Copy
 pub mod Commands
+pub mod Copied
 pub mod Files
 pub mod Generated
 pub mod Headline

@@ -5,7 +5,7 @@ use Rattle.amcheck.specs.Answers.{answer_code}
 use Rattle.amcheck.specs.Cases.{CaseRead}
 use Rattle.amcheck.specs.Files.{lone_file_refusal}
 use Rattle.amcheck.specs.Outcome.{Outcome}
-use Rattle.amcheck.specs.Words.{All, Form, Generated, Heap, Index, Judge, Pages, Show}
+use Rattle.amcheck.specs.Words.{All, Copy, Form, Generated, Heap, Index, Judge, Pages, Show}
 use Rattle.amcheck.specs.declared.blocks.Opening.{Opening}
 use Rattle.amcheck.specs.declared.blocks.Opening.TheVariants.{Blocks, Refused}
 use Rattle.amcheck.specs.declared.case.CaseOpening.{CaseOpening}
@@ -13,6 +13,7 @@ use Rattle.amcheck.specs.declared.case.CaseOpening.TheVariants.{Opened, Refused 
 use Rattle.amcheck.specs.declared.words.Command.{Command}
 use Rattle.amcheck.specs.declared.words.Command.TheVariants.{Pages as pages_command, Heap as heap_command}
 use Rattle.amcheck.specs.declared.words.Command.TheVariants.{Index as index_command, All as all_command}
+use Rattle.amcheck.specs.declared.words.Command.TheVariants.{Copy as copy_command}
 use Rattle.amcheck.specs.declared.words.Command.TheVariants.{Show as show_command, Gen as gen_command}
 use Rattle.amcheck.specs.declared.output.Output.{Output}
 
@@ -22,6 +23,7 @@ form_seen (pages_command file) = Judge (Pages file.now)
 form_seen (heap_command case) = Judge (Heap case.now)
 form_seen (index_command case name) = Judge (Index case.now name.now)
 form_seen (all_command case) = Judge (All case.now)
+form_seen (copy_command case) = Copy case.now
 form_seen (show_command kind file block) = Show kind file.now block
 form_seen (gen_command seed rows) = Judge (Generated seed rows)
 

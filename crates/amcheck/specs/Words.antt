@@ -22,6 +22,8 @@ pub data Check : Type 0 where
 -- what the words ask for
 pub data Form : Type 0 where
   Judge : Check → Form
+  -- copy CASE
+  Copy : List ℕ → Form
   -- show heap FILE BLOCK, show tree FILE BLOCK
   Show : Shown → List ℕ → ℕ → Form
 
@@ -86,6 +88,7 @@ command_form command words =
     else if bytes_eq command (codes "heap") then option_map (λ case. Judge (Heap case)) (name_alone words)
     else if bytes_eq command (codes "index") then index_form words
     else if bytes_eq command (codes "all") then option_map (λ case. Judge (All case)) (name_alone words)
+    else if bytes_eq command (codes "copy") then option_map (λ case. Copy case) (name_alone words)
     else if bytes_eq command (codes "show") then show_form words
     else if bytes_eq command (codes "gen") then generated_form words
     else None

@@ -5,6 +5,7 @@
 mod all;
 mod blocks;
 mod case;
+mod copy;
 mod fault;
 mod generated;
 mod heap;

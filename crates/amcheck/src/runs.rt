@@ -2,12 +2,14 @@
 ghost use Rattle.std.specs.Prelude.{◌≡◌, ◌≢◌, ◌≤◌, ◌⊎◌, Err, IfOk, None, Some, false, map, string_bytes};
 ghost use Rattle.outside.specs.Outside.{Asked, IfTold, Names, Rose, Tells};
 ghost use Rattle.amcheck.specs.Commands.{ForGenerated, ForReport, IsGenerated, IsWorth, outcome, outcome_of};
+ghost use Rattle.amcheck.specs.Copied.{ForCopy, IsCopy};
 ghost use Rattle.amcheck.specs.Generated.{generated_owed};
 ghost use Rattle.amcheck.specs.Outcome.{Meets, usage};
 ghost use Rattle.amcheck.specs.Seen.{form_seen, outcome_seen};
 ghost use Rattle.amcheck.specs.Words.{form_of};
 
 use crate::all::all_output;
+use crate::copy::copy_output;
 use crate::fault::RunFault;
 use crate::generated::gen_output;
 use crate::heap::heap_output;
@@ -22,7 +24,7 @@ use crate::write::write_text;
 use outside::{Files, Sink};
 use std::alloc::Global;
 
-// The output of a command: its report or page, or the refusal that comes first.
+// The output of a command: its report, its page or its rows, or the refusal that comes first.
 fn output_of<F: Files>(
     alloc: Global,
     command: Command<'_>,
@@ -40,6 +42,7 @@ fn output_of<F: Files>(
         Command::Heap(case) => heap_output(alloc, files, case),
         Command::Index { case, name } => index_output(alloc, files, case, name),
         Command::All(case) => all_output(alloc, files, case),
+        Command::Copy(case) => copy_output(alloc, files, case),
         Command::Show { of, file, block } => show_output(alloc, files, of, file, block),
         Command::Gen { seed, rows } => gen_output(alloc, seed, rows),
     }
@@ -64,6 +67,9 @@ pub fn run<F: Files, S: Sink>(
     // So it is with `gen` whatever the files hold and tell: it reads none of them.
     ensures generated { ForGenerated (form_of (map string_bytes words.now)) (λ seed rows. (names : Names)
         → IsGenerated seed rows names (S.written sink.old) (S.written sink.new) result.code) }
+    // What `copy` is worth: see specs/Copied.
+    ensures copied { IfTold F.seen files.old (λ names. ForCopy (map string_bytes words.now) names (λ file case lists.
+        IsCopy file case names lists (S.written sink.old) (S.written sink.new) result.code)) }
     // Words without a form are refused whatever the files hold, and no other words are.
     ensures refused { form_of (map string_bytes words.now) ≡ None →
         Meets usage (S.written sink.old) (S.written sink.new) result.code

@@ -7,12 +7,14 @@ use reports::Verdict;
 /// What a command answers.
 #[derive(Clone, Copy, Debug, PartialEq, Eq)]
 pub enum Answer {
-    /// No rule is broken, and everything could be judged; or the page is shown.
+    /// No rule is broken, and everything could be judged; or the page is shown, or the rows are.
     Clean,
     /// A rule is broken.
     Findings,
     /// No rule is broken, and something can't be judged.
     Unjudged,
+    /// Rows are shown, of which a value is compressed, so that it isn't read.
+    Unread,
     /// The case file breaks a rule.
     CaseRefused,
     /// A file isn't there.
@@ -38,9 +40,9 @@ pub enum Ending {
     NoMemory,
 }
 
-/// The answer of a run to its caller: 0 clean, or the page is shown, 1 findings, 2 unjudged, 3 usage, 4
-/// the case is refused, 5 no such file, 6 a file is too large, 7 a file could not be read, 8 the output
-/// could not be written, 9 out of memory, 10 no such block.
+/// The answer of a run to its caller: 0 clean, or the page or the rows are shown, 1 findings, 2 unjudged, or a value
+/// of the rows that are shown is unread, 3 usage, 4 the case is refused, 5 no such file, 6 a file is too large, 7 a
+/// file could not be read, 8 the output could not be written, 9 out of memory, 10 no such block.
 #[derive(Clone, Copy, Debug, PartialEq, Eq)]
 pub struct Status {
     pub code: u8,
@@ -65,6 +67,7 @@ impl Answer {
             Answer::Clean => 0,
             Answer::Findings => 1,
             Answer::Unjudged => 2,
+            Answer::Unread => 2,
             Answer::CaseRefused => 4,
             Answer::NoFile => 5,
             Answer::TooLarge => 6,

@@ -33,6 +33,8 @@ pub enum Command<'w> {
     },
     /// `all CASE`: judge the heap of a case, and each of its indexes.
     All(&'w str),
+    /// `copy CASE`: judge the heap of a case, and write its live rows.
+    Copy(&'w str),
     /// `show heap FILE BLOCK`, `show tree FILE BLOCK`: print one page of a file.
     Show {
         /// What the page is a page of.
@@ -158,6 +160,9 @@ fn named_command<'w>(command: &str, words: &'w [String]) -> Option<Command<'w>>
     }
     if command == "all" {
         return Some(Command::All(name_alone(words)?));
+    }
+    if command == "copy" {
+        return Some(Command::Copy(name_alone(words)?));
     }
     if command == "show" {
         return show_command(words);

@@ -1,5 +1,6 @@
 use Rattle.std.proofs.Common.{◌≡◌, ◌≢◌, ◌⊎◌, ℕ, inl, inr, ◌∙◌, sym, ap, arith}
 use Rattle.amcheck.specs.Seen.{form_asked, form_seen, outcome_seen}
+use Rattle.amcheck.proofs.CopyLaws.{copy_worth, given_up_copy}
 use Rattle.amcheck.proofs.Worth.{gave_up_generated, given_up_worth, worth_by, worth_generated}
 use Rattle.amcheck.specs.Answers.{IsOutcomeCode}
 use Rattle.amcheck.proofs.runs.run.Goals as goal
@@ -38,3 +39,21 @@ returns-in-Err-NoMemory-clause-generated g c seed rows asked names = gave_up_gen
 pub returns-then-refused_memory-clause-generated : goal.returns-then-refused_memory-clause-generated
 returns-then-refused_memory-clause-generated g c seed rows asked names =
     gave_up_generated c.reports_have_worth.ensures seed rows names _ _ _ c.status-then-refused_memory.ensures
+
+pub returns-in-Ok-clause-copied : goal.returns-in-Ok-clause-copied
+returns-in-Ok-clause-copied g c names told file case lists asked meant e =
+    let form = ap form_asked (sym c.in-Some.is) ∙ c.command_of.ensures ∙ asked in
+    copy_worth c.reports_have_worth.ensures file case names lists meant e (form_seen c.in-Some.command) (outcome_seen c.in-Ok.output) form (c.in-Ok.ensures.output names told) _ _ _
+    (rw c.as_slice.ensures at c.write_text-in-Ok.ensures.meets)
+
+pub returns-in-Err-NoMemory-clause-copied : goal.returns-in-Err-NoMemory-clause-copied
+returns-in-Err-NoMemory-clause-copied g c names told file case lists asked meant e =
+    given_up_copy c.reports_have_worth.ensures file case names lists meant e _ _ _ (inr c.status.ensures)
+
+pub returns-then-refused_memory-clause-copied : goal.returns-then-refused_memory-clause-copied
+returns-then-refused_memory-clause-copied g c names told file case lists asked meant e =
+    given_up_copy c.reports_have_worth.ensures file case names lists meant e _ _ _ (inr c.status-then-refused_memory.ensures)
+
+pub returns-else-refused_memory-clause-copied : goal.returns-else-refused_memory-clause-copied
+returns-else-refused_memory-clause-copied g c names told file case lists asked meant e =
+    given_up_copy c.reports_have_worth.ensures file case names lists meant e _ _ _ (inl c.status-else-refused_memory.ensures)

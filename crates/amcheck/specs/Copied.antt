@@ -1,0 +1,33 @@
+-- What a run of `copy` is worth.
+use Rattle.std.specs.Prelude.{◌≡◌, ℕ, true, List, Option, Some, Ok}
+use Rattle.outside.specs.Outside.{Names}
+use Rattle.case_file.specs.Record.{CaseRecord}
+use Rattle.reports.specs.Lists.{Lists}
+use Rattle.bt_levels.specs.Lists.{is_quiet}
+use Rattle.heap_check.specs.RowLaws.{AreLiveTuples}
+use Rattle.heap_check.specs.Rows.{rows_of}
+use Rattle.amcheck.specs.Cases.{case_in}
+use Rattle.amcheck.specs.Commands.{IsComplete, IsSound}
+use Rattle.amcheck.specs.Copy.{rows_shown, rows_unless}
+use Rattle.amcheck.specs.Heap.{heap_judged}
+use Rattle.amcheck.specs.Outcome.{Meets}
+use Rattle.amcheck.specs.Words.{Copy, Heap, form_of}
+
+-- what it is worth, where this is the case and what `heap` finds of it
+pub record IsCopy
+    (file : List ℕ) (case : CaseRecord) (names : Names) (lists : Lists) (old new : Option (List ℕ)) (code : ℕ)
+    : Type 0 where
+  -- the rows are written and answered, or the report where something is found or in doubt, but for faults and want of
+  -- memory
+  pub written : Meets (rows_unless lists (rows_shown names case)) old new code
+  -- the report finds only what is broken or in doubt, and names each place where something is
+  pub sound : IsSound (Heap file) names lists
+  pub complete : IsComplete (Heap file) names lists
+  -- the rows are exactly the live tuples of the heap, each once, by rising place, with the values of their attributes
+  pub rows : is_quiet lists ≡ true → AreLiveTuples case names (rows_of case names)
+
+-- where the words ask for `copy`, the file means a case, and nothing refuses its files, P holds of these
+abbrev pub ForCopy : List (List ℕ) → Names → (List ℕ → CaseRecord → Lists → Type 0) → Type 0
+ForCopy words names P =
+    (file : List ℕ) (case : CaseRecord) (lists : Lists) → form_of words ≡ Some (Copy file)
+    → case_in file names ≡ Ok case → heap_judged file names ≡ Ok lists → P file case lists

@@ -1,0 +1,44 @@
+-- The command `copy`: what it writes of a case.
+use Rattle.std.specs.Prelude.{ℕ, ◌==◌, if◌then◌else◌, List, Ok, Err}
+use Rattle.outside.specs.Outside.{Names}
+use Rattle.case_file.specs.Record.{CaseRecord}
+use Rattle.reports.specs.Lists.{Lists}
+use Rattle.bt_levels.specs.Lists.{is_quiet}
+use Rattle.copy_out.specs.Live.{copied_text, unread_values}
+use Rattle.amcheck.specs.Answers.{answer_code}
+use Rattle.amcheck.specs.Cases.{CaseRead, case_in}
+use Rattle.amcheck.specs.Heap.{case_judged}
+use Rattle.amcheck.specs.Outcome.{Judged, Outcome, reported}
+use Rattle.amcheck.specs.declared.status.Answer.{Answer}
+use Rattle.amcheck.specs.declared.status.Answer.TheVariants.{Clean, Unread}
+
+-- what is answered where so many values of rows aren't read
+abbrev pub answer_unread : ℕ → Answer
+answer_unread count = if count == 0 then Clean else Unread
+
+-- the live rows of a case as text, with that answer
+unfoldable pub rows_shown : Names → CaseRecord → Outcome
+rows_shown names case = record {
+  bytes = copied_text case names;
+  code = answer_code (answer_unread (unread_values case names));
+}
+
+-- a report where something is found or in doubt, and else the rows
+abbrev pub rows_unless : Lists → (rows : Outcome) → Outcome
+rows_unless lists rows = if is_quiet lists then rows else reported lists
+
+abbrev pub rows_after : Judged → (rows : Outcome) → Outcome
+rows_after (Ok lists) rows = rows_unless lists rows
+rows_after (Err refusal) rows = refusal
+
+-- the rows of a case, judged as `heap` judges it
+abbrev pub case_copied : Names → CaseRecord → Outcome
+case_copied names case = rows_after (case_judged names case) (rows_shown names case)
+
+abbrev pub read_copied : Names → CaseRead → Outcome
+read_copied names (Ok case) = case_copied names case
+read_copied names (Err refusal) = refusal
+
+-- the rows of the case in a file
+abbrev pub copy_outcome : List ℕ → Names → Outcome
+copy_outcome file names = read_copied names (case_in file names)

@@ -1,0 +1,16 @@
+mod Breaks
+mod Unescaping
+mod HexDigits
+mod Numbers
+mod Grouping
+mod FieldLaws
+mod Fitting
+mod LineLaws
+mod Runs
+mod Joining
+mod ReadBytes
+mod RowSteps
+mod Refusals
+mod RowCounts
+mod Asking
+mod Copying

@@ -1,0 +1,98 @@
+-- A heap has at most 2042 rows a block.
+use Rattle.std.proofs.Common.{◌≡◌, ℕ, zero, suc, ◌-◌, ◌*◌, ◌/◌, ◌%◌, ◌≤◌, Bool, true, false, List, [], ◌∷◌, length, refl, arith, length-append}
+use Rattle.std.specs.Prelude.{Option, Some, None, not, ◌&&◌, ◌==◌, ◌||◌, nat_le, if◌then◌else◌}
+use Rattle.std.proofs.lemmas.Bool.Decides.{nat_tests}
+use Rattle.outside.specs.Adds.{each_below, one_list}
+use Rattle.outside.specs.Outside.{Names}
+use Rattle.page_layout.specs.Page.{count_of, has_bad_places, has_good_places, has_other_version, has_unknown_page_flag, is_new, is_new_but_written, lower_of, page_rule_of, special_of, upper_of}
+use Rattle.page_layout.specs.declared.page.PageKind.TheVariants.{Heap}
+use Rattle.page_layout.specs.declared.rules.Rule.{Rule}
+use Rattle.page_layout.specs.declared.rules.Rule.TheVariants.{P1, P2, P3, P4}
+use Rattle.case_file.specs.Record.{CaseRecord}
+use Rattle.reports.specs.Added.{each_upto}
+use Rattle.heap_pages.specs.declared.verdict.ItemVerdict.{ItemVerdict}
+use Rattle.heap_pages.specs.declared.verdict.ItemVerdict.TheVariants.{Passes, Breaks, InDoubt}
+use Rattle.heap_pages.specs.Verdicts.{item_verdict}
+use Rattle.heap_files.specs.Case.{heap_blocks, heap_page, table_of}
+use Rattle.heap_files.specs.Files.{IsSoundHeapOf, heap_in}
+use Rattle.heap_files.specs.declared.files.SoundHeap.{SoundHeap}
+use Rattle.rel_files.specs.Relation.{count_of as blocks_in}
+use Rattle.heap_check.specs.declared.rows.LiveRow.{LiveRow}
+use Rattle.heap_check.specs.Rows.{block_rows, item_rows, page_rows, row_at, row_by, rows_by_rule, rows_of}
+
+-- A page without a broken rule has at most 2042 items
+
+good_places : (v f b w : Bool) → ◌≡◌ {A = Option Rule} (if v then Some P1 else if f then Some P2 else if b then Some P3 else if w then Some P4 else None) None → b ≡ false
+good_places true f b w e = absurd cc
+good_places false true b w e = absurd cc
+good_places false false true w e = absurd cc
+good_places false false false w e = refl
+
+few_below : (lower upper special : ℕ) (whole : Bool) → (nat_le 24 lower && nat_le lower upper && nat_le upper special && (special == 8192) && whole) ≡ true → (lower - 24) / 4 ≤ 2042
+few_below lower upper special whole good = grind (arith, nat_tests)
+
+few_by : (new good : Bool) (n : ℕ) → (not new && not good) ≡ false → (good ≡ true → n ≤ 2042) → (if new then 0 else n) ≤ 2042
+few_by true good n kept few = omega arith
+few_by false true n kept few = few refl
+few_by false false n kept few = absurd cc
+
+few_items : (page : List ℕ) → page_rule_of Heap page ≡ None → count_of page ≤ 2042
+unfolding page_rule_of count_of
+few_items page kept =
+    few_by (is_new page) (has_good_places Heap page) ((lower_of page - 24) / 4)
+    (good_places (has_other_version page) (has_unknown_page_flag page) (has_bad_places Heap page) (is_new_but_written page) kept)
+    (few_below (lower_of page) (upper_of page) (special_of page) (not true || ((lower_of page - 24) % 4 == 0)))
+
+-- An item gives one row at most, a page as many as it has items
+
+one_row : (v : ItemVerdict) (row : LiveRow) → length (row_by v row) ≤ 1
+one_row (Passes state) row = go _
+  where
+    go : (live : Bool) → length (if live then row ∷ [] else []) ≤ 1
+    go true = omega arith
+    go false = omega arith
+one_row (Breaks rule) row = omega arith
+one_row (InDoubt reason) row = omega arith
+
+rows_upto : {X : Type 0} (f : ℕ → List X) (n : ℕ) → ((i : ℕ) → length (f i) ≤ 1) → length (each_upto one_list f n) ≤ n
+unfolding each_upto
+rows_upto f zero each = omega arith
+rows_upto f (suc n) each =
+    let before = rows_upto f n each in
+    let here = each (suc n) in
+    let both = length-append (each_upto one_list f n) (f (suc n)) in
+    omega arith
+
+rows_below : {X : Type 0} (f : ℕ → List X) (n m : ℕ) → ((k : ℕ) → length (f k) ≤ m) → length (each_below one_list f n) ≤ m * n
+unfolding each_below
+rows_below f zero m each = omega arith
+rows_below f (suc n) m each =
+    let before = rows_below f n m each in
+    let here = each n in
+    let both = length-append (each_below one_list f n) (f n) in
+    grind arith
+
+module _ (case : CaseRecord) (names : Names) where
+  item_few : (block : ℕ) (page : List ℕ) (i : ℕ) → length (item_rows case names block page i) ≤ 1
+  unfolding item_rows
+  item_few block page i = one_row (item_verdict (table_of case names) page i) (row_at case names block page i)
+
+  page_few : (block : ℕ) (page : List ℕ) (rule : Option Rule) → page_rule_of Heap page ≡ rule → length (rows_by_rule rule (each_upto one_list (item_rows case names block page) (count_of page))) ≤ 2042
+  page_few block page (Some rule) is = omega arith
+  page_few block page None is =
+      let few = few_items page is in
+      let rows = rows_upto (item_rows case names block page) (count_of page) (item_few block page) in
+      omega arith
+
+  block_few : (block : ℕ) → length (block_rows case names block) ≤ 2042
+  unfolding block_rows page_rows
+  block_few block = page_few block (heap_page case names block) (page_rule_of Heap (heap_page case names block)) refl
+
+  pub rows_few : length (rows_of case names) ≤ 2042 * heap_blocks case names
+  unfolding rows_of
+  rows_few = rows_below (block_rows case names) (heap_blocks case names) 2042 block_few
+
+-- and has as many blocks as its files are told to have
+pub blocks_are : (case : CaseRecord) (names : Names) (heap : SoundHeap) → IsSoundHeapOf case names heap → blocks_in (heap_in heap) ≡ heap_blocks case names
+unfolding heap_blocks
+blocks_are case names heap sound = sound.files.heap.count

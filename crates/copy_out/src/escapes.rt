@@ -1,0 +1,39 @@
+//! The bytes of a text with escapes.
+ghost use Rattle.std.specs.Prelude.{◌≡◌, ◌++◌, OnOk};
+ghost use Rattle.copy_out.specs.Escapes.{escaped, letter_of};
+
+use key_orders::Octets;
+use outside::NoMemory;
+
+// The letter that stands for a byte behind a backslash, where one does.
+#[inline]
+#[tactic(auto, unfolding(crate::specs::Escapes::letter_of))]
+fn letter_of(b: u8) -> Option<u8>
+    ensures { result ≡ letter_of b }
+{
+    match b {
+        b'\\' => Some(b'\\'),
+        8 => Some(b'b'),
+        9 => Some(b't'),
+        10 => Some(b'n'),
+        11 => Some(b'v'),
+        12 => Some(b'f'),
+        13 => Some(b'r'),
+        _ => None,
+    }
+}
+
+/// Adds the bytes of a text with their escapes. What lies between two escapes is added as a whole.
+pub(crate) fn push_escaped(text: &mut Octets, bytes: &[u8]) -> Result<(), NoMemory>
+    ensures { OnOk result (text.new ≡ text.old ++ escaped bytes.now) }
+{
+    let mut done: usize = 0;
+    for (i, b) in bytes.iter().enumerate() {
+        if let Some(letter) = letter_of(*b) {
+            text.push_slice(&bytes[done..i])?;
+            text.push_slice(&[b'\\', letter])?;
+            done = i + 1;
+        }
+    }
+    text.push_slice(&bytes[done..])
+}
