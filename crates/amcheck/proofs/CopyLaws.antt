@@ -1,8 +1,8 @@
 -- Where nothing is found of a heap its rows are written, and else its report.
-use Rattle.std.proofs.Common.{◌≡◌, ◌∙◌, ◌⊎◌, true, List, ℕ, inl, inr, refl, sym, ap, subst, arith}
-use Rattle.std.specs.Prelude.{Option, Some, None, Ok}
+use Rattle.std.proofs.Common.{◌≡◌, ◌∙◌, ◌⊎◌, ◌==◌, Bool, true, false, List, ℕ, inl, inr, refl, sym, ap, subst, arith}
+use Rattle.std.specs.Prelude.{if◌then◌else◌, Option, Some, None, Ok}
 use Rattle.std.specs.Option.{is_some}
-use Rattle.std.proofs.lemmas.Bool.{cond-false, cond-true}
+use Rattle.std.proofs.lemmas.Bool.{both_ways, cond-false, cond-true, eqb-true}
 use Rattle.outside.specs.Outside.{Names}
 use Rattle.case_file.specs.Record.{CaseRecord}
 use Rattle.reports.specs.Lists.{Lists}
@@ -12,6 +12,10 @@ use Rattle.heap_files.specs.Found.{IsQuiet, case_found}
 use Rattle.heap_files.specs.declared.files.SoundHeap.{SoundHeap}
 use Rattle.heap_check.specs.RowLaws.{AreLiveTuples}
 use Rattle.heap_check.specs.Rows.{rows_of}
+use Rattle.bt_levels.proofs.LevelLaws.{empty_quiet}
+use Rattle.copy_out.specs.Live.{unread_values}
+use Rattle.amcheck.specs.Answers.{answer_code}
+use Rattle.amcheck.specs.declared.status.Answer.TheVariants.{Clean, Unread}
 use Rattle.amcheck.specs.Cases.{case_in}
 use Rattle.amcheck.specs.Commands.{outcome_of}
 use Rattle.amcheck.specs.Copied.{IsCopy}
@@ -24,7 +28,7 @@ use Rattle.amcheck.specs.Words.{Copy, Form, Heap}
 use Rattle.amcheck.proofs.CaseLaws.{HasCase, one_case, sound_case, the_case, unless_is}
 use Rattle.amcheck.proofs.NumberedLaws.{quiet_from, quiet_is}
 use Rattle.amcheck.proofs.TogetherLaws.{heap-where-quiet}
-use Rattle.amcheck.proofs.Worth.{complete_report, sound_report}
+use Rattle.amcheck.proofs.Worth.{clean_has_none, complete_report, sound_report}
 
 module _ (case : CaseRecord) (names : Names) (found : Option SoundHeap) (of : IsHeapOf case names found) where
   -- what a heap that came back is
@@ -53,6 +57,28 @@ belongs_there case found heap is belongs = subst (IsHeapIn case) is belongs
 
 -- What a run of `copy` is worth
 
+none_unread : (n : ℕ) (b : Bool) → (n == 0) ≡ b → answer_code (if b then Clean else Unread) ≡ 0 → n ≡ 0
+none_unread n true is e = eqb-true n 0 is
+none_unread n false is e = absurd (omega (arith, e))
+
+all_read : (case : CaseRecord) (names : Names) → (rows_shown names case).code ≡ 0 → unread_values case names ≡ 0
+unfolding rows_shown
+all_read case names e = none_unread (unread_values case names) (unread_values case names == 0) refl e
+
+-- rows are owed with 0 where nothing is found and each of their values is read
+owed_read : (case : CaseRecord) (names : Names) (lists : Lists) (quiet : Bool) → is_quiet lists ≡ quiet → (rows_unless lists (rows_shown names case)).code ≡ 0
+    → (is_quiet lists ≡ true) × (unread_values case names ≡ 0)
+owed_read case names lists true is e = (is, all_read case names (ap (λ (o : Outcome). o.code) (sym (cond-true _ _ _ is)) ∙ e))
+owed_read case names lists false is e =
+    let none = clean_has_none lists.findings lists.unjudged (ap (λ (o : Outcome). o.code) (sym (cond-false _ _ _ is)) ∙ e) in
+    absurd (both_ways (is_quiet lists) is (empty_quiet lists (record { findings = none.0; unjudged = none.1 })))
+
+code_read : (case : CaseRecord) (names : Names) (lists : Lists) (old new : Option (List ℕ)) (code : ℕ) → Meets (rows_unless lists (rows_shown names case)) old new code
+    → code ≡ 0 → (is_quiet lists ≡ true) × (unread_values case names ≡ 0)
+code_read case names lists old new code meets nought =
+    let same = (meets.whole (λ e. absurd (omega (arith, e, nought))) (λ e. absurd (omega (arith, e, nought))) (λ e. absurd (omega (arith, e, nought)))).0 in
+    owed_read case names lists (is_quiet lists) refl (sym same ∙ nought)
+
 module _ (laws : AreLaws) (file : List ℕ) (case : CaseRecord) (names : Names) (lists : Lists) (meant : case_in file names ≡ Ok case) (e : heap_judged file names ≡ Ok lists) where
   has : HasCase file names (case_judged names) lists
   has = the_case file names (case_judged names) lists e
@@ -80,6 +106,7 @@ module _ (laws : AreLaws) (file : List ℕ) (case : CaseRecord) (names : Names) 
     sound = sound_report laws (Heap file) names lists e;
     complete = complete_report laws (Heap file) names lists e;
     rows = rows;
+    read = code_read case names lists old new code meets;
   }
 
   -- a run that was to write

@@ -83,7 +83,7 @@ none_of : {X : Type 0} {P : X → Type 0} (xs : List X) → All P xs → ((x : X
 none_of [] all never = refl
 none_of {P = P} (x ∷ xs) all never = absurd (never x (All-head P x xs all))
 
-clean_has_none : (fs : List Finding) (us : List UnjudgedPlace) → answer_code (answer_by (verdict_of fs us)) ≡ 0 → (fs ≡ []) × (us ≡ [])
+pub clean_has_none : (fs : List Finding) (us : List UnjudgedPlace) → answer_code (answer_by (verdict_of fs us)) ≡ 0 → (fs ≡ []) × (us ≡ [])
 unfolding verdict_of
 clean_has_none [] [] e = (refl, refl)
 clean_has_none [] (u ∷ us) e = absurd (omega (arith, e))

@@ -6,6 +6,7 @@ use Rattle.reports.specs.Lists.{Lists}
 use Rattle.bt_levels.specs.Lists.{is_quiet}
 use Rattle.heap_check.specs.RowLaws.{AreLiveTuples}
 use Rattle.heap_check.specs.Rows.{rows_of}
+use Rattle.copy_out.specs.Live.{unread_values}
 use Rattle.amcheck.specs.Cases.{case_in}
 use Rattle.amcheck.specs.Commands.{IsComplete, IsSound}
 use Rattle.amcheck.specs.Copy.{rows_shown, rows_unless}
@@ -25,6 +26,8 @@ pub record IsCopy
   pub complete : IsComplete (Heap file) names lists
   -- the rows are exactly the live tuples of the heap, each once, by rising place, with the values of their attributes
   pub rows : is_quiet lists ≡ true → AreLiveTuples case names (rows_of case names)
+  -- where 0 is answered these are written, and each of their values is read
+  pub read : code ≡ 0 → (is_quiet lists ≡ true) × (unread_values case names ≡ 0)
 
 -- where the words ask for `copy`, the file means a case, and nothing refuses its files, P holds of these
 abbrev pub ForCopy : List (List ℕ) → Names → (List ℕ → CaseRecord → Lists → Type 0) → Type 0

@@ -13,6 +13,13 @@ escaped_more bytes i lt =
     ∙ flat_map-append escape (take i bytes) (get_or bytes i 0 ∷ [])
     ∙ ap (λ (r : List ℕ). flat_map escape (take i bytes) ++ r) (append-nil (escape (get_or bytes i 0)))
 
+-- where no letter stands for it, it stays
+pub stays_more : (bytes : List ℕ) (i : ℕ) → i < length bytes → letter_of (get_or bytes i 0) ≡ None → escaped (take i bytes) ≡ take i bytes
+    → escaped (take (i + 1) bytes) ≡ take (i + 1) bytes
+stays_more bytes i lt none stay =
+    escaped_more bytes i lt ∙ ap (λ (r : List ℕ). r ++ escape (get_or bytes i 0)) stay
+    ∙ ap (λ (r : List ℕ). take i bytes ++ r) (ap (escape_by (get_or bytes i 0)) none) ∙ sym (take_more bytes i 0 lt)
+
 -- one more byte waits
 run_more : (bytes : List ℕ) (done i : ℕ) → i < length bytes → done ≤ i → drop done (take (i + 1) bytes) ≡ drop done (take i bytes) ++ get_or bytes i 0 ∷ []
 run_more bytes done i lt le =

@@ -1,5 +1,5 @@
 //! The bytes of a text with escapes.
-ghost use Rattle.std.specs.Prelude.{◌≡◌, ◌++◌, OnOk};
+ghost use Rattle.std.specs.Prelude.{◌≡◌, ◌++◌, None, OnOk, false};
 ghost use Rattle.copy_out.specs.Escapes.{escaped, letter_of};
 
 use key_orders::Octets;
@@ -23,8 +23,27 @@ fn letter_of(b: u8) -> Option<u8>
     }
 }
 
-/// Adds the bytes of a text with their escapes. What lies between two escapes is added as a whole.
-pub(crate) fn push_escaped(text: &mut Octets, bytes: &[u8]) -> Result<(), NoMemory>
+// Whether a letter may stand for a byte; if not, none does.
+#[inline]
+fn may_have_letter(b: u8) -> bool
+    ensures { result ≡ false → letter_of b ≡ None }
+{
+    b == b'\\' || (8 <= b && b <= 13)
+}
+
+// Whether one may stand for any of these. Each byte is looked at, so that many can be at a time.
+fn may_have_escapes(bytes: &[u8]) -> bool
+    ensures { result ≡ false → escaped bytes.now ≡ bytes.now }
+{
+    let mut found = false;
+    for b in bytes {
+        found = found | may_have_letter(*b);
+    }
+    found
+}
+
+// Adds the bytes of a text with their escapes. What lies between two escapes is added as a whole.
+fn push_with_escapes(text: &mut Octets, bytes: &[u8]) -> Result<(), NoMemory>
     ensures { OnOk result (text.new ≡ text.old ++ escaped bytes.now) }
 {
     let mut done: usize = 0;
@@ -36,4 +55,15 @@ pub(crate) fn push_escaped(text: &mut Octets, bytes: &[u8]) -> Result<(), NoMemo
         }
     }
     text.push_slice(&bytes[done..])
+}
+
+/// Adds the bytes of a text with their escapes. Most texts have none, and are added as they are.
+pub(crate) fn push_escaped(text: &mut Octets, bytes: &[u8]) -> Result<(), NoMemory>
+    ensures { OnOk result (text.new ≡ text.old ++ escaped bytes.now) }
+{
+    if may_have_escapes(bytes) {
+        push_with_escapes(text, bytes)
+    } else {
+        text.push_slice(bytes)
+    }
 }

@@ -1,8 +1,8 @@
 use Rattle.std.proofs.Common.{◌≡◌, ℕ, ◌+◌, ◌<◌, ◌≤◌, length, List, [], ◌∷◌, ◌++◌, take, drop, refl, sym, ap, ◌∙◌, arith}
 use Rattle.copy_out.specs.Escapes.{escaped}
 use Rattle.copy_out.proofs.Runs.{run_is, waits, written}
-use Rattle.copy_out.proofs.escapes.push_escaped.Goals as goal
-use Rattle.copy_out.proofs.escapes.push_escaped.Goals.{in-Some+in_ok-push_slice+in_ok-push_slice-2, in_default}
+use Rattle.copy_out.proofs.escapes.push_with_escapes.Goals as goal
+use Rattle.copy_out.proofs.escapes.push_with_escapes.Goals.{in-Some+in_ok-push_slice+in_ok-push_slice-2, in_default}
 
 pub loop-i-init : goal.loop-i-init
 unfolding escaped

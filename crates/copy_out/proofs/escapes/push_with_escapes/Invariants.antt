@@ -1,6 +1,6 @@
 use Rattle.std.proofs.Common.{◌≡◌, ◌≤◌, ◌++◌, take, drop}
 use Rattle.copy_out.specs.Escapes.{escaped}
-use Rattle.copy_out.proofs.escapes.push_escaped.Given as goal
+use Rattle.copy_out.proofs.escapes.push_with_escapes.Given as goal
 
 -- what is written and what waits is the text of what was passed
 abbrev pub invariant-loop-i : goal.invariant-loop-i
