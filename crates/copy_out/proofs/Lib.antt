@@ -8,6 +8,7 @@ mod Fitting
 mod LineLaws
 mod Runs
 mod Joining
+mod LaneLaws
 mod ReadBytes
 mod RowSteps
 mod Refusals

@@ -1,5 +1,5 @@
 -- What lies between two escapes.
-use Rattle.std.proofs.Common.{◌≡◌, ℕ, ◌+◌, ◌-◌, ◌<◌, ◌≤◌, List, [], ◌∷◌, ◌++◌, length, take, drop, get_or, Some, None, sym, ap, ◌∙◌, arith, append-nil, append_assoc, length-take}
+use Rattle.std.proofs.Common.{◌≡◌, ◌⊎◌, inl, inr, zero, suc, refl, Option, ℕ, ◌+◌, ◌-◌, ◌<◌, ◌≤◌, List, [], ◌∷◌, ◌++◌, length, take, drop, get_or, Some, None, sym, ap, ◌∙◌, arith, append-nil, append_assoc, length-take}
 use Rattle.std.specs.List.{flat_map}
 use Rattle.std.proofs.lemmas.List.{drop-append-le, drop_all, drop-take, length-take-le, take_more}
 use Rattle.std.proofs.lemmas.List.Concat.{flat_map-append}
@@ -19,6 +19,30 @@ pub stays_more : (bytes : List ℕ) (i : ℕ) → i < length bytes → letter_of
 stays_more bytes i lt none stay =
     escaped_more bytes i lt ∙ ap (λ (r : List ℕ). r ++ escape (get_or bytes i 0)) stay
     ∙ ap (λ (r : List ℕ). take i bytes ++ r) (ap (escape_by (get_or bytes i 0)) none) ∙ sym (take_more bytes i 0 lt)
+
+-- where it stands for none, all stay
+pub stay_all : (bytes : List ℕ) → ((k : ℕ) → k < length bytes → letter_of (get_or bytes k 0) ≡ None) → escaped bytes ≡ bytes
+unfolding escaped
+stay_all [] none = refl
+stay_all (b ∷ bytes) none =
+    ap (λ (o : Option ℕ). escape_by b o ++ flat_map escape bytes) (none 0 (omega arith))
+    ∙ ap (λ (r : List ℕ). b ∷ r) (stay_all bytes (λ k lt. none (suc k) (omega arith)))
+
+below_or_not : (k n : ℕ) → (k < n) ⊎ (n ≤ k)
+below_or_not k zero = inr (omega arith)
+below_or_not zero (suc n) = inl (omega arith)
+below_or_not (suc k) (suc n) = elim (below_or_not k n) [ inl h ↦ inl (omega (arith, h)) | inr h ↦ inr (omega (arith, h)) ]
+
+-- none before a place and none in the 32 bytes from there on
+pub none_before : (bytes : List ℕ) (at : ℕ) → ((k : ℕ) → k < at → letter_of (get_or bytes k 0) ≡ None)
+    → ((k : ℕ) → at ≤ k → k < at + 32 → letter_of (get_or bytes k 0) ≡ None) → (k : ℕ) → k < at + 32 → letter_of (get_or bytes k 0) ≡ None
+none_before bytes at before here k lt = elim (below_or_not k at) [ inl h ↦ before k h | inr h ↦ here k h lt ]
+
+-- the last 32 bytes are the end
+pub none_in_all : (bytes : List ℕ) (at last : ℕ) → last ≤ at → length bytes ≡ last + 32 → ((k : ℕ) → k < at → letter_of (get_or bytes k 0) ≡ None)
+    → ((k : ℕ) → last ≤ k → k < last + 32 → letter_of (get_or bytes k 0) ≡ None) → escaped bytes ≡ bytes
+none_in_all bytes at last le long before here =
+    stay_all bytes (λ k lt. none_before bytes last (λ j lj. before j (omega (arith, lj, le))) here k (omega (arith, lt, long)))
 
 -- one more byte waits
 run_more : (bytes : List ℕ) (done i : ℕ) → i < length bytes → done ≤ i → drop done (take (i + 1) bytes) ≡ drop done (take i bytes) ++ get_or bytes i 0 ∷ []

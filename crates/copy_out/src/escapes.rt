@@ -1,7 +1,8 @@
 //! The bytes of a text with escapes.
-ghost use Rattle.std.specs.Prelude.{◌≡◌, ◌++◌, None, OnOk, false};
+ghost use Rattle.std.specs.Prelude.{◌≡◌, ◌≤◌, ◌++◌, None, OnOk, false, length};
 ghost use Rattle.copy_out.specs.Escapes.{escaped, letter_of};
 
+use crate::lanes::may_have_letters;
 use key_orders::Octets;
 use outside::NoMemory;
 
@@ -31,8 +32,8 @@ fn may_have_letter(b: u8) -> bool
     b == b'\\' || (8 <= b && b <= 13)
 }
 
-// Whether one may stand for any of these. Each byte is looked at, so that many can be at a time.
-fn may_have_escapes(bytes: &[u8]) -> bool
+// Whether one may stand for any of a few bytes.
+fn may_have_in_few(bytes: &[u8]) -> bool
     ensures { result ≡ false → escaped bytes.now ≡ bytes.now }
 {
     let mut found = false;
@@ -40,6 +41,34 @@ fn may_have_escapes(bytes: &[u8]) -> bool
         found = found | may_have_letter(*b);
     }
     found
+}
+
+// Whether one may stand for any of 32 bytes or more. The last 32 are looked at as a whole, whatever was seen of them.
+fn may_have_in_many(bytes: &[u8]) -> bool
+    requires { 32 ≤ length bytes.now }
+    ensures { result ≡ false → escaped bytes.now ≡ bytes.now }
+{
+    let last = bytes.len() - 32;
+    let mut at: usize = 0;
+    while at < last {
+        if may_have_letters(bytes, at) {
+            return true;
+        }
+        at += 32;
+    }
+    may_have_letters(bytes, last)
+}
+
+// Whether one may stand for any of these.
+#[inline]
+fn may_have_escapes(bytes: &[u8]) -> bool
+    ensures { result ≡ false → escaped bytes.now ≡ bytes.now }
+{
+    if bytes.len() < 32 {
+        may_have_in_few(bytes)
+    } else {
+        may_have_in_many(bytes)
+    }
 }
 
 // Adds the bytes of a text with their escapes. What lies between two escapes is added as a whole.

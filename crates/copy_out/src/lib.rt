@@ -4,6 +4,7 @@
 mod escapes;
 mod fields;
 mod forms;
+mod lanes;
 mod laws;
 mod lines;
 mod live;

@@ -2,7 +2,7 @@ use Rattle.std.proofs.Common.{◌≡◌, Bool, true, false, refl}
 use Rattle.std.specs.Prelude.{◌||◌}
 use Rattle.copy_out.specs.Escapes.{escaped}
 use Rattle.copy_out.proofs.Runs.{stays_more}
-use Rattle.copy_out.proofs.escapes.may_have_escapes.Goals as goal
+use Rattle.copy_out.proofs.escapes.may_have_in_few.Goals as goal
 
 neither : (a b : Bool) → (a || b) ≡ false → (a ≡ false) × (b ≡ false)
 neither false false e = (refl, refl)
