@@ -101,8 +101,9 @@ def column(name, kind):
     return f'[[column]]\nname = "{name}"\ntype = "{kind}"\n'
 
 
-def index(name, file, key, include=()):
+def index(name, file, key, include=(), unique=False):
     listed = f"include = {json.dumps(include)}\n" if include else ""
+    listed += "unique = true\n" if unique else ""
     return f'[[index]]\nname = "{name}"\nfile = "{file}"\n{listed}[[index.key]]\ncolumn = "{key}"\n'
 
 
