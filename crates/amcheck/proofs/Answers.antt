@@ -3,7 +3,7 @@ use Rattle.std.proofs.Common.{◌≢◌, inl, inr, refl, arith}
 use Rattle.amcheck.specs.Answers.{IsOutcomeCode, answer_code}
 use Rattle.amcheck.specs.declared.status.Answer.{Answer}
 use Rattle.amcheck.specs.declared.status.Answer.TheVariants.{Clean, Findings, Unjudged, CaseRefused, NoFile, TooLarge}
-use Rattle.amcheck.specs.declared.status.Answer.TheVariants.{NoBlock, Unread}
+use Rattle.amcheck.specs.declared.status.Answer.TheVariants.{BadBound, NoBlock, Unread}
 
 pub answers_are_known : (answer : Answer) → IsOutcomeCode (answer_code answer)
 answers_are_known Clean = inl (omega arith)
@@ -13,7 +13,8 @@ answers_are_known Unread = inl (omega arith)
 answers_are_known CaseRefused = inl (omega arith)
 answers_are_known NoFile = inl (omega arith)
 answers_are_known TooLarge = inl (omega arith)
-answers_are_known NoBlock = inr refl
+answers_are_known NoBlock = inr (inl refl)
+answers_are_known BadBound = inr (inr refl)
 
 -- no command answers that words have no form
 pub no_answer_is_usage : (answer : Answer) → answer_code answer ≢ 3
@@ -25,3 +26,4 @@ no_answer_is_usage CaseRefused e = absurd (omega (arith, e))
 no_answer_is_usage NoFile e = absurd (omega (arith, e))
 no_answer_is_usage TooLarge e = absurd (omega (arith, e))
 no_answer_is_usage NoBlock e = absurd (omega (arith, e))
+no_answer_is_usage BadBound e = absurd (omega (arith, e))

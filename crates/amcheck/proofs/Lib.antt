@@ -1,5 +1,6 @@
 pub mod AllLaws
 pub mod Answers
+pub mod BoundLaws
 pub mod CaseLaws
 pub mod CopyLaws
 pub mod GeneratedLaws
@@ -9,6 +10,7 @@ pub mod IndexLaws
 pub mod NumberLaws
 pub mod NumberedLaws
 pub mod PagesLaws
+pub mod ScanLaws
 pub mod TreesLaws
 pub mod TogetherLaws
 pub mod WholeLaws

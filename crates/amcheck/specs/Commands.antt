@@ -18,8 +18,9 @@ use Rattle.amcheck.specs.Index.{BreaksIndex, DoubtsIndex, HasTrueIndex, index_ju
 use Rattle.amcheck.specs.Numbered.{IsBehind}
 use Rattle.amcheck.specs.Outcome.{Judged, Meets, Outcome, owed_under, reported_under, usage}
 use Rattle.amcheck.specs.Pages.{BreaksFile, pages_judged}
+use Rattle.amcheck.specs.Scan.{scan_outcome}
 use Rattle.amcheck.specs.Show.{show_outcome}
-use Rattle.amcheck.specs.Words.{All as Every, Check, Copy, Form, Generated, Heap, Index, Judge, Pages, Show}
+use Rattle.amcheck.specs.Words.{All as Every, Check, Copy, Form, Generated, Heap, Index, Judge, Pages, Scan, Show}
 use Rattle.amcheck.specs.Words.{form_of}
 
 -- what a command that judges finds
@@ -43,6 +44,7 @@ abbrev pub outcome_of : Form → Names → Outcome
 outcome_of (Judge check) names = owed_under (heading_of check) (judged_by check names)
 outcome_of (Copy case) names = copy_outcome case names
 outcome_of (Show kind name block) names = show_outcome kind name block (names name (Segment 0))
+outcome_of (Scan case name bounds direction) names = scan_outcome case name bounds direction names
 
 abbrev pub outcome_by : Option Form → Names → Outcome
 outcome_by None names = usage

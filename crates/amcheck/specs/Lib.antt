@@ -1,5 +1,6 @@
 pub mod All
 pub mod Answers
+pub mod Bounds
 pub mod Cases
 pub mod Copy
 pub mod Commands
@@ -14,6 +15,8 @@ pub mod Numbered
 pub mod Numbers
 pub mod Outcome
 pub mod Pages
+pub mod Read
+pub mod Scan
 pub mod Seen
 pub mod Show
 pub mod Tables

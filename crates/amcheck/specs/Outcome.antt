@@ -8,7 +8,7 @@ use Rattle.reports.specs.Texts.{report_text, verdict_of}
 use Rattle.amcheck.specs.Answers.{answer_by, answer_code}
 use Rattle.amcheck.specs.declared.output.Unit.{Unit}
 use Rattle.amcheck.specs.declared.output.Unit.TheVariants.{Blocks, Bytes, Rows}
-use Rattle.amcheck.specs.declared.status.Answer.TheVariants.{CaseRefused, NoFile, TooLarge, NoBlock}
+use Rattle.amcheck.specs.declared.status.Answer.TheVariants.{BadBound, CaseRefused, NoFile, TooLarge, NoBlock}
 
 -- the bytes and the code that a run owes
 pub record Outcome : Type 0 where
@@ -50,6 +50,10 @@ no_block block blocks = record {
   bytes = codes "refused no block " ++ decimal block ++ codes " of " ++ decimal blocks ++ codes "\n";
   code = answer_code NoBlock;
 }
+
+-- a bound of a scan that doesn't fit the key of its index
+abbrev pub bad_bound : Outcome
+bad_bound = record { bytes = codes "refused bound\n"; code = answer_code BadBound }
 
 -- a refusal, or else what is owed without one
 abbrev pub refused_or : Option Outcome → Outcome → Outcome

@@ -5,17 +5,24 @@ use Rattle.amcheck.specs.Answers.{answer_code}
 use Rattle.amcheck.specs.Cases.{CaseRead}
 use Rattle.amcheck.specs.Files.{lone_file_refusal}
 use Rattle.amcheck.specs.Outcome.{Outcome}
-use Rattle.amcheck.specs.Words.{All, Copy, Form, Generated, Heap, Index, Judge, Pages, Show}
+use Rattle.amcheck.specs.Bounds.{bounds_in}
+use Rattle.amcheck.specs.Words.{All, Copy, Form, Generated, Heap, Index, Judge, Pages, Scan, Show}
 use Rattle.amcheck.specs.declared.blocks.Opening.{Opening}
 use Rattle.amcheck.specs.declared.blocks.Opening.TheVariants.{Blocks, Refused}
 use Rattle.amcheck.specs.declared.case.CaseOpening.{CaseOpening}
 use Rattle.amcheck.specs.declared.case.CaseOpening.TheVariants.{Opened, Refused as case_refused}
+use Rattle.amcheck.specs.declared.bounds.ScanWords.{ScanWords}
 use Rattle.amcheck.specs.declared.words.Command.{Command}
 use Rattle.amcheck.specs.declared.words.Command.TheVariants.{Pages as pages_command, Heap as heap_command}
 use Rattle.amcheck.specs.declared.words.Command.TheVariants.{Index as index_command, All as all_command}
 use Rattle.amcheck.specs.declared.words.Command.TheVariants.{Copy as copy_command}
 use Rattle.amcheck.specs.declared.words.Command.TheVariants.{Show as show_command, Gen as gen_command}
+use Rattle.amcheck.specs.declared.words.Command.TheVariants.{Scan as scan_command}
 use Rattle.amcheck.specs.declared.output.Output.{Output}
+
+-- the form of a scan's words
+abbrev pub scan_seen : ScanWords → Form
+scan_seen words = Scan words.case.now words.name.now (bounds_in words.low.now words.high.now) words.direction
 
 -- the form of a command
 abbrev pub form_seen : Command → Form
@@ -26,6 +33,7 @@ form_seen (all_command case) = Judge (All case.now)
 form_seen (copy_command case) = Copy case.now
 form_seen (show_command kind file block) = Show kind file.now block
 form_seen (gen_command seed rows) = Judge (Generated seed rows)
+form_seen (scan_command words) = scan_seen words
 
 -- the same, where there is one
 abbrev pub form_asked : Option Command → Option Form

@@ -2,7 +2,13 @@
 use Rattle.std.specs.Prelude.{ℕ, List, [], ◌∷◌, Option, Some, None, codes, if◌then◌else◌}
 use Rattle.std.specs.Option.{option_map}
 use Rattle.std.specs.Str.{bytes_eq}
+use Rattle.tree_search.specs.Keys.{Bound}
+use Rattle.key_orders.specs.Scans.{Bounds}
+use Rattle.key_orders.specs.declared.columns.Value.{Value}
+use Rattle.scan_lines.specs.declared.lines.ScanDirection.{ScanDirection}
+use Rattle.amcheck.specs.Bounds.{bound_written, direction_written}
 use Rattle.amcheck.specs.Numbers.{u32_written, u64_written}
+use Rattle.amcheck.specs.declared.bounds.Side.TheVariants.{Low, High}
 use Rattle.amcheck.specs.declared.words.Shown.{Shown}
 use Rattle.amcheck.specs.declared.words.Shown.TheVariants as shown
 
@@ -26,6 +32,8 @@ pub data Form : Type 0 where
   Copy : List ℕ → Form
   -- show heap FILE BLOCK, show tree FILE BLOCK
   Show : Shown → List ℕ → ℕ → Form
+  -- scan CASE NAME LOW HIGH DIR
+  Scan : (case name : List ℕ) → Bounds → ScanDirection → Form
 
 -- one word, which isn't empty
 unfoldable pub name_alone : List (List ℕ) → Option (List ℕ)
@@ -81,6 +89,26 @@ generated_form (seed ∷ []) = None
 generated_form (seed ∷ rows ∷ []) = generated_by (u64_written seed) (u32_written rows)
 generated_form (seed ∷ rows ∷ word ∷ words) = None
 
+-- a case and a name, unless one is empty, and words that write two bounds and a direction
+abbrev pub scan_by : (case name : List ℕ) → (low high : Option (Bound Value)) → Option ScanDirection → Option Form
+scan_by [] name low high direction = None
+scan_by (x ∷ xs) [] low high direction = None
+scan_by (x ∷ xs) (y ∷ ys) None high direction = None
+scan_by (x ∷ xs) (y ∷ ys) (Some low) None direction = None
+scan_by (x ∷ xs) (y ∷ ys) (Some low) (Some high) None = None
+scan_by (x ∷ xs) (y ∷ ys) (Some low) (Some high) (Some direction) =
+    Some (Scan (x ∷ xs) (y ∷ ys) (record { low = low; high = high }) direction)
+
+unfoldable pub scan_form : List (List ℕ) → Option Form
+scan_form [] = None
+scan_form (case ∷ []) = None
+scan_form (case ∷ name ∷ []) = None
+scan_form (case ∷ name ∷ low ∷ []) = None
+scan_form (case ∷ name ∷ low ∷ high ∷ []) = None
+scan_form (case ∷ name ∷ low ∷ high ∷ direction ∷ []) =
+    scan_by case name (bound_written Low low) (bound_written High high) (direction_written direction)
+scan_form (case ∷ name ∷ low ∷ high ∷ direction ∷ word ∷ words) = None
+
 -- a command's name, and the words after it
 unfoldable pub command_form : List ℕ → List (List ℕ) → Option Form
 command_form command words =
@@ -91,6 +119,7 @@ command_form command words =
     else if bytes_eq command (codes "copy") then option_map (λ case. Copy case) (name_alone words)
     else if bytes_eq command (codes "show") then show_form words
     else if bytes_eq command (codes "gen") then generated_form words
+    else if bytes_eq command (codes "scan") then scan_form words
     else None
 
 -- words that have none of the forms ask for nothing

@@ -30,8 +30,8 @@ struct IndexedFiles {
     tree: TreeFile,
 }
 
-// The refusal of a name that no index of the case has.
-fn unknown_index(alloc: Global) -> Result<Output, NoMemory>
+/// The refusal of a name that no index of the case has.
+pub fn unknown_index(alloc: Global) -> Result<Output, NoMemory>
     ensures { IfOk result (λ o. outcome_seen o ≡ unknown_index) }
 {
     let place = Octets::from_slice(alloc, b"index.name")?;

@@ -4,6 +4,7 @@
 
 mod all;
 mod blocks;
+mod bounds;
 mod case;
 mod copy;
 mod fault;
@@ -16,6 +17,7 @@ mod numbers;
 mod output;
 mod pages;
 mod runs;
+mod scan;
 mod show;
 mod status;
 mod text;

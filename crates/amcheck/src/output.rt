@@ -1,6 +1,6 @@
 //! What a command is to write, and what it answers.
 ghost use Rattle.std.specs.Prelude.{◌≡◌, IfOk};
-ghost use Rattle.amcheck.specs.Outcome.{case_refused, no_block, no_file, reported, too_large};
+ghost use Rattle.amcheck.specs.Outcome.{bad_bound, case_refused, no_block, no_file, reported, too_large};
 ghost use Rattle.amcheck.specs.Seen.{outcome_seen};
 
 use crate::status::Answer;
@@ -111,6 +111,17 @@ pub fn no_block_output(alloc: Global, block: u32, blocks: u32) -> Result<Output,
     Ok(Output {
         text,
         answer: Answer::NoBlock,
+    })
+}
+
+/// The refusal of a bound that doesn't fit the key of its index.
+pub fn bad_bound_output(alloc: Global) -> Result<Output, NoMemory>
+    ensures { IfOk result (λ o. outcome_seen o ≡ bad_bound) }
+{
+    let text = Octets::from_slice(alloc, b"refused bound\n")?;
+    Ok(Output {
+        text,
+        answer: Answer::BadBound,
     })
 }
 

@@ -17,6 +17,7 @@ use crate::index::index_output;
 use crate::laws::reports_have_worth;
 use crate::output::Output;
 use crate::pages::pages_output;
+use crate::scan::scan_output;
 use crate::show::show_output;
 use crate::status::{Ending, Status};
 use crate::words::{Command, command_of};
@@ -45,6 +46,7 @@ fn output_of<F: Files>(
         Command::Copy(case) => copy_output(alloc, files, case),
         Command::Show { of, file, block } => show_output(alloc, files, of, file, block),
         Command::Gen { seed, rows } => gen_output(alloc, seed, rows),
+        Command::Scan(words) => scan_output(alloc, files, words),
     }
 }
 
@@ -82,7 +84,7 @@ pub fn run<F: Files, S: Sink>(
     ensures read_fault { result.code ≡ 7 → Rose (F.seen files.old).faults (F.seen files.new).faults
         × ((F.seen files.new).refused ≡ false) }
     ensures write_fault { result.code ≡ 8 → Rose (S.faults sink.old) (S.faults sink.new) }
-    ensures codes { result.code ≤ 10 }
+    ensures codes { result.code ≤ 11 }
 {
     reports_have_worth();
     let Some(command) = command_of(words) else {

@@ -7,7 +7,7 @@ use reports::Verdict;
 /// What a command answers.
 #[derive(Clone, Copy, Debug, PartialEq, Eq)]
 pub enum Answer {
-    /// No rule is broken, and everything could be judged; or the page is shown, or the rows are.
+    /// No rule is broken, and everything could be judged; or the page, the rows or the entries are shown.
     Clean,
     /// A rule is broken.
     Findings,
@@ -23,6 +23,8 @@ pub enum Answer {
     TooLarge,
     /// The file has no such block.
     NoBlock,
+    /// A bound of a scan doesn't fit the key of the index.
+    BadBound,
 }
 
 /// How a run ends.
@@ -40,9 +42,10 @@ pub enum Ending {
     NoMemory,
 }
 
-/// The answer of a run to its caller: 0 clean, or the page or the rows are shown, 1 findings, 2 unjudged, or a value
-/// of the rows that are shown is unread, 3 usage, 4 the case is refused, 5 no such file, 6 a file is too large, 7 a
-/// file could not be read, 8 the output could not be written, 9 out of memory, 10 no such block.
+/// The answer of a run to its caller: 0 clean, or the page, the rows or the entries are shown, 1 findings, 2 unjudged,
+/// or a value of the rows that are shown is unread, 3 usage, 4 the case is refused, 5 no such file, 6 a file is too
+/// large, 7 a file could not be read, 8 the output could not be written, 9 out of memory, 10 no such block, 11 a bound
+/// doesn't fit the key.
 #[derive(Clone, Copy, Debug, PartialEq, Eq)]
 pub struct Status {
     pub code: u8,
@@ -72,6 +75,7 @@ impl Answer {
             Answer::NoFile => 5,
             Answer::TooLarge => 6,
             Answer::NoBlock => 10,
+            Answer::BadBound => 11,
         }
     }
 }

@@ -4,8 +4,9 @@ ghost use Rattle.std.specs.Option.{option_copied};
 ghost use Rattle.amcheck.specs.Numbers.{u32_written, u64_written};
 ghost use Rattle.amcheck.specs.Seen.{form_asked};
 ghost use Rattle.amcheck.specs.Words.{command_form, form_of, generated_by, generated_form, index_by, index_form};
-ghost use Rattle.amcheck.specs.Words.{name_alone, page_by, show_form, shown_by};
+ghost use Rattle.amcheck.specs.Words.{name_alone, page_by, scan_form, show_form, shown_by};
 
+use crate::bounds::{ScanWords, scan_words};
 use crate::numbers::{u32_written, u64_written};
 
 /// What a page is shown as a page of.
@@ -51,6 +52,8 @@ pub enum Command<'w> {
         /// How many rows the table is to have.
         rows: u32,
     },
+    /// `scan CASE NAME LOW HIGH DIR`: print the entries of an index of a case between two bounds.
+    Scan(ScanWords<'w>),
 }
 
 // One word, which isn't empty.
@@ -144,6 +147,26 @@ fn gen_command(words: &[String]) -> Option<Command<'_>>
     }
 }
 
+// The words after `scan`.
+#[tactic(auto, unfolding(crate::specs::Words::scan_form))]
+fn scan_command(words: &[String]) -> Option<Command<'_>>
+    ensures { form_asked result ≡ scan_form (map string_bytes words.now) }
+{
+    match words {
+        [case, name, low, high, direction] => {
+            let words = scan_words(
+                case.as_str(),
+                name.as_str(),
+                low.as_str(),
+                high.as_str(),
+                direction.as_str(),
+            )?;
+            Some(Command::Scan(words))
+        }
+        _ => None,
+    }
+}
+
 // The command of this name, with the words after it.
 #[tactic(auto, unfolding(crate::specs::Words::command_form))]
 fn named_command<'w>(command: &str, words: &'w [String]) -> Option<Command<'w>>
@@ -169,6 +192,9 @@ fn named_command<'w>(command: &str, words: &'w [String]) -> Option<Command<'w>>
     }
     if command == "gen" {
         return gen_command(words);
+    }
+    if command == "scan" {
+        return scan_command(words);
     }
     None
 }

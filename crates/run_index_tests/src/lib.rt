@@ -1,5 +1,5 @@
-//! Tests of `run` over the files of a table and its indexes: the rules of an index's pages and levels, and of a heap
-//! and its indexes together.
+//! Tests of `run` over the files of a table and its indexes: the rules of an index's pages and levels, of a heap and
+//! its indexes together, and scans.
 #![tactic(auto)]
 
 #[cfg(test)]
@@ -14,5 +14,7 @@ mod indexed;
 mod level_trees;
 #[cfg(test)]
 mod levels;
+#[cfg(test)]
+mod scans;
 #[cfg(test)]
 mod unique;

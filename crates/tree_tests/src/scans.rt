@@ -4,6 +4,7 @@ ghost use Rattle.key_orders.specs.Scans.{FitsKey};
 ghost use Rattle.bt_levels.specs.Sound.{specs_of};
 
 use crate::trees::SmallIndex;
+use back_scan::{descend_last, prev_entry};
 use bt_levels::SoundTree;
 use bt_search::{Spot, Visits, descend, entry_at, next_entry};
 use key_orders::{Scan, Value, ValueRef};
@@ -38,17 +39,19 @@ fn scan_of(alloc: Global, tree: &SoundTree, edges: (Edge, Edge)) -> Result<Scan,
     )?)
 }
 
-// Where a reader of a scan is.
+// Where a reader of a scan is, and which way it goes.
 #[derive(Drop)]
 struct Reader {
+    backward: bool,
     spot: Spot,
     page: [u8; 8192],
     visits: Visits,
 }
 
-// A reader before the first leaf.
-fn new_reader() -> Reader {
+// A reader that hasn't begun.
+fn new_reader(backward: bool) -> Reader {
     Reader {
+        backward,
         spot: Spot {
             block: 0,
             item: 0,
@@ -80,7 +83,12 @@ fn start(
     // It has fewer than 2^32.
     let _blocks = tree.blocks();
     let mut visits = Visits { count: 0 };
-    let spot = descend(tree, files, scan, &mut reader.page, &mut visits);
+    let page = &mut reader.page;
+    let spot = if reader.backward {
+        descend_last(tree, files, scan, page, &mut visits)
+    } else {
+        descend(tree, files, scan, page, &mut visits)
+    };
     reader.visits = visits;
     reader.spot = spot?;
     Ok(())
@@ -96,11 +104,20 @@ fn next_spot(
     requires { FitsKey (specs_of tree.now) scan.now }
 {
     let _blocks = tree.blocks();
-    let Reader { spot, page, visits } = reader;
+    let Reader {
+        backward,
+        spot,
+        page,
+        visits,
+    } = reader;
     if visits.count > 100 {
         return Err("too many visits".into());
     }
-    Ok(next_entry(tree, files, scan, spot, page, visits)?)
+    if *backward {
+        Ok(prev_entry(tree, files, scan, spot, page, visits)?)
+    } else {
+        Ok(next_entry(tree, files, scan, spot, page, visits)?)
+    }
 }
 
 // Goes past the next entry of a scan, and says which it is.
@@ -134,7 +151,7 @@ fn both_values_of_an_entry(rt: HostRuntime) -> Result<(), Fail> {
     let alloc = rt.alloc();
     let (mut files, tree) = SmallIndex::Pairs.open(alloc)?;
     let scan = scan_of(alloc, &tree, (Some((5, true)), Some((5, true))))?;
-    let mut reader = new_reader();
+    let mut reader = new_reader(false);
     start(&tree, &mut files, &scan, &mut reader)?;
     for pair in [(5, 1), (5, 3)] {
         let at = next_spot(&tree, &mut files, &scan, &mut reader)?.ok_or("no entry")?;
@@ -151,11 +168,12 @@ fn yields(
     alloc: Global,
     index: SmallIndex,
     edges: (Edge, Edge),
+    backward: bool,
     (want, visits): (Wanted, u64),
 ) -> Result<bool, Fail> {
     let (mut files, tree) = index.open(alloc)?;
     let scan = scan_of(alloc, &tree, edges)?;
-    let mut reader = new_reader();
+    let mut reader = new_reader(backward);
     start(&tree, &mut files, &scan, &mut reader)?;
     for entry in want {
         if next(&tree, &mut files, &scan, &mut reader)? != Some(*entry) {
@@ -194,7 +212,59 @@ fn scans_between_bounds(rt: HostRuntime) -> Result<(), Fail> {
         (SmallIndex::Empty, ALL, &[], 0),
     ];
     for (index, edges, want, visits) in rows {
-        assert!(rt; yields(alloc, index, edges, (want, visits))?, "{want:?}");
+        assert!(rt;
+            yields(alloc, index, edges, false, (want, visits))?,
+            "{want:?}"
+        );
+    }
+    Ok(())
+}
+
+#[test]
+fn scans_backward(rt: HostRuntime) -> Result<(), Fail> {
+    let alloc = rt.alloc();
+    let fives = (Some((5, true)), Some((5, true)));
+    let below_five = (None, Some((5, false)));
+    let below_six = (None, Some((6, false)));
+    let up_to_seven = (None, Some((7, true)));
+    let above_seven = (Some((7, false)), None);
+    let to_seven = (Some((5, true)), Some((7, true)));
+    let nines = (Some((9, true)), None);
+    let rows: [(SmallIndex, (Edge, Edge), Wanted, u64); 14] = [
+        // of two columns: the leaf before the first five is read too
+        (SmallIndex::Pairs, fives, &[(5, 4), (5, 3)], 3),
+        (SmallIndex::Pairs, below_five, &[(4, 2), (4, 1)], 2),
+        (
+            SmallIndex::Pairs,
+            below_six,
+            &[(5, 4), (5, 3), (4, 2), (4, 1)],
+            3,
+        ),
+        (SmallIndex::Pairs, ALL, &[(5, 4), (5, 3), (4, 2), (4, 1)], 3),
+        // of equal keys: the last of them is on the second leaf
+        (
+            SmallIndex::Sevens,
+            up_to_seven,
+            &[(7, 3), (7, 2), (7, 1)],
+            3,
+        ),
+        (SmallIndex::Sevens, above_seven, &[], 2),
+        // past a half-dead leaf, and to one
+        (SmallIndex::DeadFirst, ALL, &[(9, 3), (7, 2), (5, 1)], 4),
+        (SmallIndex::DeadFirst, nines, &[(9, 3)], 2),
+        (SmallIndex::DeadBetween, ALL, &[(9, 3), (7, 2), (5, 1)], 4),
+        (SmallIndex::DeadBetween, nines, &[(9, 3)], 2),
+        // of a list and a killed entry
+        (SmallIndex::Listed, ALL, &[(9, 4), (7, 3), (7, 2)], 1),
+        (SmallIndex::Listed, to_seven, &[(7, 3), (7, 2)], 1),
+        (SmallIndex::Listed, nines, &[(9, 4)], 1),
+        (SmallIndex::Empty, ALL, &[], 0),
+    ];
+    for (index, edges, want, visits) in rows {
+        assert!(rt;
+            yields(alloc, index, edges, true, (want, visits))?,
+            "{want:?}"
+        );
     }
     Ok(())
 }
@@ -207,7 +277,7 @@ fn descents_by_halves(rt: HostRuntime) -> Result<(), Fail> {
         let edges = (Some((value, true)), Some((value, true)));
         let (mut files, tree) = SmallIndex::Six.open(alloc)?;
         let scan = scan_of(alloc, &tree, edges)?;
-        let mut reader = new_reader();
+        let mut reader = new_reader(false);
         start(&tree, &mut files, &scan, &mut reader)?;
         assert_eq!(rt;
             next(&tree, &mut files, &scan, &mut reader)?,
@@ -223,7 +293,7 @@ fn a_read_that_fails(rt: HostRuntime) -> Result<(), Fail> {
     let alloc = rt.alloc();
     let (mut files, tree) = SmallIndex::Pairs.open(alloc)?;
     let scan = scan_of(alloc, &tree, ALL)?;
-    let mut reader = new_reader();
+    let mut reader = new_reader(false);
     files.fail_from(2);
     assert!(rt; start(&tree, &mut files, &scan, &mut reader).is_err());
     assert_eq!(rt; reader.visits.count, 2);
@@ -235,7 +305,7 @@ fn places_with_and_without_an_entry(rt: HostRuntime) -> Result<(), Fail> {
     let alloc = rt.alloc();
     let (mut files, tree) = SmallIndex::Listed.open(alloc)?;
     let scan = scan_of(alloc, &tree, ALL)?;
-    let mut reader = new_reader();
+    let mut reader = new_reader(false);
     start(&tree, &mut files, &scan, &mut reader)?;
     let rows = [
         ((1, 0), Some((5, 1))),

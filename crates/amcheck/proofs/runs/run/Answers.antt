@@ -24,7 +24,8 @@ returns-else-refused_memory-clause-report g c names told check lists asked e =
 
 not_seven : (code : ℕ) → IsOutcomeCode code ⊎ (code ≡ 8) → code ≢ 7
 not_seven code (inl (inl small)) seven = absurd (omega (arith, small, seven))
-not_seven code (inl (inr ten)) seven = absurd (omega (arith, ten, seven))
+not_seven code (inl (inr (inl ten))) seven = absurd (omega (arith, ten, seven))
+not_seven code (inl (inr (inr eleven))) seven = absurd (omega (arith, eleven, seven))
 not_seven code (inr eight) seven = absurd (omega (arith, eight, seven))
 
 pub returns-in-Ok-clause-generated : goal.returns-in-Ok-clause-generated
