@@ -7,7 +7,8 @@ ghost use Rattle.bt_levels.specs.Sound.{HoldsTree, specs_of};
 ghost use Rattle.scan_lines.specs.Lines.{in_direction};
 ghost use Rattle.scan_lines.specs.Wanted.{wanted_on};
 ghost use Rattle.amcheck.specs.Bounds.{bounds_in};
-ghost use Rattle.amcheck.specs.Scan.{bounded_scanned, entries_shown, file_scanned, keys_of, lines_shown, scan_outcome, tree_scanned};
+ghost use Rattle.amcheck.specs.Scan.{bounded_scanned, entries_shown, file_scanned, keys_of, lines_shown};
+ghost use Rattle.amcheck.specs.Scan.{scan_outcome, tree_scanned};
 ghost use Rattle.amcheck.specs.Seen.{outcome_seen};
 
 use crate::bounds::{ScanWords, Side, read_bound};
@@ -95,7 +96,8 @@ fn file_output<F: Files>(
     requires last { index ≤ length case.now.indexes }
     requires fits { FitsKey (keys_of case.now index) asked.0.now }
     ensures output { Tells F.seen files.old result (λ o names. outcome_seen o ≡ file_scanned
-        (refusal_of case.now names index) case.now (tree_scanned case.now names index asked.entry.0.now asked.entry.1)) }
+        (refusal_of case.now names index) case.now
+        (tree_scanned case.now names index asked.entry.0.now asked.entry.1)) }
     ensures asked { Asked F.seen files.old files.new result RunFault.ReadFault }
 {
     match TreeFile::attach(alloc, files, case, index) {

@@ -1,5 +1,5 @@
--- The unkilled entries of an index, by rising key and TID, and the rows of the heap that have the same key: what is kept
--- of the entries with one key while one after another comes, and of which rows an earlier one was met.
+-- The unkilled entries of an index, by rising key and TID, and the rows of the heap that have the same key: what is
+-- kept of the entries with one key while one after another comes, and of which rows an earlier one was met.
 use Rattle.std.specs.Prelude.{ℕ, ◌+◌, ◌*◌, Bool, true, false, not, cond, ◌==◌, ◌&&◌, nat_lt, List, [], ◌∷◌, ◌++◌}
 use Rattle.std.specs.Prelude.{Option, Some, None}
 use Rattle.tree_search.specs.Keys.{Entry}

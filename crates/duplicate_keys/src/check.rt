@@ -145,10 +145,10 @@ fn later_rows<F: Files>(
     Ok(later)
 }
 
-/// Adds to the report each live row of a heap that has, in a unique index of it, the key of a row with a lower TID (X3),
-/// by rising TID. A null is equal to none, unless the index takes nulls as equal; included columns play no part. Each
-/// live row has its entry in the index, and each entry names what it may (`AreJoined`): nothing was found of either
-/// before. Of an index that isn't unique nothing is added, and nothing is read.
+/// Adds to the report each live row of a heap that has, in a unique index of it, the key of a row with a lower TID
+/// (X3), by rising TID. A null is equal to none, unless the index takes nulls as equal; included columns play no part.
+/// Each live row has its entry in the index, and each entry names what it may (`AreJoined`): nothing was found of
+/// either before. Of an index that isn't unique nothing is added, and nothing is read.
 ///
 /// The heap is read once for the roots of its rows, and the leaves of the index once along their chain. Of the entries
 /// that have one key and may be of a row, where they are more than one, each block that they name is read once more.

@@ -47,7 +47,9 @@ impl Grouping<'_> {
         requires index { IsIndexAt self.index cursor.now }
         requires at { IsAtRow cursor.now }
         ensures { OnOk result ((names : Names) (row : Row) → IsFound names cursor.now place row
-            → group.new ≡ record group.old { met = row_met (table_seen names self.entry) group.old.key row group.old.met }) }
+            → group.new ≡ record group.old {
+              met = row_met (table_seen names self.entry) group.old.key row group.old.met;
+            }) }
     {
         let mut key = KeyRefs::new();
         if self.index.read_key(cursor, &mut key) {

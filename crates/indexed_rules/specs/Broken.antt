@@ -45,8 +45,8 @@ pub record AreJoined (case : CaseRecord) (names : Names) (n : ℕ) : Type 0 wher
   pub entries : (b i : ℕ) (e : Given Value Tid) → IsAt case names n b i e → may_be_named case names e.tid ≡ true
 
 -- X1: a live tuple has no unkilled entry with its key, its included values and its root's TID. X2: an entry names what
--- no entry may name. X3: a live tuple has a key that one with a lower TID has too, and the index may have it once alone;
--- it is asked of an index that has an entry for each live tuple, and whose entries name what they may name
+-- no entry may name. X3: a live tuple has a key that one with a lower TID has too, and the index may have it once
+-- alone; it is asked of an index that has an entry for each live tuple, and whose entries name what they may name
 pub data Breaks (case : CaseRecord) (names : Names) (n : ℕ) : Rule → Place → Type 0 where
   no_entry : (row : LiveRow) (key more : List Value) → Contains (rows_of case names) row
       → key_of case n row ≡ Some key → more_of case n row ≡ Some more
