@@ -111,6 +111,17 @@ check() {
     "$top/tools/check_cases" "$data" "$@"
 }
 
+# Makes the file of a relation longer, to so many blocks, in segments of 1 GiB that take no room.
+stretch() {
+    local file=$1 blocks=$2 segment=0
+    while [ "$blocks" -gt 131072 ]; do
+        truncate -s 1G "$file${segment#0}"
+        blocks=$((blocks - 131072))
+        segment=.$((${segment#.} + 1))
+    done
+    truncate -s $((blocks * 8192)) "$file${segment#0}"
+}
+
 # The file of a table of a case: the case, and the key that names it.
 file_of() {
     sed -n "s|^$2 = \"\(.*\)\"\$|$data/\1|p" "$1" | head -n 1

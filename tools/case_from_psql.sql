@@ -640,6 +640,8 @@ numbered_indexes as (
         index_name,
         index_path,
         index_blocks,
+        indisunique,
+        has_equal_nulls,
         row_number() over (partition by table_oid order by index_name) as number,
         case
             when fault is not null then fault

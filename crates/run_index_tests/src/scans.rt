@@ -2,7 +2,7 @@
 use crate::expected::expect;
 use crate::level_trees::{DEAD_FIRST, EQUAL_KEYS, LOST_TID, OF_TWO_NUMBERS};
 use outside::{MemFiles, Part};
-use run_files::{CLUSTER, INDEX, INT_COLUMN, Roots, THREE, TreePage, rooted, rooted_file};
+use run_files::{CLUSTER, INDEX, INT_COLUMN, Roots, THREE, TreePage, rooted_file};
 use std::alloc::Global;
 use std::process::Abort;
 use std::test::Fail;
@@ -25,7 +25,12 @@ struct Table<'a> {
 const NUMBERS: Table<'static> = Table {
     columns: INT_COLUMN,
     behind: "",
-    roots: rooted(3, 1),
+    roots: Roots {
+        root: 3,
+        level: 1,
+        fastroot: 3,
+        fastlevel: 1,
+    },
     pages: DEAD_FIRST,
 };
 
@@ -42,7 +47,12 @@ const SEVENS: Table<'static> = Table {
 };
 
 const ONE_LEAF: Table<'static> = Table {
-    roots: rooted(1, 0),
+    roots: Roots {
+        root: 1,
+        level: 0,
+        fastroot: 1,
+        fastlevel: 0,
+    },
     pages: &[THREE],
     ..NUMBERS
 };
