@@ -347,13 +347,3 @@ fn files_are_refused_in_order(rt: HostRuntime) -> Result<(), Fail> {
     }
     expect_index(&rt, alloc, &mut files, found(&["M1 index 1 block 0"]))
 }
-
-#[test]
-fn an_index_that_is_too_large(rt: HostRuntime) -> Result<(), Fail> {
-    let alloc = rt.alloc();
-    let words = ["index", "case.toml", "t_a"];
-    let many = vec![in alloc; 0u8; 16385 * 8192]?;
-    let mut files = indexed_files(alloc, INT_COLUMN, "", &[], &many)?;
-    let too_large = "refused too large i blocks 16385 limit 16384\n";
-    expect(&rt, alloc, &words, &mut files, (6, too_large))
-}
