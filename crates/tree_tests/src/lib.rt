@@ -20,6 +20,8 @@ mod metapages;
 #[cfg(test)]
 mod scans;
 #[cfg(test)]
+mod sorted_scans;
+#[cfg(test)]
 mod steps;
 #[cfg(test)]
 mod targets;

@@ -13,13 +13,13 @@ use std::alloc::Global;
 use std::test::Fail;
 use test_files::UntoldFiles;
 
-// A bound on the first column: a value, and whether it is inclusive.
-type Edge = Option<(i64, bool)>;
+/// A bound on the first column: a value, and whether it is inclusive.
+pub type Edge = Option<(i64, bool)>;
 
 const ALL: (Edge, Edge) = (None, None);
 
-// The scan of the entries between two bounds.
-fn scan_of(alloc: Global, tree: &SoundTree, edges: (Edge, Edge)) -> Result<Scan, Fail>
+/// The scan of the entries between two bounds.
+pub fn scan_of(alloc: Global, tree: &SoundTree, edges: (Edge, Edge)) -> Result<Scan, Fail>
     ensures { IfOk result (FitsKey (specs_of tree.now)) }
 {
     let (low, high) = edges;
@@ -39,17 +39,17 @@ fn scan_of(alloc: Global, tree: &SoundTree, edges: (Edge, Edge)) -> Result<Scan,
     )?)
 }
 
-// Where a reader of a scan is, and which way it goes.
+/// Where a reader of a scan is, and which way it goes.
 #[derive(Drop)]
-struct Reader {
+pub struct Reader {
     backward: bool,
     spot: Spot,
     page: [u8; 8192],
     visits: Visits,
 }
 
-// A reader that hasn't begun.
-fn new_reader(backward: bool) -> Reader {
+/// A reader that hasn't begun.
+pub fn new_reader(backward: bool) -> Reader {
     Reader {
         backward,
         spot: Spot {
@@ -71,8 +71,8 @@ fn entry_on(tree: &SoundTree, page: &[u8; 8192], at: Spot) -> Option<(i64, u16)>
     }
 }
 
-// Goes to the leaf where a scan begins.
-fn start(
+/// Goes to the leaf where a scan begins.
+pub fn start(
     tree: &SoundTree,
     files: &mut UntoldFiles,
     scan: &Scan,
@@ -120,8 +120,8 @@ fn next_spot(
     }
 }
 
-// Goes past the next entry of a scan, and says which it is.
-fn next(
+/// Goes past the next entry of a scan, and says which it is.
+pub fn next(
     tree: &SoundTree,
     files: &mut UntoldFiles,
     scan: &Scan,
