@@ -1,0 +1,15 @@
+pub mod Splits
+pub mod Level
+pub mod LeafLevel
+pub mod Internal
+pub mod Tower
+pub mod Image
+pub mod Fill
+pub mod Sized
+pub mod Rise
+pub mod Groups
+pub mod Ends
+pub mod Example
+pub mod Seen
+pub mod Mapped
+pub mod Items
