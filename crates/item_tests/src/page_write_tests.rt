@@ -9,7 +9,7 @@ use key_orders::{ColType, Octets, Tid, Value};
 use outside::NoMemory;
 use page_write::{
     BodyFlags, Kept, PageWriter, body_flags, meta_page, put_heap_tuple, put_index_body,
-    put_pivot_tuple, put_plain_tuple,
+    put_pivot_tuple, put_plain_tuple, put_posting_tuple,
 };
 use std::alloc::Global;
 use std::process::Abort;
@@ -184,6 +184,11 @@ fn index_tuples(rt: HostRuntime) -> Result<(), Fail> {
     put_plain_tuple(&mut tuple, Tid { block: 0, item: 1 }, BOTH, body)?;
     let want = b"\0\0\0\0\x01\0\x18\xc0\x02\0\0\0\0\0\0\0\x07hi\0\0\0\0\0";
     holds(&rt, tuple.as_slice() == want.as_slice(), 3);
+    // One int4 with two TIDs.
+    let tids = [Tid { block: 0, item: 1 }, Tid { block: 0, item: 2 }];
+    put_posting_tuple(&mut tuple, &tids, FIXED, b"\x07\0\0\0")?;
+    let want = b"\0\0\x10\0\x02\x20\x20\x20\x07\0\0\0\0\0\0\0\0\0\0\0\x01\0\0\0\0\0\x02\0\0\0\0\0";
+    holds(&rt, tuple.as_slice() == want.as_slice(), 4);
     Ok(())
 }
 

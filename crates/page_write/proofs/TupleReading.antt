@@ -99,7 +99,7 @@ heap_tuple_body head nulls body fits =
 -- Tuples of an index
 
 -- a bit that is a power of 2
-bit_set : (word k : ℕ) → word / 2 ^ k % 2 ≡ 1 → 0 < 2 ^ k → has_bit word (2 ^ k) ≡ true
+pub bit_set : (word k : ℕ) → word / 2 ^ k % 2 ≡ 1 → 0 < 2 ^ k → has_bit word (2 ^ k) ≡ true
 unfolding has_bit
 bit_set word k e some = ap (λ (n : ℕ). not (n == 0)) (and_pow word k ∙ ap (λ (n : ℕ). n * 2 ^ k) e) ∙ ap not (ne_eqb (1 * 2 ^ k) 0 (λ none. omega (arith, none, some)))
 
@@ -107,7 +107,7 @@ bit_clear : (word k : ℕ) → word / 2 ^ k % 2 ≡ 0 → has_bit word (2 ^ k) �
 unfolding has_bit
 bit_clear word k e = ap (λ (n : ℕ). not (n == 0)) (and_pow word k ∙ ap (λ (n : ℕ). n * 2 ^ k) e) ∙ ap not (eq-eqb (0 * 2 ^ k) 0 (omega arith))
 
-reads_index_head : (block item info : ℕ) (rest : List ℕ) → block < 4294967296 → item < 65536 → info < 65536
+pub reads_index_head : (block item info : ℕ) (rest : List ℕ) → block < 4294967296 → item < 65536 → info < 65536
     → tree_head_of (index_head_bytes block item info ++ rest)
     ≡ record { block = block; item = item; info = info; kind = kind_of item info }
 unfolding tree_head_of index_head_bytes block_bytes u16_bytes u16_at block_at
@@ -118,7 +118,7 @@ reads_index_head block item info rest a b d = λ i. record {
   kind = kind_of (little_number-reads_back 2 item [] b i) (little_number-reads_back 2 info [] d i);
 }
 
-length_index_head : (block item info : ℕ) → length (index_head_bytes block item info) ≡ 8
+pub length_index_head : (block item info : ℕ) → length (index_head_bytes block item info) ≡ 8
 unfolding index_head_bytes block_bytes u16_bytes
 length_index_head block item info = refl
 
@@ -145,7 +145,7 @@ plain_word false true size small = (bit_clear (0 + 16384 + size) 13 (omega (arit
 plain_word false false size small = (bit_clear (0 + 0 + size) 13 (omega (arith, small)), omega (arith, small), bit_clear (0 + 0 + size) 15 (omega (arith, small)), omega (arith, small))
 
 -- what is asked of a tuple by its head and its values
-outcome_from : (specs : List KeySpec) (more : List MoreSpec) (spot : Spot3) (tuple : List ℕ) (killed : Bool) (head : TreeHead) (values : List Value) (is : Item)
+pub outcome_from : (specs : List KeySpec) (more : List MoreSpec) (spot : Spot3) (tuple : List ℕ) (killed : Bool) (head : TreeHead) (values : List Value) (is : Item)
     → tree_head_of tuple ≡ head → size_of head ≡ length tuple → breaks_form spot (length specs) (includes_some more) head ≡ false
     → body_begin head ≤ body_end head (length tuple) → values_in specs more tuple ≡ Ok values → breaks_tids_by head.kind tuple ≡ false
     → meaning_by head.kind (length specs) tuple killed values ≡ is → tuple_outcome specs more spot tuple killed ≡ Ok is
@@ -158,7 +158,7 @@ outcome_from specs more spot tuple killed head values is h size form begins told
     ∙ (λ i. outcome_by (Ok values) (tids i) (means i))
 
 -- the values by the head
-values_from : (specs : List KeySpec) (more : List MoreSpec) (tuple : List ℕ) (head : TreeHead) → tree_head_of tuple ≡ head
+pub values_from : (specs : List KeySpec) (more : List MoreSpec) (tuple : List ℕ) (head : TreeHead) → tree_head_of tuple ≡ head
     → values_in specs more tuple
     ≡ key_values (columns_by head.kind head specs more) (bytes_between tuple (body_begin head) (body_end head (length tuple)))
     (cond (has_null_bits head) (Some (take 4 (drop 8 tuple))) None)
@@ -171,7 +171,7 @@ after_head : (front back : List ℕ) → length front ≡ 8 → drop 8 (front ++
 after_head front back e = ap (λ (n : ℕ). drop n (front ++ back)) (sym e) ∙ drop-append_seam front back
 
 -- the bytes after the head up to an end, without the null bits
-part_between : (nulls : Bool) (front bytes rest : List ℕ) (end : ℕ) → length front ≡ 8 → end ≡ 8 + length bytes
+pub part_between : (nulls : Bool) (front bytes rest : List ℕ) (end : ℕ) → length front ≡ 8 → end ≡ 8 + length bytes
     → cond nulls 16 8 ≤ end
     → bytes_between (front ++ (bytes ++ rest)) (cond nulls 16 8) end ≡ cond nulls (drop 8 bytes) bytes
 part_between true front bytes rest end e is fits =
@@ -183,7 +183,7 @@ part_between false front bytes rest end e is fits =
     ap (take (end - 8)) (after_head front (bytes ++ rest) e)
     ∙ ap (λ (n : ℕ). take n (bytes ++ rest)) (omega (arith, is)) ∙ take-append_seam bytes rest
 
-nulls_between : (nulls : Bool) (front bytes rest : List ℕ) → length front ≡ 8 → cond nulls 16 8 ≤ 8 + length bytes
+pub nulls_between : (nulls : Bool) (front bytes rest : List ℕ) → length front ≡ 8 → cond nulls 16 8 ≤ 8 + length bytes
     → cond nulls (Some (take 4 (drop 8 (front ++ (bytes ++ rest))))) None ≡ cond nulls (Some (take 4 bytes)) None
 nulls_between true front bytes rest e fits =
     ap Some (ap (take 4) (after_head front (bytes ++ rest) e) ∙ take-append-le 4 bytes rest (omega (arith, fits)))
@@ -250,7 +250,7 @@ plain_means specs more tid flags body killed values is some short begins told =
 -- Separators
 
 -- a word of INDEX_ALT_TID_MASK, masks and a size below 0x2000
-pivot_word : (nulls varwidth : Bool) (n size : ℕ) → n ≡ 8192 + masks_of (record { nulls = nulls; varwidth = varwidth }) + size → size < 8192
+pub pivot_word : (nulls varwidth : Bool) (n size : ℕ) → n ≡ 8192 + masks_of (record { nulls = nulls; varwidth = varwidth }) + size → size < 8192
     → (has_bit n 0x2000 ≡ true) × (n % 8192 ≡ size) × (has_bit n 0x8000 ≡ nulls) × (n < 65536)
 pivot_word true true n size e small = (bit_set n 13 (omega (arith, e, small)) (omega arith), omega (arith, e, small), bit_set n 15 (omega (arith, e, small)) (omega arith), omega (arith, e, small))
 pivot_word true false n size e small = (bit_set n 13 (omega (arith, e, small)) (omega arith), omega (arith, e, small), bit_set n 15 (omega (arith, e, small)) (omega arith), omega (arith, e, small))
@@ -273,7 +273,7 @@ after_values : Option Tid → List ℕ
 after_values None = []
 after_values (Some tid) = tid_bytes tid
 
-length_tid : (tid : Tid) → length (tid_bytes tid) ≡ 6
+pub length_tid : (tid : Tid) → length (tid_bytes tid) ≡ 6
 unfolding tid_bytes block_bytes u16_bytes
 length_tid tid = refl
 
@@ -304,23 +304,25 @@ unfolding u16_at
 u16_after front back at k e =
     ap (λ (n : ℕ). little_number 2 (drop (n + k) (front ++ back))) e ∙ ap (little_number 2) (drop-append-add front back k)
 
-block_there : (tid : Tid) → IsTid tid → u16_at (tid_bytes tid) 0 * 65536 + u16_at (tid_bytes tid) 2 ≡ tid.block
+-- a TID with bytes after it
+block_with : (tid : Tid) (rest : List ℕ) → IsTid tid → u16_at (tid_bytes tid ++ rest) 0 * 65536 + u16_at (tid_bytes tid ++ rest) 2 ≡ tid.block
 unfolding u16_at tid_bytes block_bytes u16_bytes
-block_there tid is = block_back tid.block is.block
+block_with tid rest is = block_back tid.block is.block
 
-item_there : (tid : Tid) → IsTid tid → u16_at (tid_bytes tid) 4 ≡ tid.item
+item_with : (tid : Tid) (rest : List ℕ) → IsTid tid → u16_at (tid_bytes tid ++ rest) 4 ≡ tid.item
 unfolding u16_at tid_bytes block_bytes u16_bytes
-item_there tid is = little_number-reads_back 2 tid.item [] is.item
+item_with tid rest is = little_number-reads_back 2 tid.item [] is.item
 
-tid_reads : (front : List ℕ) (tid : Tid) (at : ℕ) → at ≡ length front → IsTid tid → tid_at (front ++ tid_bytes tid) at ≡ tid
+pub tid_with : (front rest : List ℕ) (tid : Tid) (at : ℕ) → at ≡ length front → IsTid tid → tid_at (front ++ (tid_bytes tid ++ rest)) at ≡ tid
 unfolding tid_at block_at
-tid_reads front tid at e is =
-    let high : u16_at (front ++ tid_bytes tid) at ≡ u16_at (tid_bytes tid) 0 =
-    ap (u16_at (front ++ tid_bytes tid)) (sym (add-zero at)) ∙ u16_after front (tid_bytes tid) at 0 e in
-    let low = u16_after front (tid_bytes tid) at 2 e in
-    let item_is = u16_after front (tid_bytes tid) at 4 e ∙ item_there tid is in
-    let block_is : u16_at (front ++ tid_bytes tid) at * 65536 + u16_at (front ++ tid_bytes tid) (at + 2) ≡ tid.block =
-    (λ i. high i * 65536 + low i) ∙ block_there tid is in
+tid_with front rest tid at e is =
+    let back : List ℕ = tid_bytes tid ++ rest in
+    let high : u16_at (front ++ back) at ≡ u16_at back 0 =
+    ap (u16_at (front ++ back)) (sym (add-zero at)) ∙ u16_after front back at 0 e in
+    let low = u16_after front back at 2 e in
+    let item_is = u16_after front back at 4 e ∙ item_with tid rest is in
+    let block_is : u16_at (front ++ back) at * 65536 + u16_at (front ++ back) (at + 2) ≡ tid.block =
+    (λ i. high i * 65536 + low i) ∙ block_with tid rest is in
     λ i. record { block = block_is i; item = item_is i }
 
 -- the TID that a pivot keeps
@@ -338,7 +340,8 @@ kept_is front (Some tid) body t e fit =
     cond-true _ _ _ e
     ∙ ap Some (ap (λ (n : ℕ). tid_at (front ++ (before_tid (Some tid) body ++ tid_bytes tid)) n) at
     ∙ ap (λ (z : List ℕ). tid_at z (length front_all)) whole
-    ∙ tid_reads front_all tid (length front_all) refl (fit tid refl))
+    ∙ ap (λ (z : List ℕ). tid_at (front_all ++ z) (length front_all)) (sym (append-nil (tid_bytes tid)))
+    ∙ tid_with front_all [] tid (length front_all) refl (fit tid refl))
 
 -- the end of a pivot's values
 end_is : (t : Bool) (size before six : ℕ) → six ≡ cond t 6 0 → size ≡ 8 + before + six → cond t (size - 6) size ≡ 8 + before

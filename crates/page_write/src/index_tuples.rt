@@ -14,7 +14,7 @@ const INDEX_NULL_MASK: u16 = 0x8000;
 
 const INDEX_VAR_MASK: u16 = 0x4000;
 
-const INDEX_ALT_TID_MASK: u16 = 0x2000;
+pub(crate) const INDEX_ALT_TID_MASK: u16 = 0x2000;
 
 const BT_PIVOT_HEAP_TID_ATTR: u16 = 0x1000;
 
@@ -31,7 +31,7 @@ impl BodyFlags {
     ghost use Rattle.page_write.specs.Tuples.{masks_of};
 
     // The bits of the info word.
-    fn masks(self) -> u16
+    pub(crate) fn masks(self) -> u16
         ensures value { result ≡ masks_of self }
         ensures most { result ≤ 0xC000 }
     {
@@ -46,7 +46,12 @@ impl BodyFlags {
 
 // Adds the head of a tuple.
 #[tactic(auto, unfolding(crate::specs::Tuples::index_head_bytes))]
-fn push_index_head(out: &mut Vec<u8>, block: u32, item: u16, info: u16) -> Result<(), NoMemory>
+pub(crate) fn push_index_head(
+    out: &mut Vec<u8>,
+    block: u32,
+    item: u16,
+    info: u16,
+) -> Result<(), NoMemory>
     ensures { OnOk result (out.new.items ≡ out.old.items ++ index_head_bytes block item info) }
 {
     push_block(out, block)?;
@@ -55,7 +60,7 @@ fn push_index_head(out: &mut Vec<u8>, block: u32, item: u16, info: u16) -> Resul
 }
 
 // The bytes of a head and a body, rounded up.
-fn index_size(body: &[u8]) -> u16
+pub(crate) fn index_size(body: &[u8]) -> u16
     requires { length body.now ≤ 8160 }
     ensures value { result ≡ index_size (length body.now) }
     ensures most { result ≤ 8168 }
@@ -65,7 +70,7 @@ fn index_size(body: &[u8]) -> u16
 
 // Adds a body and its padding.
 #[tactic(auto, unfolding(crate::specs::Tuples::padded_body))]
-fn push_body(out: &mut Vec<u8>, body: &[u8]) -> Result<(), NoMemory>
+pub(crate) fn push_body(out: &mut Vec<u8>, body: &[u8]) -> Result<(), NoMemory>
     requires { length body.now ≤ 8160 }
     ensures { OnOk result (out.new.items ≡ out.old.items ++ padded_body body.now) }
 {

@@ -1,6 +1,6 @@
 //! The laws of what is laid, for whom reasons about it.
 ghost use Rattle.std.specs.Prelude.{◌≡◌, ◌≢◌, ◌≤◌, ◌<◌, ◌+◌, ◌-◌, [], ◌∷◌, ◌++◌, Bool, ℕ, List, Option, None, Ok};
-ghost use Rattle.std.specs.Prelude.{length, take, drop};
+ghost use Rattle.std.specs.Prelude.{length, take, drop, false};
 ghost use Rattle.page_layout.specs.declared.page.LineFlag.TheVariants.{Normal};
 ghost use Rattle.page_layout.specs.declared.page.PageKind.TheVariants.{Heap, Meta, Tree};
 ghost use Rattle.page_layout.specs.Page.{count_of, header_of, item_of, page_rule_of, piece_of};
@@ -16,12 +16,14 @@ ghost use Rattle.bt_meta.specs.declared.records.Meta.{Meta as Numbers};
 ghost use Rattle.bt_meta.specs.declared.records.Opaque.{Opaque as Special};
 ghost use Rattle.bt_meta.specs.Pages.{meta_of, opaque_of};
 ghost use Rattle.bt_tuples.specs.declared.items.Spot3.TheVariants.{FirstInner, HighKey, Inner, LeafItem};
-ghost use Rattle.bt_tuples.specs.Items.{Pivot, Plain, tuple_outcome};
+ghost use Rattle.bt_tuples.specs.Items.{Pivot, Plain, Posting, tuple_outcome};
+ghost use Rattle.bt_tuples.specs.Rules.{includes_some};
 ghost use Rattle.page_write.specs.declared.index_tuples.BodyFlags.{BodyFlags as Flags};
 ghost use Rattle.page_write.specs.Bodies.{MayAllStand, body_flags, index_body};
 ghost use Rattle.page_write.specs.Fields.{IsBody, IsHeapHead, IsMeta, IsOpaque, IsTid, MayKeep};
 ghost use Rattle.page_write.specs.Pages.{FitsBelow, header_with, heap_page, lower_for, meta_page, meta_special};
 ghost use Rattle.page_write.specs.Pages.{page_with, room_for, room_of, tree_page};
+ghost use Rattle.page_write.specs.Posting.{HasListRoom, IsTidList, posting_size, posting_tuple};
 ghost use Rattle.page_write.specs.Tuples.{before_tid, fixed_width, heap_tuple, nulls_part, padded_body, pivot_tuple};
 ghost use Rattle.page_write.specs.Tuples.{plain_tuple, values_part};
 
@@ -114,6 +116,23 @@ pub fn index_tuples_read_back()
     ensures first { (specs : List Spec) (more : List More) (down : ℕ) (killed : Bool) → down < 4294967296
         → tuple_outcome specs more FirstInner (pivot_tuple down 0 None fixed_width []) killed
         ≡ Ok (Pivot (record { kept = []; tid = None }) down) }
+{}
+
+/// The bytes of a posting tuple mean what was laid, where its values can be read from the body, its TIDs are
+/// a list that rises, and the index includes no columns beside its key.
+///
+/// - `size`: it has as many bytes as its size says.
+/// - `means`: it has the values and the TIDs that were laid, and breaks none of B6 to B9.
+pub fn posting_tuples_read_back()
+    ensures size { (tids : List Place) (flags : Flags) (body : List ℕ)
+        → length (posting_tuple tids flags body) ≡ posting_size (length body) (length tids) }
+    ensures means { (specs : List Spec) (more : List More) (tids : List Place) (flags : Flags) (body : List ℕ)
+        (killed : Bool) (values : List Value) → includes_some more ≡ false → IsTidList tids → IsBody flags body
+        → HasListRoom (length body) (length tids)
+        → key_values (key_types specs ++ more_types more) (values_part flags (padded_body body))
+        (nulls_part flags (padded_body body)) ≡ Ok values
+        → tuple_outcome specs more LeafItem (posting_tuple tids flags body) killed
+        ≡ Ok (Posting (take (length specs) values) tids killed) }
 {}
 
 /// The values of a body that was laid are what the readers of index tuples read, where they may stand in their

@@ -7,6 +7,7 @@ mod index_tuples;
 mod laws;
 mod meta;
 mod page;
+mod posting;
 mod words;
 
 pub use bodies::{body_flags, put_index_body};
@@ -14,8 +15,9 @@ pub use heap_tuples::put_heap_tuple;
 pub use index_tuples::{BodyFlags, Kept, put_pivot_tuple, put_plain_tuple};
 pub use laws::{
     bodies_read_back, heap_tuples_read_back, index_tuples_read_back, laid_pages_read_back,
-    metapages_read_back,
+    metapages_read_back, posting_tuples_read_back,
 };
 pub use meta::meta_page;
 pub use page::PageWriter;
+pub use posting::put_posting_tuple;
 pub use words::{push_bytes, push_zeros};
