@@ -1,0 +1,15 @@
+pub mod Bodies
+pub mod Short
+pub mod Room
+pub mod Meanings
+pub mod Images
+pub mod Laid
+pub mod Whole
+pub mod Keys
+pub mod Separated
+pub mod Grouped
+pub mod Sheets
+pub mod Levels
+pub mod Placed
+pub mod PageRules
+pub mod TreeRules

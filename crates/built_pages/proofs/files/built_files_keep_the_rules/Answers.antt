@@ -1,0 +1,24 @@
+use Rattle.std.proofs.Common.{refl, arith}
+use Rattle.built_pages.specs.Sizes.{index_tree}
+use Rattle.built_pages.proofs.Keys.{HaveOrders, keyed}
+use Rattle.built_pages.proofs.PageRules.{HaveReadings}
+use Rattle.built_pages.proofs.TreeRules.{keeps_rules}
+use Rattle.built_pages.proofs.files.built_files_keep_the_rules.Goals as goal
+
+pub returns : goal.returns
+returns c specs more es may few =
+    let o = c.key_orders_are_total.ensures in
+    let laws : HaveOrders = record { column = o.column; keys = o.keys; order = c.keys_are_searchable.ensures.order; same_key = o.same_key } in
+    let seps = c.laid_separators_mean.ensures in
+    let readings : HaveReadings specs more =
+    record {
+      entries = c.laid_items_mean.ensures specs more;
+      high_key = λ s fits. seps.high_key specs more 0 s (omega arith) fits;
+      inner = λ down s small fits. seps.inner specs more down s small fits;
+      first = λ down small. seps.first specs more down small;
+      meaning = λ down s small fits. seps.meaning specs more down s small fits;
+      nothing = λ down small. seps.nothing specs more down small;
+      exact = λ spot page i item h. let e = c.item_rules_are_exact.ensures.read specs more spot page i item h in (e.0, e.1);
+    } in
+    keeps_rules specs more readings (index_tree specs more es) es (c.index_trees_may_be_laid.ensures specs more es may few) (c.built_files_are_sound.ensures specs more es may few) (keyed laws specs)
+    (omega arith) refl (λ p fit. c.built_bytes_mean.ensures.page specs more p fit)

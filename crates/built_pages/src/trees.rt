@@ -1,0 +1,33 @@
+//! What the bytes of a tree of items mean to a search.
+ghost use Rattle.std.specs.Prelude.{◌≡◌, List, if◌then◌else◌, []};
+ghost use Rattle.key_orders.specs.declared.columns.KeySpec.{KeySpec as Spec};
+ghost use Rattle.key_orders.specs.declared.more.MoreSpec.{MoreSpec as More};
+ghost use Rattle.tree_search.specs.Search.{entries_of};
+ghost use Rattle.tree_image.specs.Image.{index_entries, index_image, leaf_entries_with_more, page_image};
+ghost use Rattle.tree_built.specs.Built.{IsLaidAs};
+ghost use Rattle.tree_built.specs.Cuts.{joined};
+ghost use Rattle.tree_built.specs.Seen.{index_seen, page_seen};
+ghost use Rattle.built_pages.specs.Trees.{IsPageFit, IsTreeFit, ItemPage, ItemTree, built_block, keys_of, page_bytes};
+
+use crate::items::{laid_items_mean, laid_separators_mean};
+
+/// The bytes of a tree of items are that tree, seen by the keys of its entries; and their entries are
+/// those of its leaves, with their included values.
+///
+/// - `page`, `page_entries`: a page of it.
+/// - `image`: the whole of it. With `tree_built` it then has what a search needs, breaks no rule on
+///   levels and has the entries that were given.
+/// - `entries`: the entries by block number.
+pub fn built_bytes_mean()
+    ensures page { (specs : List Spec) (more : List More) (p : ItemPage) → IsPageFit specs more p
+        → page_image specs more (page_bytes specs more p) ≡ page_seen keys_of p }
+    ensures page_entries { (specs : List Spec) (more : List More) (p : ItemPage) → IsPageFit specs more p
+        → leaf_entries_with_more specs more (page_bytes specs more p) ≡ (if p.leaf then joined p.entries else []) }
+    ensures image { (specs : List Spec) (more : List More) (x : ItemTree) → IsTreeFit specs more x
+        → IsLaidAs (index_image specs more x.blocks (built_block specs more x)) (index_seen keys_of x) }
+    ensures entries { (specs : List Spec) (more : List More) (x : ItemTree) → IsTreeFit specs more x
+        → index_entries specs more x.blocks (built_block specs more x) ≡ entries_of (index_seen joined x) }
+{
+    laid_items_mean();
+    laid_separators_mean();
+}
