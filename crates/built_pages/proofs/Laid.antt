@@ -1,5 +1,5 @@
 -- The bytes of a tree of items.
-use Rattle.std.proofs.Common.{◌≡◌, ◌≢◌, ◌<◌, inl, inr, ℕ, Bool, true, false, ◌&&◌, cond, not, List, [], ◌∷◌, ◌++◌, map, refl, sym, ap, ◌∙◌, arith}
+use Rattle.std.proofs.Common.{◌≡◌, ◌≢◌, ◌<◌, inl, inr, ℕ, Bool, true, false, ◌&&◌, cond, not, List, [], ◌∷◌, ◌++◌, map, refl, sym, ap, ◌∙◌, arith, subst}
 use Rattle.std.specs.Prelude.{Option, Some, None, is_some, option_map}
 use Rattle.std.specs.List.{AllByRecursion, flat_map}
 use Rattle.std.specs.Option.{ForSome}
@@ -13,6 +13,7 @@ use Rattle.key_orders.specs.declared.columns.KeySpec.{KeySpec}
 use Rattle.key_orders.specs.declared.columns.Value.{Value}
 use Rattle.key_orders.specs.declared.more.MoreSpec.{MoreSpec}
 use Rattle.key_orders.specs.declared.Tid.{Tid}
+use Rattle.bt_meta.specs.Pages.{meta_of}
 use Rattle.bt_tuples.specs.Items.{Pivot, meaning_of}
 use Rattle.tree_image.specs.Image.{LeafEntry, child_in, entries_in, index_entries, index_image, keys_in, leaf_entries_with_more, minus_infinity, page_image, separator_in}
 use Rattle.page_write.proofs.Reading.{meta_numbers}
@@ -20,6 +21,7 @@ use Rattle.tree_built.specs.Built.{IsLaidAs}
 use Rattle.tree_built.specs.Cuts.{joined}
 use Rattle.tree_built.specs.Seen.{index_seen, page_seen}
 use Rattle.built_pages.specs.Items.{IsRead, MayBeItem, MaySplit, leaf_item, pivot_item}
+use Rattle.built_pages.specs.Files.{AreBlocksOf}
 use Rattle.built_pages.specs.Pages.{IsLaidWell, laid_image, means}
 use Rattle.built_pages.proofs.Images.{entries_are, image_is}
 use Rattle.built_pages.specs.Trees.{IsDownlink, IsPageFit, IsTreeFit, ItemPage, ItemTree, MayLead, built_block, keys_of, laid_of, meta_in, page_bytes}
@@ -130,16 +132,20 @@ module _ (specs : List KeySpec) (more : List MoreSpec)
   block_there : (x : ItemTree) (b : ℕ) → b ≢ 0 → built_block specs more x b ≡ page_bytes specs more (x.page b)
   block_there x b some = cond-false _ _ _ (ne_eqb b 0 some)
 
-  pub tree_is : (x : ItemTree) → IsTreeFit specs more x → IsLaidAs (index_image specs more x.blocks (built_block specs more x)) (index_seen keys_of x)
-  tree_is x fit =
-      let numbers = meta_numbers (meta_in x) fit.numbers in
+  inside_tree : (x : ItemTree) (blocks : ℕ) (block : ℕ → List ℕ) → AreBlocksOf specs more x blocks block → (b : ℕ) → b < blocks → b < x.blocks
+  inside_tree x blocks block same b inside = subst (λ (n : ℕ). b < n) same.count inside
+
+  pub tree_is : (x : ItemTree) (blocks : ℕ) (block : ℕ → List ℕ) → IsTreeFit specs more x → AreBlocksOf specs more x blocks block → IsLaidAs (index_image specs more blocks block) (index_seen keys_of x)
+  tree_is x blocks block fit same =
+      let first : block 0 ≡ built_block specs more x 0 = same.each 0 (subst (λ (n : ℕ). 0 < n) (sym same.count) fit.some) in
+      let numbers = ap meta_of first ∙ meta_numbers (meta_in x) fit.numbers in
       record {
-        blocks = refl;
+        blocks = same.count;
         root = ap (λ m. m.root) numbers;
         level = ap (λ m. m.level) numbers;
         fastroot = ap (λ m. m.fastroot) numbers;
         fastlevel = ap (λ m. m.fastlevel) numbers;
-        page = λ b some inside. ap (page_image specs more) (block_there x b some) ∙ page_is (x.page b) (fit.pages b some inside);
+        page = λ b some inside. ap (page_image specs more) (same.each b inside ∙ block_there x b some) ∙ page_is (x.page b) (fit.pages b some (inside_tree x blocks block same b inside));
       }
 
   -- what a leaf gives
@@ -154,11 +160,12 @@ module _ (specs : List KeySpec) (more : List MoreSpec)
   same_given f g [] h = refl
   same_given f g (b ∷ bs) h = λ i. h b (inl refl) i ++ same_given f g bs (λ c there. h c (inr there)) i
 
-  pub tree_entries : (x : ItemTree) → IsTreeFit specs more x → index_entries specs more x.blocks (built_block specs more x) ≡ entries_of (index_seen joined x)
-  tree_entries x fit =
-      same_given (λ b. leaf_entries_with_more specs more (built_block specs more x b)) (λ b. leaf_entries (page_seen joined (x.page b))) (tree_blocks x.blocks)
+  pub tree_entries : (x : ItemTree) (blocks : ℕ) (block : ℕ → List ℕ) → IsTreeFit specs more x → AreBlocksOf specs more x blocks block → index_entries specs more blocks block ≡ entries_of (index_seen joined x)
+  tree_entries x blocks block fit same =
+      ap (λ (n : ℕ). index_entries specs more n block) same.count
+      ∙ same_given (λ b. leaf_entries_with_more specs more (block b)) (λ b. leaf_entries (page_seen joined (x.page b))) (tree_blocks x.blocks)
       (λ b there.
       let is = block_of x.blocks b there in
-      ap (leaf_entries_with_more specs more) (block_there x b is.0)
+      ap (leaf_entries_with_more specs more) (same.each b (subst (λ (n : ℕ). b < n) (sym same.count) is.1) ∙ block_there x b is.0)
       ∙ page_entries_are (x.page b) (fit.pages b is.0 is.1)
       ∙ leaf_gives x b (fit.pages b is.0 is.1))

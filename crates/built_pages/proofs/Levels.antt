@@ -262,6 +262,7 @@ module _ (laws : HaveOrders) (specs : List KeySpec) (more : List MoreSpec) (es :
       let laid : List (Page (Separator Value Tid) (List LeafEntry)) = lay_levels (built_levels k (internal_pages z) pages) 0 1 in
       let high : length (built_levels k (internal_pages z) pages) ≤ length laid = no_more_levels sheets 0 1 in
       record {
+        some = omega arith;
         numbers = record { magic = omega arith; version = omega arith; root = omega (arith, few); level = omega (arith, few, high); fastroot = omega (arith, few); fastlevel = omega (arith, few, high) };
         pages = λ b some inside. page_there (IsPageFit specs more) laid b (start sheets (leaves_fit specs more k pages None each_leaf) leaves_parted (omega (arith, few))) some inside;
       }

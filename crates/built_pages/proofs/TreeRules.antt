@@ -20,8 +20,8 @@ use Rattle.key_orders.specs.Scans.{order_of}
 use Rattle.bt_meta.specs.declared.records.Meta.{Meta}
 use Rattle.bt_meta.specs.declared.records.Opaque.{Opaque}
 use Rattle.bt_meta.specs.Flags.{is_leaf, is_meta}
-use Rattle.bt_meta.specs.Pages.{has_bad_root, is_foreign, is_just_one_zero, is_no_metapage, meta_of, opaque_of}
-use Rattle.tree_image.specs.Image.{LeafEntry, TreeIndex, TreePage, downlink_in, item_at, page_image}
+use Rattle.bt_meta.specs.Pages.{KeepsMetaRules, has_bad_root, is_foreign, is_just_one_zero, is_no_metapage, meta_of, opaque_of}
+use Rattle.tree_image.specs.Image.{LeafEntry, TreeIndex, TreePage, index_image, downlink_in, item_at, page_image}
 use Rattle.tree_image.specs.Pages.{IsDataItem, IsPlainItem, KeepsPage, KeepsTreeRules, breaks_downlink, breaks_flags, breaks_half_dead, breaks_high_key, breaks_items, breaks_level, breaks_order, breaks_siblings, is_bad_sibling}
 use Rattle.page_write.specs.Pages.{header_with, meta_page}
 use Rattle.page_write.proofs.Reading.{meta_header, meta_numbers, meta_special_is}
@@ -29,7 +29,7 @@ use Rattle.tree_built.specs.Cuts.{joined}
 use Rattle.tree_built.specs.Fresh.{DoItemsClimb, IsKeyOrder, ItemsClimb, pages_upward}
 use Rattle.tree_built.specs.Seen.{order_by, page_seen}
 use Rattle.tree_built.proofs.Mapped.{each_back, rising_back}
-use Rattle.built_pages.specs.Files.{IsFileOf, image_of}
+use Rattle.built_pages.specs.Files.{IsFileOf}
 use Rattle.built_pages.specs.Sizes.{entry_in, splitter_of}
 use Rattle.built_pages.specs.Trees.{IsPageFit, IsTreeFit, ItemPage, ItemTree, built_block, keys_of, meta_in, page_bytes}
 use Rattle.built_pages.proofs.PageRules.{HaveReadings, climbing, each_downlink, keeps_flags, keeps_half_dead, keeps_inner_end, keeps_inner_order, keeps_items, keeps_layout, keeps_leaf_end, keeps_leaf_order, keeps_plain, no_meta}
@@ -63,13 +63,11 @@ record RowOf (specs : List KeySpec) (image : TreeIndex) (b : ℕ) : Type 0 where
   is : row_page row ≡ b
   climb : DoItemsClimb (order_of specs) (splitter_of specs) image row
 
-module _ (specs : List KeySpec) (more : List MoreSpec) (laws : HaveReadings specs more) (x : ItemTree) (es : List LeafEntry) (fit : IsTreeFit specs more x) (file : IsFileOf specs more x es) (keyed : IsKeyOrder (order_of specs))
+module _ (specs : List KeySpec) (more : List MoreSpec) (laws : HaveReadings specs more) (x : ItemTree) (block : ℕ → List ℕ) (es : List LeafEntry) (fit : IsTreeFit specs more x)
+    (each : (b : ℕ) → b < x.blocks → block b ≡ built_block specs more x b) (file : IsFileOf specs more x.blocks block es) (keyed : IsKeyOrder (order_of specs))
     (low : x.root < x.blocks) (fast : x.fastroot ≡ x.root) (seen : (p : ItemPage) → IsPageFit specs more p → page_image specs more (page_bytes specs more p) ≡ page_seen keys_of p) where
-  abbrev block : ℕ → List ℕ
-  block = built_block specs more x
-
   abbrev image : TreeIndex
-  image = image_of specs more x
+  image = index_image specs more x.blocks block
 
   module _ (b : ℕ) (some : b ≢ 0) (inside : b < x.blocks) where
     abbrev p : ItemPage
@@ -79,7 +77,7 @@ module _ (specs : List KeySpec) (more : List MoreSpec) (laws : HaveReadings spec
     page_fit = fit.pages b some inside
 
     there : page_bytes specs more p ≡ block b
-    there = sym (cond-false _ _ _ (ne_eqb b 0 some))
+    there = sym (each b inside ∙ cond-false _ _ _ (ne_eqb b 0 some))
 
     seen_there : page_image specs more (block b) ≡ page_seen keys_of p
     seen_there = ap (page_image specs more) (sym there) ∙ seen p page_fit
@@ -205,6 +203,9 @@ module _ (specs : List KeySpec) (more : List MoreSpec) (laws : HaveReadings spec
 
   -- the metapage
 
+  first_there : block 0 ≡ meta_page (meta_in x)
+  first_there = each 0 fit.some
+
   upper_there : upper_of (meta_page (meta_in x)) ≡ 8176
   unfolding header_of header_with
   upper_there = ap (λ h. h.upper) (meta_header (meta_in x))
@@ -236,7 +237,7 @@ module _ (specs : List KeySpec) (more : List MoreSpec) (laws : HaveReadings spec
   pub keeps_rules : KeepsTreeRules specs more x.blocks block
   keeps_rules = record {
     some = omega (arith, low);
-    metapage = record { metapage = keeps_metapage; roots = λ version. keeps_roots };
-    version = ap (λ (m : Meta). m.version) (meta_numbers (meta_in x) fit.numbers);
+    metapage = subst (KeepsMetaRules x.blocks) (sym first_there) (record { metapage = keeps_metapage; roots = λ version. keeps_roots });
+    version = ap (λ (w : List ℕ). (meta_of w).version) first_there ∙ ap (λ (m : Meta). m.version) (meta_numbers (meta_in x) fit.numbers);
     pages = λ b some inside idle. keeps_page b some inside;
   }

@@ -1,5 +1,5 @@
 -- The file of given entries.
-use Rattle.std.proofs.Common.{◌≡◌, ◌<◌, List, map, refl, ◌∙◌, subst}
+use Rattle.std.proofs.Common.{◌≡◌, ◌<◌, ℕ, List, map, refl, ◌∙◌, subst}
 use Rattle.tree_search.specs.Tree.{Index}
 use Rattle.tree_search.specs.Search.{entries_of}
 use Rattle.tree_search.specs.Keys.{Separator}
@@ -11,7 +11,7 @@ use Rattle.key_orders.specs.declared.columns.Value.{Value}
 use Rattle.key_orders.specs.declared.more.MoreSpec.{MoreSpec}
 use Rattle.key_orders.specs.declared.Tid.{Tid}
 use Rattle.key_orders.specs.Scans.{order_of}
-use Rattle.tree_image.specs.Image.{LeafEntry, index_entries}
+use Rattle.tree_image.specs.Image.{LeafEntry, index_entries, index_image}
 use Rattle.tree_built.specs.Built.{IsLaidAs, built}
 use Rattle.tree_built.specs.Cuts.{fill_pages, joined}
 use Rattle.tree_built.specs.Fresh.{IsGiven}
@@ -21,8 +21,8 @@ use Rattle.tree_built.proofs.Image.{entries, finds_among, fresh, searchable, sou
 use Rattle.tree_built.proofs.Items.{joined_as_built, pages_have_entries}
 use Rattle.tree_built.proofs.Mapped.{given_back, mapped_as_built}
 use Rattle.tree_built.proofs.Sized.{sized_by_cut, sized_by_given}
-use Rattle.built_pages.specs.Trees.{built_block, keys_of}
-use Rattle.built_pages.specs.Files.{IsFileOf, image_of}
+use Rattle.built_pages.specs.Trees.{keys_of}
+use Rattle.built_pages.specs.Files.{IsFileOf}
 use Rattle.built_pages.specs.Sizes.{entry_in, splitter_of, tree_of}
 
 laid_self : {S E : Type 0} (x : Index S E) → IsLaidAs x x
@@ -39,28 +39,28 @@ laid_then x y z h g = record {
 }
 
 module _ (specs : List KeySpec) (more : List MoreSpec) (z : Sizes (Separator Value Tid) LeafEntry) (items : List (List LeafEntry)) (es : List LeafEntry) (sized : IsSizedBy entry_in (order_of specs) (splitter_of specs) z items es)
-    (image : IsLaidAs (image_of specs more (tree_of specs z items)) (index_seen keys_of (tree_of specs z items)))
-    (gathered : index_entries specs more (tree_of specs z items).blocks (built_block specs more (tree_of specs z items)) ≡ entries_of (index_seen joined (tree_of specs z items))) where
+    (blocks : ℕ) (block : ℕ → List ℕ) (image : IsLaidAs (index_image specs more blocks block) (index_seen keys_of (tree_of specs z items)))
+    (gathered : index_entries specs more blocks block ≡ entries_of (index_seen joined (tree_of specs z items))) where
   abbrev pages : List (List (List LeafEntry))
   pages = fill_pages z.item_size z.item_size z.budget items
 
   joined_laid : IsLaidAs (index_seen joined (tree_of specs z items)) (built (splitter_by entry_in (splitter_of specs)) (internal_pages z) (leaf_pages z items))
   joined_laid = joined_as_built (splitter_by entry_in (splitter_of specs)) (internal_pages z) pages (tree_of specs z items) (pages_have_entries z.item_size z.budget items sized.items_cut.filled) (laid_self (tree_of specs z items))
 
-  keys_laid : IsLaidAs (image_of specs more (tree_of specs z items)) (built (splitter_of specs) (internal_pages z) (map (map entry_in) (leaf_pages z items)))
-  keys_laid = laid_then (image_of specs more (tree_of specs z items)) (index_seen keys_of (tree_of specs z items)) (built (splitter_of specs) (internal_pages z) (map (map entry_in) (leaf_pages z items))) image
+  keys_laid : IsLaidAs (index_image specs more blocks block) (built (splitter_of specs) (internal_pages z) (map (map entry_in) (leaf_pages z items)))
+  keys_laid = laid_then (index_image specs more blocks block) (index_seen keys_of (tree_of specs z items)) (built (splitter_of specs) (internal_pages z) (map (map entry_in) (leaf_pages z items))) image
       (mapped_as_built entry_in (splitter_of specs) (internal_pages z) (leaf_pages z items) (index_seen joined (tree_of specs z items)) joined_laid)
 
   given : IsGiven (order_of specs) (splitter_of specs) (internal_pages z) (map (map entry_in) (leaf_pages z items)) (map entry_in es)
   given = sized_by_given entry_in (order_of specs) (splitter_of specs) z items es sized
 
-  pub file_of : IsFileOf specs more (tree_of specs z items) es
+  pub file_of : IsFileOf specs more blocks block es
   file_of =
       let o = order_of specs in
       let k = splitter_of specs in
       let cut = internal_pages z in
       let leaves = map (map entry_in) (leaf_pages z items) in
-      let x = image_of specs more (tree_of specs z items) in
+      let x = index_image specs more blocks block in
       let fit = searchable o k cut x leaves (map entry_in es) given keys_laid in
       record {
         searchable = fit;

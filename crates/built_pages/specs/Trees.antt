@@ -103,7 +103,8 @@ pub record IsPageFit (specs : List KeySpec) (more : List MoreSpec) (p : ItemPage
   pub room : FitsBelow 8176 (items_of (laid_of specs more p))
   pub fields : IsOpaque (special_of (laid_of specs more p))
 
--- its numbers fit their fields, and each page may be laid
+-- there is a metapage, its numbers fit their fields, and each page may be laid
 pub record IsTreeFit (specs : List KeySpec) (more : List MoreSpec) (x : ItemTree) : Type 0 where
+  pub some : 0 < x.blocks
   pub numbers : IsMeta (meta_in x)
   pub pages : (b : ℕ) → b ≢ 0 → b < x.blocks → IsPageFit specs more (x.page b)

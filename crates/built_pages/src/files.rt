@@ -1,5 +1,5 @@
 //! The file of an index with given entries.
-ghost use Rattle.std.specs.Prelude.{◌≡◌, ◌≤◌, ◌<◌, List, length, true};
+ghost use Rattle.std.specs.Prelude.{◌≡◌, ◌≤◌, ◌<◌, ℕ, List, length, true};
 ghost use Rattle.std.specs.List.{All};
 ghost use Rattle.key_orders.specs.declared.columns.KeySpec.{KeySpec as Spec};
 ghost use Rattle.key_orders.specs.declared.more.MoreSpec.{MoreSpec as More};
@@ -7,10 +7,10 @@ ghost use Rattle.key_orders.specs.Scans.{order_of};
 ghost use Rattle.tree_image.specs.Image.{LeafEntry};
 ghost use Rattle.tree_image.specs.Pages.{KeepsTreeRules};
 ghost use Rattle.tree_built.specs.Cuts.{IsCut};
-ghost use Rattle.built_pages.specs.Files.{IsFileOf};
+ghost use Rattle.built_pages.specs.Files.{AreBlocksOf, IsFileOf};
 ghost use Rattle.built_pages.specs.Items.{MayBeItem, MayBeLaid, MaySplit, leaf_item, pivot_item, plain_item};
 ghost use Rattle.built_pages.specs.Sizes.{AreIndexable, index_tree, items_for, splitter_of};
-ghost use Rattle.built_pages.specs.Trees.{IsTreeFit, built_block};
+ghost use Rattle.built_pages.specs.Trees.{IsTreeFit};
 
 use crate::items::{laid_items_mean, laid_separators_mean};
 use crate::trees::built_bytes_mean;
@@ -61,12 +61,13 @@ pub fn index_trees_may_be_laid()
     keys_are_searchable();
 }
 
-/// The file of entries that may be indexed is a sound index of exactly these entries (`IsFileOf`), where the
-/// numbers of its blocks fit 32 bits.
+/// The blocks of the tree of entries that may be indexed are a sound index of exactly these entries (`IsFileOf`),
+/// where their numbers fit 32 bits, whoever holds them.
 pub fn built_files_are_sound()
-    ensures { (specs : List Spec) (more : List More) (es : List LeafEntry) → AreIndexable specs more es
+    ensures { (specs : List Spec) (more : List More) (es : List LeafEntry) (blocks : ℕ) (block : ℕ → List ℕ)
+        → AreIndexable specs more es
         → (index_tree specs more es).blocks < 4294967296
-        → IsFileOf specs more (index_tree specs more es) es }
+        → AreBlocksOf specs more (index_tree specs more es) blocks block → IsFileOf specs more blocks block es }
 {
     built_bytes_mean();
     index_trees_may_be_laid();
@@ -74,14 +75,15 @@ pub fn built_files_are_sound()
     keys_are_searchable();
 }
 
-/// The file of entries that may be indexed breaks none of the rules on its metapage (M1, M2), on single pages (P1 to
-/// P4, B1 to B4, B10 to B13) and on their items (B5 to B9), and no value of it is compressed, where the numbers of
-/// its blocks fit 32 bits.
+/// The blocks of the tree of entries that may be indexed break none of the rules on the metapage (M1, M2), on single
+/// pages (P1 to P4, B1 to B4, B10 to B13) and on their items (B5 to B9), and no value in them is compressed, where
+/// their numbers fit 32 bits, whoever holds them.
 pub fn built_files_keep_the_rules()
-    ensures { (specs : List Spec) (more : List More) (es : List LeafEntry) → AreIndexable specs more es
+    ensures { (specs : List Spec) (more : List More) (es : List LeafEntry) (blocks : ℕ) (block : ℕ → List ℕ)
+        → AreIndexable specs more es
         → (index_tree specs more es).blocks < 4294967296
-        → KeepsTreeRules specs more (index_tree specs more es).blocks
-        (built_block specs more (index_tree specs more es)) }
+        → AreBlocksOf specs more (index_tree specs more es) blocks block
+        → KeepsTreeRules specs more blocks block }
 {
     laid_items_mean();
     laid_separators_mean();

@@ -1,5 +1,5 @@
 //! What the bytes of a tree of items mean to a search.
-ghost use Rattle.std.specs.Prelude.{◌≡◌, List, if◌then◌else◌, []};
+ghost use Rattle.std.specs.Prelude.{◌≡◌, ℕ, List, if◌then◌else◌, []};
 ghost use Rattle.key_orders.specs.declared.columns.KeySpec.{KeySpec as Spec};
 ghost use Rattle.key_orders.specs.declared.more.MoreSpec.{MoreSpec as More};
 ghost use Rattle.tree_search.specs.Search.{entries_of};
@@ -7,7 +7,8 @@ ghost use Rattle.tree_image.specs.Image.{index_entries, index_image, leaf_entrie
 ghost use Rattle.tree_built.specs.Built.{IsLaidAs};
 ghost use Rattle.tree_built.specs.Cuts.{joined};
 ghost use Rattle.tree_built.specs.Seen.{index_seen, page_seen};
-ghost use Rattle.built_pages.specs.Trees.{IsPageFit, IsTreeFit, ItemPage, ItemTree, built_block, keys_of, page_bytes};
+ghost use Rattle.built_pages.specs.Files.{AreBlocksOf};
+ghost use Rattle.built_pages.specs.Trees.{IsPageFit, IsTreeFit, ItemPage, ItemTree, keys_of, page_bytes};
 
 use crate::items::{laid_items_mean, laid_separators_mean};
 
@@ -15,7 +16,7 @@ use crate::items::{laid_items_mean, laid_separators_mean};
 /// those of its leaves, with their included values.
 ///
 /// - `page`, `page_entries`: a page of it.
-/// - `image`: the whole of it. With `tree_built` it then has what a search needs, breaks no rule on
+/// - `image`: the whole of it, whoever holds its blocks. With `tree_built` it then has what a search needs, breaks no rule on
 ///   levels and has the entries that were given.
 /// - `entries`: the entries by block number.
 pub fn built_bytes_mean()
@@ -23,10 +24,12 @@ pub fn built_bytes_mean()
         → page_image specs more (page_bytes specs more p) ≡ page_seen keys_of p }
     ensures page_entries { (specs : List Spec) (more : List More) (p : ItemPage) → IsPageFit specs more p
         → leaf_entries_with_more specs more (page_bytes specs more p) ≡ (if p.leaf then joined p.entries else []) }
-    ensures image { (specs : List Spec) (more : List More) (x : ItemTree) → IsTreeFit specs more x
-        → IsLaidAs (index_image specs more x.blocks (built_block specs more x)) (index_seen keys_of x) }
-    ensures entries { (specs : List Spec) (more : List More) (x : ItemTree) → IsTreeFit specs more x
-        → index_entries specs more x.blocks (built_block specs more x) ≡ entries_of (index_seen joined x) }
+    ensures image { (specs : List Spec) (more : List More) (x : ItemTree) (blocks : ℕ) (block : ℕ → List ℕ)
+        → IsTreeFit specs more x → AreBlocksOf specs more x blocks block
+        → IsLaidAs (index_image specs more blocks block) (index_seen keys_of x) }
+    ensures entries { (specs : List Spec) (more : List More) (x : ItemTree) (blocks : ℕ) (block : ℕ → List ℕ)
+        → IsTreeFit specs more x → AreBlocksOf specs more x blocks block
+        → index_entries specs more blocks block ≡ entries_of (index_seen joined x) }
 {
     laid_items_mean();
     laid_separators_mean();

@@ -8,6 +8,6 @@ returns c =
     record {
       page = λ specs more p fit. page_is specs more (items specs more) (seps.meaning specs more) (seps.nothing specs more) p fit;
       page_entries = λ specs more p fit. page_entries_are specs more (items specs more) (seps.meaning specs more) (seps.nothing specs more) p fit;
-      image = λ specs more x fit. tree_is specs more (items specs more) (seps.meaning specs more) (seps.nothing specs more) x fit;
-      entries = λ specs more x fit. tree_entries specs more (items specs more) (seps.meaning specs more) (seps.nothing specs more) x fit;
+      image = λ specs more x blocks block fit same. tree_is specs more (items specs more) (seps.meaning specs more) (seps.nothing specs more) x blocks block fit same;
+      entries = λ specs more x blocks block fit same. tree_entries specs more (items specs more) (seps.meaning specs more) (seps.nothing specs more) x blocks block fit same;
     }
