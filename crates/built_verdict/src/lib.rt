@@ -1,0 +1,38 @@
+//! What the check of an index finds in one that was built: nothing.
+//!
+//! The crate has no code. Its function does nothing; its contract is the theorem, and a caller has it by
+//! calling.
+#![tactic(auto)]
+
+ghost use Rattle.std.specs.Prelude.{◌≡◌, ◌<◌, ℕ, List, None};
+ghost use Rattle.outside.specs.Outside.{Names};
+ghost use Rattle.rel_files.specs.Blocks.{long_segment_of};
+ghost use Rattle.case_file.specs.Record.{CaseRecord};
+ghost use Rattle.tree_image.specs.Image.{LeafEntry};
+ghost use Rattle.attach_files.specs.Refusals.{index_limit};
+ghost use Rattle.bt_pages.specs.Broken.{AreEmpty};
+ghost use Rattle.bt_levels.specs.Index.{index_of, tree_lists, tree_of};
+ghost use Rattle.built_pages.specs.Files.{AreBlocksOf};
+ghost use Rattle.built_pages.specs.Sizes.{AreIndexable, index_tree};
+
+use bt_levels::indexes_are_judged;
+use built_pages::{built_files_are_sound, built_files_keep_the_rules, index_trees_may_be_laid};
+
+/// Nothing is found of an index of a case, and nothing is in doubt, where its files hold the blocks of the tree that is
+/// built from entries that may be indexed, the numbers of these blocks fit 32 bits, and no segment is longer than the
+/// case says.
+pub fn built_indexes_are_quiet()
+    ensures { (case : CaseRecord) (names : Names) (n : ℕ) (es : List LeafEntry)
+        → AreIndexable (index_of case n).keys (index_of case n).more es
+        → (index_tree (index_of case n).keys (index_of case n).more es).blocks < 4294967296
+        → AreBlocksOf (index_of case n).keys (index_of case n).more
+        (index_tree (index_of case n).keys (index_of case n).more es)
+        (tree_of case names n).blocks (tree_of case names n).block
+        → long_segment_of names (index_of case n).file case.segment_blocks index_limit ≡ None
+        → AreEmpty (tree_lists case names n) }
+{
+    index_trees_may_be_laid();
+    built_files_are_sound();
+    built_files_keep_the_rules();
+    indexes_are_judged();
+}
