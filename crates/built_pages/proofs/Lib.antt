@@ -13,3 +13,4 @@ pub mod Levels
 pub mod Placed
 pub mod PageRules
 pub mod TreeRules
+pub mod Example
