@@ -100,3 +100,38 @@ name = "note"
 type = "text"
 CASE
 }
+
+# A heap of 16 blocks of 2000 dead line pointers, which the entries of bench/make_index name.
+make_dead_heap() {
+    python3 >heap <<'PYTHON'
+import struct, sys
+head = struct.pack("<IIHHHHHHI", 0, 0, 0, 0, 24 + 4 * 2000, 8192, 8192, 0x2004, 0)
+sys.stdout.buffer.write((head + struct.pack("<I", 3 << 15) * 2000).ljust(8192, b"\0") * 16)
+PYTHON
+}
+
+# The file of an index with so many entries of a column (see bench/make_index), and its case.
+make_index_case() {
+    "$here/make_index" "$1" "$2" "$3"
+    cat >"$1.toml" <<CASE
+[cluster]
+next_xid = 1000
+oldest_xid = 3
+next_multi = 1
+oldest_multi = 1
+next_member = 0
+xact = "xact"
+offsets = "offsets"
+members = "members"
+[heap]
+file = "heap"
+[[column]]
+name = "key"
+type = "$3"
+[[index]]
+name = "by_key"
+file = "$1"
+[[index.key]]
+column = "key"
+CASE
+}

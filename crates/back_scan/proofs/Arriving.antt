@@ -33,7 +33,8 @@ use Rattle.bt_search.specs.Spots.{scan_on}
 use Rattle.bt_search.proofs.Reading.{keys-some}
 use Rattle.back_scan.specs.Descents.{reach_goes}
 use Rattle.back_scan.specs.Leaves.{HasEntries, IsLastIfRead}
-use Rattle.back_scan.specs.Spots.{GoesOn, IsBackPlace, LeftTo, SeeksTo, StandsAt, back_on, left_at, left_from, left_on, rest_at, rest_from, state_at}
+use Rattle.bt_search.specs.Items.{back_on}
+use Rattle.back_scan.specs.Spots.{GoesOn, IsBackPlace, LeftTo, SeeksTo, StandsAt, left_at, left_from, left_on, rest_at, rest_from, state_at}
 use Rattle.back_scan.specs.Steps.{GoesInSteps, IsWantedOn}
 use Rattle.back_scan.proofs.Counts.{left-front, up-to}
 use Rattle.back_scan.proofs.Reading.{readable-at, stands-there, state-there}

@@ -1,42 +1,16 @@
--- How many entries an item of a leaf has, by its head; and the entries that are left up to an item.
-use Rattle.std.proofs.Common.{◌≡◌, ◌≢◌, ℕ, ◌+◌, ◌≤◌, inl, inr, Bool, false, List, length, take, refl, ap, subst, sym, ◌∙◌, arith}
-use Rattle.std.specs.Prelude.{◌==◌, ◌&&◌}
-use Rattle.std.proofs.lemmas.Bool.{cases_lt, cond-false, cond-true, eq-eqb, ne_eqb, or_parts}
-use Rattle.page_layout.specs.Page.{count_of, item_of}
-use Rattle.key_orders.specs.declared.columns.Value.{Value}
+-- The entries that are left up to an item.
+use Rattle.std.proofs.Common.{◌≡◌, ◌≢◌, ℕ, ◌+◌, ◌≤◌, inl, inr, List, length, refl, ap, subst, sym, ◌∙◌, arith}
+use Rattle.std.specs.Prelude.{◌==◌}
+use Rattle.std.proofs.lemmas.Bool.{cases_lt, cond-false, cond-true, eq-eqb, ne_eqb}
+use Rattle.page_layout.specs.Page.{count_of}
 use Rattle.varlena_attrs.specs.Columns.{TreeColumns}
-use Rattle.bt_meta.specs.declared.records.HeadKind.{HeadKind}
-use Rattle.bt_meta.specs.declared.records.HeadKind.TheVariants as head
-use Rattle.bt_meta.specs.Heads.{tree_head_of}
-use Rattle.bt_tuples.specs.Items.{is_dead, meaning_by, meaning_of, values_or_none}
-use Rattle.bt_tuples.specs.Rules.{includes_some, is_pivot, is_posting, tuple_of}
-use Rattle.bt_tuples.specs.Tuples.{number_of, tids_in, values_in}
-use Rattle.bt_tuples.proofs.TidLists.{length-tids_at}
-use Rattle.tree_image.specs.Image.{first_data, item_at, keys_in}
+use Rattle.tree_image.specs.Image.{first_data}
 use Rattle.tree_image.proofs.PageFields.{first_cases}
-use Rattle.bt_steps.specs.Entries.{IsRead, entries_before, keys_at, place_of}
-use Rattle.bt_steps.proofs.Items.{list-count}
+use Rattle.bt_steps.specs.Entries.{entries_before, keys_at, place_of}
 use Rattle.bt_steps.proofs.Places.{before-first, before-next}
 use Rattle.bt_search.specs.declared.spot.Spot.{Spot}
-use Rattle.back_scan.specs.Leaves.{HasEntries, IsLastIfRead, IsLastUpTo, entries_by}
+use Rattle.back_scan.specs.Leaves.{HasEntries, IsLastIfRead, IsLastUpTo}
 use Rattle.back_scan.specs.Spots.{IsBackPlace, left_on}
-
-by-kind : (kind : HeadKind) (columns : ℕ) (tuple : List ℕ) (killed : Bool) (values : List Value) → is_pivot kind ≡ false → length (keys_in (meaning_by kind columns tuple killed values)) ≡ entries_by kind (tree_head_of tuple)
-by-kind head.Pivot columns tuple killed values no_pivot = absurd cc
-by-kind head.Plain columns tuple killed values no_pivot = refl
-by-kind head.Posting columns tuple killed values no_pivot =
-    list-count (take columns values) (tids_in tuple) killed ∙ length-tids_at tuple (tree_head_of tuple).block (number_of (tree_head_of tuple))
-
-by-meaning : (columns : TreeColumns) (tuple : List ℕ) (killed : Bool) → is_pivot (tree_head_of tuple).kind ≡ false → length (keys_in (meaning_of columns.specs columns.more tuple killed)) ≡ entries_by (tree_head_of tuple).kind (tree_head_of tuple)
-unfolding meaning_of
-by-meaning columns tuple killed no_pivot = by-kind (tree_head_of tuple).kind (length columns.specs) tuple killed (values_or_none (values_in columns.specs columns.more tuple)) no_pivot
-
--- an item of a leaf that can be read
-pub entries-are : (columns : TreeColumns) (page : List ℕ) (i : ℕ) → IsRead columns page i → length (keys_at columns page i) ≡ entries_by (tree_head_of (tuple_of page i)).kind (tree_head_of (tuple_of page i))
-unfolding keys_at item_at
-entries-are columns page i read =
-    let form = or_parts (is_pivot (tree_head_of (tuple_of page i)).kind) (includes_some columns.more && is_posting (tree_head_of (tuple_of page i)).kind) read.rules.form in
-    by-meaning columns (tuple_of page i) (is_dead (item_of page i).flag) form.0
 
 -- The entries that are left
 

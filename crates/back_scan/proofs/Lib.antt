@@ -1,3 +1,3 @@
 mod Counts
 mod Reading
-mod Arriving
+pub mod Arriving

@@ -11,8 +11,7 @@ use Rattle.tree_search.specs.Search.{right_of}
 use Rattle.tree_search_back.specs.Spots.{GoesBack, IsReadBack, StandsBack, from_place_back}
 use Rattle.key_orders.specs.declared.columns.Value.{Value}
 use Rattle.key_orders.specs.declared.Tid.{Tid}
-use Rattle.key_orders.specs.Scans.{Bounds, back_of, scan_of}
-use Rattle.varlena_attrs.specs.Columns.{TreeColumns}
+use Rattle.key_orders.specs.Scans.{Bounds}
 use Rattle.bt_meta.specs.Flags.{is_half_dead, is_leaf}
 use Rattle.bt_meta.specs.Pages.{is_idle, opaque_of}
 use Rattle.tree_image.specs.Image.{first_data, page_image}
@@ -23,13 +22,15 @@ use Rattle.bt_steps.specs.Pages.{IsReadable, is_killed}
 use Rattle.bt_steps.proofs.OnLeaf.{item-read, page-readable}
 use Rattle.bt_steps.proofs.Places.{entry-there, image-entries}
 use Rattle.bt_search.specs.declared.spot.Spot.{Spot}
+use Rattle.bt_search.specs.declared.item.Fate.{Fate}
+use Rattle.bt_search.specs.declared.item.Fate.TheVariants.{Past, Wanted, Other}
+use Rattle.bt_search.specs.declared.item.ScanEnd.TheVariants.{Low}
 use Rattle.bt_search.specs.Entries.{entry_on}
+use Rattle.bt_search.specs.Items.{HasFate, back_on}
 use Rattle.bt_search.specs.Spots.{scan_on}
 use Rattle.bt_search.proofs.Reading.{keys-some}
-use Rattle.back_scan.specs.declared.leaf.Fate.{Fate}
-use Rattle.back_scan.specs.declared.leaf.Fate.TheVariants.{Before, Wanted, Other}
-use Rattle.back_scan.specs.Leaves.{Finishes, HasEntries, HasFate, IsLastUpTo, Leaves, Passes, Yields}
-use Rattle.back_scan.specs.Spots.{IsBackPlace, StandsAt, back_on, left_from, left_on, rest_from, state_at}
+use Rattle.back_scan.specs.Leaves.{Finishes, HasEntries, IsLastUpTo, Leaves, Passes, Yields}
+use Rattle.back_scan.specs.Spots.{IsBackPlace, StandsAt, left_from, left_on, rest_from, state_at}
 use Rattle.back_scan.specs.Steps.{GoesInSteps}
 use Rattle.back_scan.proofs.Counts.{left-entry, left-front, up-to}
 
@@ -39,14 +40,14 @@ get-some (x ∷ xs) zero lt = (x, refl)
 get-some (x ∷ xs) (suc k) lt = get-some xs k (omega arith)
 
 -- what is known of an item that was read
-pub record IsSeen (columns : TreeColumns) (bounds : Bounds) (page : List ℕ) (spot : Spot) (fate : Fate) (count : ℕ) : Type 0 where
-  pub count_is : count ≡ length (keys_at columns page spot.item)
+pub record IsSeen (sound : SoundTree) (bounds : Bounds) (page : List ℕ) (spot : Spot) (fate : Fate) (count : ℕ) : Type 0 where
+  pub count_is : count ≡ length (keys_at (index_columns sound) page spot.item)
   pub inside : spot.nth < count
-  pub fates : (k : ℕ) (e : Entry Value Tid) → slice_get (keys_at columns page spot.item) k ≡ Some e → HasFate (scan_of columns.specs bounds) (back_of columns.specs bounds) fate e
+  pub fates : (k : ℕ) (e : Entry Value Tid) → slice_get (keys_at (index_columns sound) page spot.item) k ≡ Some e → HasFate (scan_on sound bounds) (back_on sound bounds) Low fate e
 
-pub seen-there : (s t : TreeColumns) (bounds : Bounds) (p q : List ℕ) (spot : Spot) (f f' : Fate) (n : ℕ) → s ≡ t → p ≡ q → f ≡ f' → IsSeen s bounds p spot f n → IsSeen t bounds q spot f' n
-seen-there s t bounds p q spot f f' n a b d seen =
-    subst (λ (k : TreeColumns). IsSeen k bounds q spot f' n) a (subst (λ (l : List ℕ). IsSeen s bounds l spot f' n) b (subst (λ (g : Fate). IsSeen s bounds p spot g n) d seen))
+pub seen-there : (sound : SoundTree) (bounds : Bounds) (p q : List ℕ) (spot : Spot) (f g : Fate) (n : ℕ) → p ≡ q → f ≡ g → IsSeen sound bounds p spot f n → IsSeen sound bounds q spot g n
+seen-there sound bounds p q spot f g n there same seen =
+    subst (λ (l : List ℕ). IsSeen sound bounds l spot g n) there (subst (λ (h : Fate). IsSeen sound bounds p spot h n) same seen)
 
 -- what is known of a page that is read
 pub record IsKnown (names : Names) (sound : SoundTree) (b k : ℕ) : Type 0 where
@@ -207,7 +208,7 @@ module _ (names : Names) (sound : SoundTree) (bounds : Bounds) (holds : HoldsTre
           (u.left ∙ ap (entries_before (index_columns sound) held) back, u.place)
 
       -- the entries of the item are passed over
-      pub passes : (new : Spot) (count : ℕ) → new.block ≡ old.block → IsLastUpTo (index_columns sound) held (old.item - 1) new → IsSeen (index_columns sound) bounds held old Other count → Passes names sound bounds old new page
+      pub passes : (new : Spot) (count : ℕ) → new.block ≡ old.block → IsLastUpTo (index_columns sound) held (old.item - 1) new → IsSeen sound bounds held old Other count → Passes names sound bounds old new page
       passes new count same upto seen =
           let n = length (keys_at (index_columns sound) held old.item) in
           let j = entries_before (index_columns sound) held old.item in
@@ -230,7 +231,7 @@ module _ (names : Names) (sound : SoundTree) (bounds : Bounds) (holds : HoldsTre
 
       -- the entry at the spot is taken
       yields : (new : Spot) (count : ℕ) → new.block ≡ old.block → left_on (index_columns sound) held new.item new.nth ≡ place_of (index_columns sound) held old.item old.nth → IsBackPlace (index_columns sound) held new.item new.nth
-          → IsSeen (index_columns sound) bounds held old Wanted count → Yields names sound bounds old new old page
+          → IsSeen sound bounds held old Wanted count → Yields names sound bounds old new old page
       yields new count same is place seen =
           let j = place_of (index_columns sound) held old.item old.nth in
           let inside : old.nth < length (keys_at (index_columns sound) held old.item) = omega (arith, seen.inside, seen.count_is) in
@@ -246,7 +247,7 @@ module _ (names : Names) (sound : SoundTree) (bounds : Bounds) (holds : HoldsTre
             left = ap (left_from names sound bounds) old-state ∙ one.1 ∙ sym (ap (left_from names sound bounds) (new-state new j same is));
           }
 
-      pub takes : (new : Spot) (count : ℕ) → new.block ≡ old.block → IsSeen (index_columns sound) bounds held old Wanted count
+      pub takes : (new : Spot) (count : ℕ) → new.block ≡ old.block → IsSeen sound bounds held old Wanted count
           → (0 < old.nth → (new.item ≡ old.item) × (new.nth + 1 ≡ old.nth)) → (old.nth ≡ 0 → IsLastUpTo (index_columns sound) held (old.item - 1) new)
           → Yields names sound bounds old new old page
       takes new count same seen within next = elim (cases_lt 0 old.nth) [
@@ -275,7 +276,7 @@ module _ (names : Names) (sound : SoundTree) (bounds : Bounds) (holds : HoldsTre
       ]
 
       -- an entry before the low bound
-      pub ends-before : (count : ℕ) → IsSeen (index_columns sound) bounds held old Before count → Finishes names sound bounds old old page
+      pub ends-before : (count : ℕ) → IsSeen sound bounds held old Past count → Finishes names sound bounds old old page
       ends-before count seen =
           let inside : old.nth < length (keys_at (index_columns sound) held old.item) = omega (arith, seen.inside, seen.count_is) in
           let fates = seen.fates in

@@ -1,37 +1,23 @@
 -- What a reader finds on a leaf, from a spot down.
-use Rattle.std.specs.Prelude.{◌≡◌, ℕ, ◌+◌, ◌<◌, ◌≤◌, true, false, length, List, [], ◌∷◌, Some}
+use Rattle.std.specs.Prelude.{◌≡◌, ℕ, ◌+◌, ◌<◌, ◌≤◌, length, List, [], ◌∷◌, Some}
 use Rattle.outside.specs.Outside.{Names}
 use Rattle.tree_search.specs.Back.{Reads}
 use Rattle.tree_search.specs.Keys.{Entry}
-use Rattle.tree_search.specs.Search.{is_wanted}
 use Rattle.key_orders.specs.declared.columns.Value.{Value}
 use Rattle.key_orders.specs.declared.Tid.{Tid}
 use Rattle.key_orders.specs.Scans.{Bounds}
 use Rattle.varlena_attrs.specs.Columns.{TreeColumns}
-use Rattle.bt_meta.specs.declared.records.TreeHead.{TreeHead}
-use Rattle.bt_meta.specs.declared.records.HeadKind.{HeadKind}
-use Rattle.bt_meta.specs.declared.records.HeadKind.TheVariants.{Pivot, Plain, Posting}
-use Rattle.bt_tuples.specs.Tuples.{number_of}
 use Rattle.tree_image.specs.Image.{first_data}
 use Rattle.bt_levels.specs.declared.sound.SoundTree.{SoundTree}
 use Rattle.bt_levels.specs.Sound.{index_columns}
 use Rattle.bt_steps.specs.Entries.{IsRead, keys_at}
-use Rattle.bt_steps.specs.Pages.{KeyScan, is_killed}
 use Rattle.bt_search.specs.declared.spot.Spot.{Spot}
 use Rattle.bt_search.specs.Entries.{entry_on}
-use Rattle.back_scan.specs.declared.leaf.Fate.{Fate}
-use Rattle.back_scan.specs.declared.leaf.Fate.TheVariants.{Before, Wanted, Other}
 use Rattle.back_scan.specs.declared.leaf.OnItem.{OnItem}
 use Rattle.back_scan.specs.declared.leaf.OnItem.TheVariants as on
 use Rattle.back_scan.specs.declared.leaf.OnLeaf.{OnLeaf}
 use Rattle.back_scan.specs.declared.leaf.OnLeaf.TheVariants as found
-use Rattle.back_scan.specs.Spots.{KeyBack, LeftTo, StandsAt, left_at, left_from, rest_at, rest_from}
-
--- how many entries a tuple of a leaf with this head has
-abbrev pub entries_by : HeadKind → TreeHead → ℕ
-entries_by Pivot head = 0
-entries_by Plain head = 1
-entries_by Posting head = number_of head
+use Rattle.back_scan.specs.Spots.{LeftTo, StandsAt, left_at, left_from, rest_at, rest_from}
 
 -- item i can be read, and has entries
 pub record HasEntries (columns : TreeColumns) (page : List ℕ) (i : ℕ) : Type 0 where
@@ -46,12 +32,6 @@ pub record IsLastUpTo (columns : TreeColumns) (page : List ℕ) (i : ℕ) (spot 
 -- the same, if the item can be read
 abbrev pub IsLastIfRead : TreeColumns → List ℕ → ℕ → Spot → Type 0
 IsLastIfRead columns page i spot = (first_data page ≤ i → HasEntries columns page i) → IsLastUpTo columns page i spot
-
--- what a scan does with an entry: it ends there, yields it, or passes over it
-abbrev pub HasFate : KeyScan → KeyBack → Fate → Entry Value Tid → Type 0
-HasFate scan back Before e = back.before_low e ≡ true
-HasFate scan back Wanted e = (back.before_low e ≡ false) × (is_wanted is_killed scan e ≡ true)
-HasFate scan back Other e = (back.before_low e ≡ false) × (is_wanted is_killed scan e ≡ false)
 
 -- a reader went on from one spot of a page to another: what is left is the same
 pub record Passes (names : Names) (sound : SoundTree) (bounds : Bounds) (old new : Spot) (page : List ℕ) : Type 0 where

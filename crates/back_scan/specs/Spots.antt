@@ -3,28 +3,22 @@
 use Rattle.std.specs.Prelude.{◌≡◌, ◌≢◌, ◌<◌, ◌≤◌, ℕ, ◌+◌, ◌==◌, cond, length, List, [], ◌∷◌, Some, None, Option}
 use Rattle.outside.specs.Outside.{Names}
 use Rattle.page_layout.specs.Page.{count_of}
-use Rattle.tree_search.specs.Back.{Back, BackState, Over}
-use Rattle.tree_search.specs.Keys.{Entry, Separator}
+use Rattle.tree_search.specs.Back.{BackState, Over}
+use Rattle.tree_search.specs.Keys.{Entry}
 use Rattle.tree_search_back.specs.Spots.{GoesLeftTo, SeeksAt, StandsBack, from_place_back, left_back, rest_back}
 use Rattle.key_orders.specs.declared.columns.Value.{Value}
 use Rattle.key_orders.specs.declared.Tid.{Tid}
-use Rattle.key_orders.specs.Scans.{Bounds, back_of}
+use Rattle.key_orders.specs.Scans.{Bounds}
 use Rattle.varlena_attrs.specs.Columns.{TreeColumns}
 use Rattle.tree_image.specs.Image.{first_data}
 use Rattle.bt_levels.specs.declared.sound.SoundTree.{SoundTree}
-use Rattle.bt_levels.specs.Sound.{fastroot_of, held_block, image_of, index_columns, specs_of}
+use Rattle.bt_levels.specs.Sound.{fastroot_of, held_block, image_of, index_columns}
 use Rattle.bt_steps.specs.Entries.{keys_at, place_of}
 use Rattle.bt_steps.specs.Pages.{is_killed}
 use Rattle.bt_search.specs.declared.spot.Spot.{Spot}
 use Rattle.bt_search.specs.Entries.{IsEntryAt, entry_on}
+use Rattle.bt_search.specs.Items.{back_on}
 use Rattle.bt_search.specs.Spots.{scan_on}
-
--- a scan, as the backward searcher sees it
-abbrev pub KeyBack : Type 0
-KeyBack = Back (Separator Value Tid) (Entry Value Tid)
-
-abbrev pub back_on : SoundTree → Bounds → KeyBack
-back_on sound bounds = back_of (specs_of sound) bounds
 
 -- how many entries of a page are left at an item's nth: that one and those before it; at item 0 none
 abbrev pub left_on : TreeColumns → List ℕ → (item nth : ℕ) → ℕ

@@ -12,7 +12,7 @@ use Rattle.bt_levels.specs.declared.sound.SoundTree.{SoundTree}
 use Rattle.bt_levels.specs.Sound.{block_count, image_of, specs_of}
 use Rattle.bt_steps.specs.Pages.{is_killed}
 use Rattle.bt_search.specs.Spots.{scan_on}
-use Rattle.back_scan.specs.Spots.{back_on}
+use Rattle.bt_search.specs.Items.{back_on}
 
 -- these are the entries that the scan is to find
 abbrev pub IsWantedOn : Names → SoundTree → Bounds → List (Entry Value Tid) → Type 0

@@ -1,15 +1,11 @@
 -- The line that prints an entry.
-use Rattle.std.specs.Prelude.{ℕ, ◌/◌, ◌%◌, true, false, List, [], ◌∷◌, ◌++◌, slice_index, codes, decimal}
+use Rattle.std.specs.Prelude.{ℕ, true, false, List, [], ◌∷◌, ◌++◌, codes, decimal}
 use Rattle.std.specs.Fmt.{signed_decimal}
 use Rattle.std.specs.List.{flat_map}
-use Rattle.hex.specs.Hex.{lower_digits}
+use Rattle.hex.specs.Hex.{encode_lower}
 use Rattle.key_orders.specs.declared.columns.Value.{Value}
 use Rattle.key_orders.specs.declared.columns.Value.TheVariants.{Null, Bool, Int, Bytes}
 use Rattle.key_orders.specs.declared.Tid.{Tid}
-
--- a byte: two lower-case hexadecimal digits
-unfoldable pub byte_text : ℕ → List ℕ
-byte_text b = slice_index lower_digits (b / 16) ∷ slice_index lower_digits (b % 16) ∷ []
 
 -- a value: null, false, true, a number in decimal, or x and its bytes in hexadecimal
 unfoldable pub value_text : Value → List ℕ
@@ -17,7 +13,7 @@ value_text Null = codes "null"
 value_text (Bool false) = codes "false"
 value_text (Bool true) = codes "true"
 value_text (Int z) = signed_decimal z
-value_text (Bytes bytes) = codes "x" ++ flat_map byte_text bytes
+value_text (Bytes bytes) = codes "x" ++ encode_lower bytes
 
 -- another one after it
 unfoldable pub next_text : Value → List ℕ

@@ -8,10 +8,11 @@ ghost use Rattle.tree_search_back.specs.Answers.{AnswersBack};
 ghost use Rattle.key_orders.specs.declared.columns.Value.{Value};
 ghost use Rattle.key_orders.specs.declared.Tid.{Tid as Place};
 ghost use Rattle.key_orders.specs.Scans.{FitsKey};
-ghost use Rattle.bt_levels.specs.Sound.{HoldsTree, block_count, fastroot_of, held_block, image_of, specs_of};
+ghost use Rattle.bt_levels.specs.Sound.{HoldsTree, block_count, fastroot_of, image_of, specs_of};
 ghost use Rattle.bt_steps.specs.Pages.{is_killed};
 ghost use Rattle.bt_search.specs.Spots.{scan_on};
-ghost use Rattle.back_scan.specs.Spots.{GoesOn, LeftTo, SeeksTo, StandsAt, back_on, left_at, left_from, rest_at};
+ghost use Rattle.bt_search.specs.Items.{back_on};
+ghost use Rattle.back_scan.specs.Spots.{GoesOn, LeftTo, SeeksTo, StandsAt, left_at, left_from, rest_at};
 ghost use Rattle.back_scan.specs.Spots.{state_at};
 ghost use Rattle.back_scan.specs.Steps.{IsWantedOn};
 
@@ -19,39 +20,12 @@ use crate::laws::back_searches_go_in_steps;
 use crate::spots::{NOWHERE, last_spot};
 use crate::way::Reach;
 use bt_levels::SoundTree;
-use bt_search::{Spot, Visits};
+use bt_search::{Search, Spot, Visits, look_at};
 use bt_steps::{Step, step_on};
 use key_orders::Scan;
 use outside::Files;
 use page_layout::PageView;
 use rel_files::ReadFault;
-
-/// A search under way: of which tree, by which scan, and at how many visits it gives up.
-#[derive(Drop)]
-pub struct Search<'a> {
-    pub tree: &'a SoundTree,
-    pub scan: &'a Scan,
-    pub limit: u64,
-}
-
-// Reads the page of a block, which is a visit.
-fn look_at<F: Files>(
-    tree: &SoundTree,
-    files: &mut F,
-    b: u32,
-    page: &mut [u8; 8192],
-    visits: &mut Visits,
-) -> Result<(), ReadFault>
-    requires holds { IfTold F.seen files.old (λ names. HoldsTree names tree.now) }
-    requires below { b < block_count tree.now }
-    requires room { visits.old.count + 1 < 2 ^ 64 }
-    ensures count { visits.new.count ≡ visits.old.count + 1 }
-    ensures page { OnOk result (IfTold F.seen files.old (λ names. page.new ≡ held_block names tree.now b)) }
-    ensures asked { AskedAtMost 1 F.seen files.old files.new result read_fault }
-{
-    visits.count += 1;
-    tree.read_block(files, b, page)
-}
 
 // Goes from a block to the last leaf that the scan reaches: right, and down.
 fn arrive<F: Files>(
@@ -97,7 +71,8 @@ fn arrive<F: Files>(
     Ok(NOWHERE)
 }
 
-/// Goes left to the leaf of a block.
+/// Goes left to the leaf of a block, and gives the spot of its last entry. `ReadFault` comes only where the files
+/// couldn't be read.
 pub fn go_left<F: Files>(
     search: &Search<'_>,
     files: &mut F,

@@ -13,7 +13,8 @@ mod spots;
 mod text;
 mod way;
 
-pub use descent::descend_last;
+pub use descent::{descend_last, go_left};
 pub use laws::back_searches_go_in_steps;
+pub use leaf::{OnLeaf, read_leaf};
 pub use prev::prev_entry;
 pub use text::{entry_line, push_entry_line};

@@ -7,11 +7,12 @@ ghost use Rattle.bt_levels.specs.Sound.{HoldsTree, block_count, index_columns, s
 ghost use Rattle.bt_search.specs.Entries.{IsEntryAt};
 ghost use Rattle.back_scan.specs.Spots.{IsNext, StandsAt, left_at};
 
-use crate::descent::{Search, go_left};
+use crate::descent::go_left;
 use crate::laws::back_searches_go_in_steps;
 use crate::leaf::{OnLeaf, read_leaf};
 use bt_levels::SoundTree;
-use bt_search::{Spot, Visits};
+use bt_search::{Search, Spot, Visits};
+use bt_tuples::ItemKeys;
 use key_orders::Scan;
 use outside::Files;
 use page_layout::PageView;
@@ -59,7 +60,7 @@ pub fn prev_entry<F: Files>(
     let limit = visits.count + 2 * u64::from(tree.blocks());
     let search = Search { tree, scan, limit };
     while spot.block != 0 {
-        match read_leaf(&search, PageView::new(page), spot) {
+        match read_leaf(&search, PageView::new(page), spot, &mut ItemKeys::new()) {
             OnLeaf::Entry(at) => return Ok(Some(at)),
             OnLeaf::End => return Ok(None),
             OnLeaf::Left(prev) => *spot = go_left(&search, files, prev, page, visits)?,

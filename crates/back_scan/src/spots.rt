@@ -1,16 +1,15 @@
 //! The spots of a leaf, from its last entry down.
-ghost use Rattle.std.specs.Prelude.{◌≡◌, ◌≤◌, ◌<◌, ◌+◌, ◌-◌, None, false, length, true};
+ghost use Rattle.std.specs.Prelude.{◌≡◌, ◌≤◌, ◌<◌, ◌+◌, ◌-◌, None, false, true};
 ghost use Rattle.page_layout.specs.Page.{count_of, page_rule_of};
 ghost use Rattle.page_layout.specs.View.{page_bytes};
 ghost use Rattle.varlena_attrs.specs.Columns.{TreeColumns as Columns};
 ghost use Rattle.bt_meta.specs.Flags.{is_half_dead};
 ghost use Rattle.bt_meta.specs.Pages.{opaque_of};
 ghost use Rattle.tree_image.specs.Image.{first_data};
-ghost use Rattle.bt_steps.specs.Entries.{IsRead, keys_at};
-ghost use Rattle.back_scan.specs.Leaves.{IsLastIfRead, entries_by};
+ghost use Rattle.back_scan.specs.Leaves.{IsLastIfRead};
 
-use bt_meta::{HeadKind, TreeHead, opaque, tree_head};
-use bt_search::Spot;
+use bt_meta::opaque;
+use bt_search::{Spot, entries_at};
 use page_layout::{PageKind, PageView};
 use tree_image::first_data;
 
@@ -20,9 +19,6 @@ pub const NOWHERE: Spot = Spot {
     item: 0,
     nth: 0,
 };
-
-// Of `access/nbtree.h`: the number of TIDs is in the bits of the item field below this one (BT_OFFSET_MASK).
-const NUMBER_LIMIT: u16 = 0x1000;
 
 // The spot before the first entry of a page.
 fn front(block: u32) -> Spot
@@ -35,32 +31,6 @@ fn front(block: u32) -> Spot
         item: 0,
         nth: 0,
     }
-}
-
-// How many entries a tuple of a leaf with this head has.
-fn entries_by(head: TreeHead) -> u16
-    ensures { result ≡ entries_by head.kind head }
-{
-    match head.kind {
-        HeadKind::Pivot => 0,
-        HeadKind::Plain => 1,
-        HeadKind::Posting => head.item % NUMBER_LIMIT,
-    }
-}
-
-// How many entries item i of a leaf has, by its head alone.
-fn entries_at(page: PageView<'_>, i: u16) -> u16
-    requires page { page_rule_of PageKind.Tree (page_bytes page) ≡ None }
-    requires first { 1 ≤ i }
-    requires last { i ≤ count_of (page_bytes page) }
-    ensures { (columns : Columns) → IsRead columns (page_bytes page.entry) i
-        → result ≡ length (keys_at columns (page_bytes page.entry) i) }
-{
-    let item = page.item(i);
-    if item.is_misplaced_tree_item(page.upper()) {
-        return 0;
-    }
-    entries_by(tree_head(page.piece(item.off, item.len)))
 }
 
 /// The spot of the last entry of the items up to i of a leaf, or the one before all entries.

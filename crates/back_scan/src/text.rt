@@ -1,42 +1,13 @@
 //! The line that prints an entry.
 ghost use Rattle.std.specs.Prelude.{◌≡◌, ◌++◌, IfOk, OnOk, map};
-ghost use Rattle.std.specs.Fmt.{signed_decimal};
 ghost use Rattle.std.specs.List.{flat_map};
 ghost use Rattle.key_orders.specs.Values.{value_shown};
-ghost use Rattle.back_scan.specs.Texts.{byte_text, entry_text, next_text, value_text, values_text};
+ghost use Rattle.back_scan.specs.Texts.{entry_text, next_text, value_text, values_text};
 
-use itoa::Buffer;
 use key_orders::{KeyRefs, Octets, Tid, ValueRef};
+use octet_texts::{push_hexadecimal, push_number};
 use outside::NoMemory;
 use std::alloc::Global;
-
-// A byte in two lower-case hexadecimal digits.
-#[tactic(auto, unfolding(crate::specs::Texts::byte_text))]
-fn push_byte(text: &mut Octets, b: u8) -> Result<(), NoMemory>
-    ensures { OnOk result (text.new ≡ text.old ++ byte_text b) }
-{
-    let digits = b"0123456789abcdef";
-    let pair = [digits[(b / 16) as usize], digits[(b % 16) as usize]];
-    text.push_slice(&pair)
-}
-
-// Adds bytes in hexadecimal.
-fn push_hexadecimal(text: &mut Octets, bytes: &[u8]) -> Result<(), NoMemory>
-    ensures { OnOk result (text.new ≡ text.old ++ flat_map byte_text bytes.now) }
-{
-    for b in bytes {
-        push_byte(text, *b)?;
-    }
-    Ok(())
-}
-
-// Adds a number with its sign in decimal.
-fn push_number(text: &mut Octets, n: i64) -> Result<(), NoMemory>
-    ensures { OnOk result (text.new ≡ text.old ++ signed_decimal n) }
-{
-    let mut buffer = Buffer::new();
-    text.push_slice(buffer.format(n).as_bytes())
-}
 
 // Adds a value.
 #[tactic(auto, unfolding(crate::specs::Texts::value_text))]

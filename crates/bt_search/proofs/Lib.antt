@@ -3,6 +3,7 @@ pub mod Asked
 pub mod Arriving
 mod Caching
 mod There
+pub mod InHand
 mod Here
 mod Lookups
 mod Ways

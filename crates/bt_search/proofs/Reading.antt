@@ -11,7 +11,7 @@ use Rattle.tree_search.specs.Search.{State, right_of}
 use Rattle.tree_search.specs.Spots.{Stands, from_place}
 use Rattle.key_orders.specs.declared.columns.Value.{Value}
 use Rattle.key_orders.specs.declared.Tid.{Tid}
-use Rattle.key_orders.specs.Scans.{Bounds, scan_of}
+use Rattle.key_orders.specs.Scans.{Bounds}
 use Rattle.varlena_attrs.specs.Columns.{TreeColumns}
 use Rattle.bt_meta.specs.Flags.{is_half_dead, is_leaf}
 use Rattle.bt_meta.specs.Pages.{opaque_of}
@@ -21,13 +21,15 @@ use Rattle.tree_image.proofs.PageFields.{first_cases, leaf_item_good, leaf_spot}
 use Rattle.tree_image.proofs.Rises.{IsGood}
 use Rattle.bt_levels.specs.declared.sound.SoundTree.{SoundTree}
 use Rattle.bt_levels.specs.Sound.{HoldsTree, block_count, held_block, image_of, index_columns}
-use Rattle.bt_search.specs.declared.leaf.Fate.{Fate}
-use Rattle.bt_search.specs.declared.leaf.Fate.TheVariants.{Past, Wanted, Other}
+use Rattle.bt_search.specs.declared.item.Fate.{Fate}
+use Rattle.bt_search.specs.declared.item.Fate.TheVariants.{Past, Wanted, Other}
 use Rattle.bt_search.specs.declared.spot.Spot.{Spot}
 use Rattle.bt_search.specs.Descents.{ComesTo}
 use Rattle.bt_steps.specs.Entries.{IsPlaceOn, IsRead, entries_before, keys_at, place_of}
 use Rattle.bt_search.specs.Entries.{entry_on}
-use Rattle.bt_search.specs.Leaves.{Finishes, HasFate, Leaves, Passes, Yields}
+use Rattle.bt_search.specs.declared.item.ScanEnd.TheVariants.{High}
+use Rattle.bt_search.specs.Items.{HasFate, back_on}
+use Rattle.bt_search.specs.Leaves.{Finishes, Leaves, Passes, Yields}
 use Rattle.bt_steps.specs.Pages.{IsReadable, is_killed}
 use Rattle.bt_search.specs.Spots.{StandsAt, left_from, rest_from, scan_on, state_at}
 use Rattle.bt_search.specs.Steps.{GoesInSteps}
@@ -55,16 +57,16 @@ module _ (columns : TreeColumns) (page : List ℕ) (readable : IsReadable column
       good-some (item_at columns.specs columns.more page i) (leaf_item_good columns.specs columns.more page i (spot_of page i) (leaf_spot page i leaf from) plain.rules)
 
 -- what is known of an item that was read
-pub record IsSeen (columns : TreeColumns) (bounds : Bounds) (page : List ℕ) (spot : Spot) (fate : Fate) (count : ℕ) : Type 0 where
+pub record IsSeen (sound : SoundTree) (bounds : Bounds) (page : List ℕ) (spot : Spot) (fate : Fate) (count : ℕ) : Type 0 where
   pub first : 1 ≤ spot.item
   pub last : spot.item ≤ count_of page
-  pub count_is : count ≡ length (keys_at columns page spot.item)
+  pub count_is : count ≡ length (keys_at (index_columns sound) page spot.item)
   pub inside : spot.nth < count
-  pub fates : (k : ℕ) (e : Entry Value Tid) → slice_get (keys_at columns page spot.item) k ≡ Some e → HasFate (scan_of columns.specs bounds) fate e
+  pub fates : (k : ℕ) (e : Entry Value Tid) → slice_get (keys_at (index_columns sound) page spot.item) k ≡ Some e → HasFate (scan_on sound bounds) (back_on sound bounds) High fate e
 
-pub seen-there : (s t : TreeColumns) (bounds : Bounds) (p q : List ℕ) (spot : Spot) (f f' : Fate) (n : ℕ) → s ≡ t → p ≡ q → f ≡ f' → IsSeen s bounds p spot f n → IsSeen t bounds q spot f' n
-seen-there s t bounds p q spot f f' n a b d seen =
-    subst (λ (k : TreeColumns). IsSeen k bounds q spot f' n) a (subst (λ (l : List ℕ). IsSeen s bounds l spot f' n) b (subst (λ (g : Fate). IsSeen s bounds p spot g n) d seen))
+pub seen-there : (sound : SoundTree) (bounds : Bounds) (p q : List ℕ) (spot : Spot) (f g : Fate) (n : ℕ) → p ≡ q → f ≡ g → IsSeen sound bounds p spot f n → IsSeen sound bounds q spot g n
+seen-there sound bounds p q spot f g n there same seen =
+    subst (λ (l : List ℕ). IsSeen sound bounds l spot g n) there (subst (λ (h : Fate). IsSeen sound bounds p spot h n) same seen)
 
 pub read-there : (s t : TreeColumns) (p q : List ℕ) (i : ℕ) → s ≡ t → p ≡ q → IsRead t q i → IsRead s p i
 read-there s t p q i a b read = subst (λ (k : TreeColumns). IsRead k p i) (sym a) (subst (λ (l : List ℕ). IsRead t l i) (sym b) read)
@@ -102,7 +104,7 @@ module _ (names : Names) (sound : SoundTree) (bounds : Bounds) (holds : HoldsTre
   record IsOther (b j : ℕ) : Type 0 where
     entry : Entry Value Tid
     there : slice_get (entries_on b) j ≡ Some entry
-    fate : HasFate (scan_on sound bounds) Other entry
+    fate : HasFate (scan_on sound bounds) (back_on sound bounds) High Other entry
 
   skips : (m b j : ℕ) → Standing b j → ((k : ℕ) → k < m → IsOther b (j + k)) → Went b j (j + m)
   skips zero b j st others =
@@ -195,7 +197,7 @@ module _ (names : Names) (sound : SoundTree) (bounds : Bounds) (holds : HoldsTre
           omega (arith, next, here, nth)
 
       -- the entries of the item are passed over
-      pub passes : new.item ≡ old.item + 1 → new.nth ≡ 0 → (count : ℕ) → IsSeen (index_columns sound) bounds held old Other count → Passes names sound bounds old new page
+      pub passes : new.item ≡ old.item + 1 → new.nth ≡ 0 → (count : ℕ) → IsSeen sound bounds held old Other count → Passes names sound bounds old new page
       passes item nth count seen =
           let to = seen.last in
           let n = length (keys_at (index_columns sound) held old.item) in
@@ -216,7 +218,7 @@ module _ (names : Names) (sound : SoundTree) (bounds : Bounds) (holds : HoldsTre
 
       -- the entry at the spot is taken
       pub yields : (place_of (index_columns sound) held new.item new.nth ≡ place + 1) → IsPlaceOn (index_columns sound) held new.item new.nth
-          → (count : ℕ) → IsSeen (index_columns sound) bounds held old Wanted count → Yields names sound bounds old new old page
+          → (count : ℕ) → IsSeen sound bounds held old Wanted count → Yields names sound bounds old new old page
       yields far next count seen =
           let inside : old.nth < length (keys_at (index_columns sound) held old.item) = omega (arith, seen.inside, seen.count_is) in
           let to = seen.last in
@@ -239,7 +241,7 @@ module _ (names : Names) (sound : SoundTree) (bounds : Bounds) (holds : HoldsTre
         omega (arith, here, nth)
 
     -- the spot behind the entry, as the reader moves it
-    pub takes : (new : Spot) (count : ℕ) → new.block ≡ old.block → IsSeen (index_columns sound) bounds held old Wanted count
+    pub takes : (new : Spot) (count : ℕ) → new.block ≡ old.block → IsSeen sound bounds held old Wanted count
         → (old.nth + 1 < count → (new.item ≡ old.item) × (new.nth ≡ old.nth + 1)) → (old.nth + 1 ≡ count → (new.item ≡ old.item + 1) × (new.nth ≡ 0))
         → Yields names sound bounds old new old page
     takes new count same seen within next = elim (cases_lt (old.nth + 1) count) [
@@ -268,7 +270,7 @@ module _ (names : Names) (sound : SoundTree) (bounds : Bounds) (holds : HoldsTre
         let l = ap (left_from names sound bounds) old-state ∙ left in
         record { stands = at; rest = r; left = l; new_rest = r; new_left = l }
 
-    pub ends-past : (count : ℕ) → IsSeen (index_columns sound) bounds held old Past count → Finishes names sound bounds old old page
+    pub ends-past : (count : ℕ) → IsSeen sound bounds held old Past count → Finishes names sound bounds old old page
     ends-past count seen =
         let inside : old.nth < length (keys_at (index_columns sound) held old.item) = omega (arith, seen.inside, seen.count_is) in
         let to = seen.last in

@@ -1,15 +1,13 @@
 -- What a reader finds on a leaf.
-use Rattle.std.specs.Prelude.{◌≡◌, ℕ, true, false, List, [], ◌∷◌, Some}
+use Rattle.std.specs.Prelude.{◌≡◌, ℕ, List, [], ◌∷◌, Some}
 use Rattle.outside.specs.Outside.{Names}
 use Rattle.tree_search.specs.Keys.{Entry}
-use Rattle.tree_search.specs.Search.{At, is_wanted}
+use Rattle.tree_search.specs.Search.{At}
 use Rattle.key_orders.specs.declared.columns.Value.{Value}
 use Rattle.key_orders.specs.declared.Tid.{Tid}
 use Rattle.key_orders.specs.Scans.{Bounds}
 use Rattle.bt_levels.specs.declared.sound.SoundTree.{SoundTree}
 use Rattle.bt_levels.specs.Sound.{index_columns}
-use Rattle.bt_search.specs.declared.leaf.Fate.{Fate}
-use Rattle.bt_search.specs.declared.leaf.Fate.TheVariants.{Past, Wanted, Other}
 use Rattle.bt_search.specs.declared.leaf.OnLeaf.{OnLeaf}
 use Rattle.bt_search.specs.declared.leaf.OnLeaf.TheVariants as found
 use Rattle.bt_search.specs.declared.leaf.OnItem.{OnItem}
@@ -17,14 +15,7 @@ use Rattle.bt_search.specs.declared.leaf.OnItem.TheVariants as on
 use Rattle.bt_search.specs.declared.spot.Spot.{Spot}
 use Rattle.bt_search.specs.Descents.{ComesTo}
 use Rattle.bt_search.specs.Entries.{entry_on}
-use Rattle.bt_steps.specs.Pages.{KeyScan, is_killed}
 use Rattle.bt_search.specs.Spots.{StandsAt, left_at, left_from, rest_at, rest_from}
-
--- what a scan does with an entry: it ends there, yields it, or passes over it
-abbrev pub HasFate : KeyScan → Fate → Entry Value Tid → Type 0
-HasFate scan Past e = scan.past_high e ≡ true
-HasFate scan Wanted e = (scan.past_high e ≡ false) × (is_wanted is_killed scan e ≡ true)
-HasFate scan Other e = (scan.past_high e ≡ false) × (is_wanted is_killed scan e ≡ false)
 
 -- a reader went on from one spot of a page to another: what is left is the same
 pub record Passes (names : Names) (sound : SoundTree) (bounds : Bounds) (old new : Spot) (page : List ℕ) : Type 0 where

@@ -1,6 +1,7 @@
 pub mod Entries
 pub mod Spots
 pub mod Descents
+pub mod Items
 pub mod Leaves
 pub mod Steps
 pub mod Cached

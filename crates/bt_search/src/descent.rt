@@ -29,8 +29,8 @@ pub struct Search<'a> {
     pub limit: u64,
 }
 
-// Reads the page of a block, which is a visit.
-fn look_at<F: Files>(
+/// Reads the page of a block, which is a visit. `ReadFault` comes only where the files couldn't be read.
+pub fn look_at<F: Files>(
     tree: &SoundTree,
     files: &mut F,
     b: u32,
@@ -61,7 +61,8 @@ fn first_spot(block: u32, page: PageView<'_>) -> Spot
     }
 }
 
-/// Goes from a block to the leaf that the search reads: right, and down.
+/// Goes from a block to the leaf that the search reads, right and down, and gives the spot before its first entry.
+/// `ReadFault` comes only where the files couldn't be read.
 pub fn arrive<F: Files>(
     search: &Search<'_>,
     files: &mut F,

@@ -12,6 +12,7 @@ use crate::laws::searches_go_in_steps;
 use crate::leaf::{OnLeaf, read_leaf};
 use crate::spot::{Spot, Visits};
 use bt_levels::SoundTree;
+use bt_tuples::ItemKeys;
 use key_orders::Scan;
 use outside::Files;
 use page_layout::PageView;
@@ -59,7 +60,7 @@ pub fn next_entry<F: Files>(
     let limit = visits.count + u64::from(tree.blocks());
     let search = Search { tree, scan, limit };
     while spot.block != 0 {
-        match read_leaf(&search, PageView::new(page), spot) {
+        match read_leaf(&search, PageView::new(page), spot, &mut ItemKeys::new()) {
             OnLeaf::Entry(at) => return Ok(Some(at)),
             OnLeaf::End => return Ok(None),
             OnLeaf::Right(next) => *spot = arrive(&search, files, next, page, visits)?,

@@ -1,5 +1,5 @@
 -- Hexadecimal digits are read back, and are free of all that ends a field.
-use Rattle.std.proofs.Common.{◌≡◌, ◌≢◌, ℕ, ◌/◌, ◌%◌, ◌==◌, Bool, true, ◌&&◌, not, List, [], ◌∷◌, ◌++◌, slice_index, refl, ap, arith}
+use Rattle.std.proofs.Common.{◌≡◌, ◌≢◌, ℕ, ◌/◌, ◌%◌, ◌==◌, Bool, true, ◌&&◌, not, List, [], ◌∷◌, slice_index, refl, arith}
 use Rattle.std.specs.List.{AllByRecursion}
 use Rattle.std.proofs.lemmas.Bool.{and_parts}
 use Rattle.hex.specs.Hex.{IsBytes, encode_lower, encode_with, lower_digits}
@@ -36,13 +36,6 @@ pub encode_digits : (bytes : List ℕ) → AllByRecursion IsHexDigit (encode_low
 unfolding encode_with
 encode_digits [] = tt
 encode_digits (b ∷ bytes) = (digit_at (b / 16), (digit_at (b % 16), encode_digits bytes))
-
--- the digits of bytes one after the other
-pub encode_with-append : (t xs ys : List ℕ) → encode_with t (xs ++ ys) ≡ encode_with t xs ++ encode_with t ys
-unfolding encode_with
-encode_with-append t [] ys = refl
-encode_with-append t (x ∷ xs) ys =
-    ap (λ (r : List ℕ). slice_index t (x / 16) ∷ slice_index t (x % 16) ∷ r) (encode_with-append t xs ys)
 
 pub bytes_read-encode : (bytes : List ℕ) → IsBytes bytes → bytes_read (encode_lower bytes) ≡ bytes
 unfolding bytes_read

@@ -16,11 +16,11 @@ use Rattle.duplicate_keys.specs.Groups.{Group, closed, entries_met, first_group,
 use Rattle.duplicate_keys.specs.Tables.{IsDone, IsWalked, no_bounds, table_for}
 use denote.Bor.{Bor}
 
-pub done : (names : Names) (at : IndexedHeap) (unique : Unique) (roots : Bor Roots) (bounds : Bounds) → bounds ≡ no_bounds → (first walked ended : Group) → first ≡ first_group unique
-    → IsWalked names (record { index = record { at = at; first = 0 }; unique = unique; roots = roots }) bounds first walked
+pub done : (names : Names) (at : IndexedHeap) (unique : Unique) (roots : Bor Roots) (scan : Bor Bounds) → scan.now ≡ no_bounds → (first walked ended : Group) → first ≡ first_group unique
+    → IsWalked names (record { index = record { at = at; first = 0 }; unique = unique; roots = roots; scan = scan }) scan.now first walked
     → ended ≡ closed (table_for names at unique roots.now) walked
     → IsDone names at unique roots.now ended
-done names at unique roots bounds free first walked ended start walk close =
+done names at unique roots scan free first walked ended start walk close =
     let t = table_for names at unique roots.now in
     record {
       entries = walk.entries;

@@ -1,6 +1,6 @@
 -- One step of what goes through entries and rows.
-use Rattle.std.proofs.Common.{◌≡◌, ◌∙◌, ◌/◌, ◌≤◌, ◌<◌, ℕ, Bool, true, false, List, [], ◌∷◌, length, map, refl, ap, sym, subst, arith}
-use Rattle.std.specs.Prelude.{Option, Some, IsSomeAnd, cond, ◌==◌, ◌&&◌, ◌||◌, nat_le, nat_lt}
+use Rattle.std.proofs.Common.{◌≡◌, ◌∙◌, ◌/◌, ◌≤◌, ◌<◌, ℕ, Bool, true, false, List, [], ◌∷◌, length, map, refl, ap, sym, arith}
+use Rattle.std.specs.Prelude.{Option, Some, cond, ◌==◌, ◌&&◌, ◌||◌, nat_le, nat_lt}
 use Rattle.std.specs.List.{list_any}
 use Rattle.std.proofs.lemmas.Bool.Decides.{nat_tests}
 use Rattle.std.proofs.lemmas.Bool.{and_from, and_left, and_right, cond-false, cond-true, le-leb, le-ltb}
@@ -13,8 +13,6 @@ use Rattle.root_set.specs.Packed.{is_set}
 use Rattle.bt_levels.specs.Sound.{index_columns}
 use Rattle.rel_files.specs.Relation.{count_of}
 use Rattle.tree_search.specs.Keys.{Entry}
-use Rattle.bt_search.specs.declared.spot.EntryRef.{EntryRef}
-use Rattle.bt_search.specs.Entries.{Shows}
 use Rattle.heap_files.specs.Files.{heap_in}
 use Rattle.heap_check.specs.Rows.{block_rows}
 use Rattle.heap_check.specs.declared.rows.LiveRow.{LiveRow}
@@ -170,7 +168,3 @@ kind-is names grouping = refl
 pub may-is : (names : Names) (grouping : Grouping) (tid : Tid) → (table_seen names grouping).may_root tid ≡ is_root_in grouping.roots.now tid
 unfolding table_for
 may-is names grouping tid = refl
-
--- the entry that is shown
-pub shows-entry : (shown : EntryRef) (o : Option (Entry Value Tid)) (e : Entry Value Tid) → IsSomeAnd o (Shows shown) → o ≡ Some e → Shows shown e
-shows-entry shown o e h is = subst (λ (q : Option (Entry Value Tid)). IsSomeAnd q (Shows shown)) is h

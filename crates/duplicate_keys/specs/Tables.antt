@@ -1,16 +1,18 @@
 -- An index and its heap, as the code goes through them.
-use Rattle.std.specs.Prelude.{◌≡◌, ℕ, cond, nat_lt, true, List, []}
+use Rattle.std.specs.Prelude.{◌≡◌, ℕ, cond, nat_lt, true, List, [], None, Option, Some}
 use Rattle.outside.specs.Outside.{Names}
 use Rattle.rel_files.specs.Relation.{count_of}
 use Rattle.tree_search.specs.Keys.{Entry}
-use Rattle.tree_search.specs.Search.{IsWanted}
+use Rattle.tree_search.specs.Search.{At, IsWanted}
 use Rattle.key_orders.specs.declared.columns.Value.{Value}
 use Rattle.key_orders.specs.declared.Tid.{Tid}
 use Rattle.key_orders.specs.Scans.{Bounds, bounds_of, order_of}
 use Rattle.case_file.specs.Record.{CaseRecord}
 use Rattle.bt_levels.specs.Sound.{image_of, index_columns, specs_of}
 use Rattle.bt_steps.specs.Pages.{is_killed}
-use Rattle.bt_search.specs.Spots.{scan_on}
+use Rattle.bt_search.specs.declared.spot.Spot.{Spot}
+use Rattle.bt_search.specs.Descents.{ComesTo}
+use Rattle.bt_search.specs.Spots.{left_at, left_from, rest_at, rest_from, scan_on}
 use Rattle.heap_files.specs.Files.{heap_in}
 use Rattle.heap_check.specs.declared.rows.LiveRow.{LiveRow}
 use Rattle.heap_check.specs.Rows.{block_rows}
@@ -41,6 +43,23 @@ table_seen names grouping = table_for names grouping.index.at grouping.unique gr
 -- the group after these rows
 abbrev pub group_after : Table → Group → List LiveRow → Group
 group_after t g rows = record g { met = rows_met t g.key rows g.met }
+
+-- the group after the unkilled entries of a leaf from a spot on, but for those that the right sibling leads to
+pub record GoesRight (names : Names) (grouping : Grouping) (spot : Spot) (next : ℕ) (old new : Group) : Type 0 where
+  pub comes : ComesTo names grouping.index.at.tree.now grouping.scan.now next
+  pub left : left_at names grouping.index.at.tree.now grouping.scan.now spot
+      ≡ left_from names grouping.index.at.tree.now grouping.scan.now (At next [])
+  pub met : entries_met (table_seen names grouping)
+      (rest_from names grouping.index.at.tree.now grouping.scan.now (At next [])) new
+      ≡ entries_met (table_seen names grouping)
+      (rest_at names grouping.index.at.tree.now grouping.scan.now spot) old
+
+-- all that was left is taken, or the walk goes on to a block
+abbrev pub TakesLeaf : Names → Grouping → Spot → Option ℕ → (old new : Group) → Type 0
+TakesLeaf names grouping spot None old new =
+    new ≡ entries_met (table_seen names grouping)
+    (rest_at names grouping.index.at.tree.now grouping.scan.now spot) old
+TakesLeaf names grouping spot (Some next) old new = GoesRight names grouping spot next old new
 
 -- the group after all unkilled entries of the index
 pub record IsWalked (names : Names) (grouping : Grouping) (bounds : Bounds) (old new : Group) : Type 0 where

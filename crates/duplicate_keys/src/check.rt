@@ -110,8 +110,9 @@ fn group_rows<F: Files>(
         index,
         unique,
         roots,
+        scan: &scan,
     };
-    grouping.walk(files, &scan, &mut cursor, &mut group)?;
+    grouping.walk(files, &mut cursor, &mut group)?;
     grouping.close(files, &mut cursor, &mut group)?;
     Ok(group)
 }

@@ -1,5 +1,5 @@
 //! The entries of an index one after another, and the rows that have the same key as each other.
-ghost use Rattle.std.specs.Prelude.{◌≡◌, ◌∷◌, ◌≤◌, ◌<◌, ◌+◌, ◌^◌, [], List, OnOk, Some, false, length, map, true};
+ghost use Rattle.std.specs.Prelude.{◌≡◌, ◌≢◌, ◌∷◌, ◌≤◌, ◌<◌, ◌+◌, ◌^◌, [], List, OnOk, false, length, map, true};
 ghost use Rattle.outside.specs.Outside.{Asked, IfTold, Names, Tells};
 ghost use Rattle.rel_files.specs.Relation.{count_of};
 ghost use Rattle.tree_search.specs.Keys.{Entry as Item};
@@ -7,8 +7,8 @@ ghost use Rattle.key_orders.specs.declared.columns.Value.{Value as Shown};
 ghost use Rattle.key_orders.specs.declared.Tid.{Tid as Place};
 ghost use Rattle.key_orders.specs.Scans.{FitsKey};
 ghost use Rattle.key_orders.specs.Values.{value_shown};
-ghost use Rattle.bt_levels.specs.Sound.{HoldsTree, index_columns, specs_of};
-ghost use Rattle.bt_search.specs.Entries.{IsEntryAt, entry_on};
+ghost use Rattle.bt_levels.specs.Sound.{HoldsTree, specs_of};
+ghost use Rattle.bt_search.specs.Spots.{StandsAt};
 ghost use Rattle.heap_files.specs.Files.{heap_in};
 ghost use Rattle.heap_check.specs.RowCursor.{IsAtRow, IsCursorOf, IsSameCursor, next_in, rows_here};
 ghost use Rattle.heap_check.specs.declared.rows.LiveRow.{LiveRow as Row};
@@ -16,26 +16,29 @@ ghost use Rattle.row_keys.specs.Rows.{IsFound, IsIndexAt};
 
 use crate::group::{KeyGroup, counts};
 use crate::roots::Roots;
-use bt_search::{Spot, Visits, descend, entry_at, next_entry};
+use bt_search::{OnLeaf, Search, Spot, Visits, arrive, descend, read_leaf, tid_on};
+use bt_tuples::ItemKeys;
 use case_file::Unique;
 use heap_check::{RowCursor, RowPlace};
 use key_orders::{KeyRefs, Scan, Tid, ValueRef};
 use outside::{Files, NoMemory};
-use page_layout::MAX_ITEMS;
+use page_layout::{MAX_ITEMS, PageView};
 use reports::PageFault;
 use row_keys::KeyedHeap;
 
-/// A unique index and its heap, and which line pointers of that may be the root of a live row.
+/// A unique index and its heap, which line pointers of that may be the root of a live row, and the scan that goes over
+/// the index.
 #[derive(Clone, Copy)]
 pub(crate) struct Grouping<'a> {
     pub(crate) index: KeyedHeap<'a>,
     pub(crate) unique: Unique,
     pub(crate) roots: &'a Roots,
+    pub(crate) scan: &'a Scan,
 }
 
 impl Grouping<'_> {
     ghost use Rattle.duplicate_keys.specs.Groups.{block_met, closed, entry_met, opened, row_met, tid_met};
-    ghost use Rattle.duplicate_keys.specs.Tables.{IsWalked, group_after, table_seen};
+    ghost use Rattle.duplicate_keys.specs.Tables.{IsWalked, TakesLeaf, group_after, table_seen};
 
     // Meets the row at which a cursor is, if it has the key of the group.
     fn meet_row(
@@ -212,70 +215,101 @@ impl Grouping<'_> {
         Ok(())
     }
 
-    // Takes the entry at a place of a leaf.
+    // Takes the entry with this key and this TID.
     fn take_entry<F: Files>(
         self,
         files: &mut F,
         cursor: &mut RowCursor<'_>,
         group: &mut KeyGroup,
-        page: &[u8; 8192],
-        at: Spot,
+        key: &KeyRefs<'_>,
+        tid: Tid,
     ) -> Result<(), PageFault>
         requires index { IsIndexAt self.index cursor.old }
         requires told { IfTold F.seen files.old (λ names. IsCursorOf names cursor.old) }
         ensures met { OnOk result (IfTold F.seen files.old (λ names. (e : Item Shown Place)
-            → IsEntryAt (index_columns self.entry.index.at.tree.now) page.now at
-            → entry_on (index_columns self.entry.index.at.tree.now) page.now at ≡ Some e
-            → group.new ≡ entry_met (table_seen names self.entry) e group.old)) }
+            → e.values ≡ key.now → tid ≡ e.tid → group.new ≡ entry_met (table_seen names self.entry) e group.old)) }
         ensures told { IfTold F.seen files.old (λ names. IsCursorOf names cursor.new) }
         ensures same { IsSameCursor cursor.old cursor.new }
         ensures asked { Asked F.seen files.old files.new result PageFault.ReadFault }
     {
-        let Some(entry) = entry_at(self.index.at.tree, page, at) else {
-            return Ok(());
+        self.open(files, cursor, group, key.as_slice())?;
+        self.take_tid(files, cursor, group, tid)
+    }
+
+    // Takes the unkilled entries of a leaf from a spot on, and gives the block to which the walk goes on, if it does.
+    fn take_leaf<F: Files>(
+        self,
+        files: &mut F,
+        cursor: &mut RowCursor<'_>,
+        group: &mut KeyGroup,
+        page: &[u8; 8192],
+        spot: &mut Spot,
+    ) -> Result<Option<u32>, PageFault>
+        requires index { IsIndexAt self.index cursor.old }
+        requires told { IfTold F.seen files.old (λ names. IsCursorOf names cursor.old) }
+        requires holds { IfTold F.seen files.old (λ names. HoldsTree names self.index.at.tree.now) }
+        requires fits { FitsKey (specs_of self.index.at.tree.now) self.scan.now }
+        requires there { spot.old.block ≢ 0 }
+        requires stands { IfTold F.seen files.old (λ names.
+            StandsAt names self.index.at.tree.now self.scan.now spot.old page.now) }
+        ensures met { Tells F.seen files.old result (λ next names.
+            TakesLeaf names self.entry spot.old next group.old group.new) }
+        ensures told { IfTold F.seen files.old (λ names. IsCursorOf names cursor.new) }
+        ensures same { IsSameCursor cursor.old cursor.new }
+        ensures asked { Asked F.seen files.old files.new result PageFault.ReadFault }
+    {
+        let search = Search {
+            tree: self.index.at.tree,
+            scan: self.scan,
+            limit: 0,
         };
-        self.open(files, cursor, group, entry.key.as_slice())?;
-        self.take_tid(files, cursor, group, entry.tid)
+        let view = PageView::new(page);
+        let mut keys = ItemKeys::new();
+        for k in 0..u64::MAX {
+            match read_leaf(&search, view, spot, &mut keys) {
+                OnLeaf::Entry(at) => {
+                    self.take_entry(files, cursor, group, &keys.first.kept, tid_on(view, at))?
+                }
+                OnLeaf::End => return Ok(None),
+                OnLeaf::Right(next) => return Ok(Some(next)),
+            }
+        }
+        Err(PageFault::NoMemory)
     }
 
     /// Takes all unkilled entries of the index, by rising key and TID.
     pub(crate) fn walk<F: Files>(
         self,
         files: &mut F,
-        scan: &Scan,
         cursor: &mut RowCursor<'_>,
         group: &mut KeyGroup,
     ) -> Result<(), PageFault>
         requires index { IsIndexAt self.index cursor.old }
         requires told { IfTold F.seen files.old (λ names. IsCursorOf names cursor.old) }
         requires holds { IfTold F.seen files.old (λ names. HoldsTree names self.index.at.tree.now) }
-        requires fits { FitsKey (specs_of self.index.at.tree.now) scan.now }
+        requires fits { FitsKey (specs_of self.index.at.tree.now) self.scan.now }
         ensures met { OnOk result (IfTold F.seen files.old (λ names.
-            IsWalked names self.entry scan.now group.old group.new)) }
+            IsWalked names self.entry self.entry.scan.now group.old group.new)) }
         ensures told { IfTold F.seen files.old (λ names. IsCursorOf names cursor.new) }
         ensures same { IsSameCursor cursor.old cursor.new }
         ensures asked { Asked F.seen files.old files.new result PageFault.ReadFault }
     {
-        // It has fewer than 2^32 blocks.
-        let _blocks = self.index.at.tree.blocks();
+        let tree = self.index.at.tree;
+        let limit = u64::from(tree.blocks());
+        let search = Search {
+            tree,
+            scan: self.scan,
+            limit,
+        };
         let mut page = [0u8; 8192];
         let mut visits = Visits { count: 0 };
-        let mut spot = descend(self.index.at.tree, files, scan, &mut page, &mut visits)?;
-        for k in 0..u64::MAX {
-            let mut made = Visits { count: 0 };
-            let Some(at) = next_entry(
-                self.index.at.tree,
-                files,
-                scan,
-                &mut spot,
-                &mut page,
-                &mut made,
-            )?
-            else {
-                return Ok(());
-            };
-            self.take_entry(files, cursor, group, &page, at)?;
+        let mut spot = descend(tree, files, self.scan, &mut page, &mut visits)?;
+        while spot.block != 0 {
+            match self.take_leaf(files, cursor, group, &page, &mut spot)? {
+                None => return Ok(()),
+                Some(next) => spot = arrive(&search, files, next, &mut page, &mut visits)?,
+            }
         }
-        Err(PageFault::NoMemory)
+        Ok(())
     }
 }

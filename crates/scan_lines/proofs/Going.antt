@@ -1,6 +1,5 @@
 -- One line after another.
 use Rattle.std.proofs.Common.{◌≡◌, ℕ, ◌+◌, List, [], ◌∷◌, ◌++◌, length, append-nil, append_assoc, sym, subst, ap, ◌∙◌, arith}
-use Rattle.std.specs.Prelude.{IsSomeAnd, Option, Some}
 use Rattle.tree_search.specs.Keys.{Entry}
 use Rattle.key_orders.specs.declared.columns.Value.{Value}
 use Rattle.key_orders.specs.declared.Tid.{Tid}
@@ -15,17 +14,24 @@ leaves-all es left old is = record {
 }
 
 -- one line more
-pub leaves-next : (es left rest : List (Entry Value Tid)) (e : Entry Value Tid) (at : Option (Entry Value Tid)) (old now new : ScanLines)
-    → LeavesLinesOf es left old now → left ≡ e ∷ rest → at ≡ Some e → IsSomeAnd at (λ d. new.text ≡ now.text ++ line_of d) → new.count ≡ now.count + 1
+pub leaves-next : (es left rest : List (Entry Value Tid)) (e : Entry Value Tid) (old now new : ScanLines)
+    → LeavesLinesOf es left old now → left ≡ e ∷ rest → new.text ≡ now.text ++ line_of e → new.count ≡ now.count + 1
     → LeavesLinesOf es rest old new
-leaves-next es left rest e at old now new so_far is at_is pushed more =
-    let one : new.text ≡ now.text ++ line_of e = subst (λ (o : Option (Entry Value Tid)). IsSomeAnd o (λ d. new.text ≡ now.text ++ line_of d)) at_is pushed in
+leaves-next es left rest e old now new so_far is one more =
     let all = so_far.count in
     let longer : length left ≡ length rest + 1 = ap length is ∙ omega arith in
     record {
       text = ap (λ (l : List ℕ). l ++ lines_of rest) one ∙ (append_assoc now.text (line_of e) (lines_of rest) ∙ (ap (λ (l : List (Entry Value Tid)). now.text ++ lines_of l) (sym is) ∙ so_far.text));
       count = omega (arith, all, longer, more);
     }
+
+-- one part after another
+pub leaves-then : (es mid left : List (Entry Value Tid)) (old now new : ScanLines) → LeavesLinesOf es mid old now → LeavesLinesOf mid left now new → LeavesLinesOf es left old new
+leaves-then es mid left old now new first second = record { text = second.text ∙ first.text; count = second.count ∙ first.count }
+
+-- what is left, by another name
+pub leaves-as : (es left rest : List (Entry Value Tid)) (old now : ScanLines) → left ≡ rest → LeavesLinesOf es left old now → LeavesLinesOf es rest old now
+leaves-as es left rest old now same so_far = subst (λ (l : List (Entry Value Tid)). LeavesLinesOf es l old now) same so_far
 
 -- and where none is left they are added
 pub leaves-none : (es left : List (Entry Value Tid)) (old now : ScanLines) → LeavesLinesOf es left old now → left ≡ [] → AddsLinesOf es old now

@@ -1,2 +1,3 @@
 mod Sorting
 mod Going
+mod OnLeaf

@@ -1,18 +1,17 @@
 //! The lines of a scan.
-ghost use Rattle.std.specs.Prelude.{◌≡◌, ◌<◌, ◌+◌, ◌^◌, ◌++◌, [], IfOk, IsSomeAnd, OnOk};
+ghost use Rattle.std.specs.Prelude.{◌≡◌, ◌<◌, ◌+◌, ◌^◌, ◌++◌, [], OnOk};
 ghost use Rattle.outside.specs.Outside.{Asked, IfTold, Tells};
 ghost use Rattle.key_orders.specs.Scans.{FitsKey};
-ghost use Rattle.bt_levels.specs.Sound.{HoldsTree, index_columns, specs_of};
-ghost use Rattle.bt_search.specs.Entries.{IsEntryAt, entry_on};
-ghost use Rattle.scan_lines.specs.Lines.{AreLinesOf, in_direction, line_of};
+ghost use Rattle.bt_levels.specs.Sound.{HoldsTree, specs_of};
+ghost use Rattle.back_scan.specs.Texts.{entry_text};
+ghost use Rattle.scan_lines.specs.Lines.{AreLinesOf, in_direction};
 ghost use Rattle.scan_lines.specs.Wanted.{wanted_on};
 
 use crate::backward::add_backward;
 use crate::forward::add_forward;
 use back_scan::push_entry_line;
 use bt_levels::SoundTree;
-use bt_search::{Spot, entry_at};
-use key_orders::{Octets, Scan};
+use key_orders::{KeyRefs, Octets, Scan, Tid};
 use outside::{Files, NoMemory};
 use reports::PageFault;
 use std::alloc::Global;
@@ -44,22 +43,14 @@ impl ScanLines {
         }
     }
 
-    /// Adds the line of the entry at a place of a page.
-    pub fn push(&mut self, tree: &SoundTree, page: &[u8; 8192], at: Spot) -> Result<(), NoMemory>
-        requires { IsEntryAt (index_columns tree.now) page.now at }
-        ensures text { OnOk result (IsSomeAnd (entry_on (index_columns tree.now) page.now at)
-            (λ e. self.new.text ≡ self.old.text ++ line_of e)) }
+    /// Adds the line of an entry with this key and this TID.
+    pub fn push(&mut self, key: &KeyRefs<'_>, tid: Tid) -> Result<(), NoMemory>
+        requires { self.old.count + 1 < 2 ^ 64 }
+        ensures text { OnOk result (self.new.text ≡ self.old.text ++ entry_text key.now tid) }
         ensures count { OnOk result (self.new.count ≡ self.old.count + 1) }
-        ensures few { OnOk result (self.new.count < 2 ^ 64) }
     {
-        // the text of so many lines would be longer than any memory
-        if self.count == u64::MAX {
-            return Err(NoMemory);
-        }
-        if let Some(entry) = entry_at(tree, page, at) {
-            push_entry_line(&mut self.text, &entry.key, entry.tid)?;
-            self.count += 1;
-        }
+        push_entry_line(&mut self.text, key, tid)?;
+        self.count += 1;
         Ok(())
     }
 }

@@ -6,8 +6,10 @@ ghost use Rattle.bt_levels.specs.Sound.{specs_of};
 use crate::trees::SmallIndex;
 use back_scan::{descend_last, prev_entry};
 use bt_levels::SoundTree;
-use bt_search::{Spot, Visits, descend, entry_at, next_entry};
+use bt_search::{OnLeaf, Search, Spot, Visits, descend, entry_at, next_entry, read_leaf, tid_on};
+use bt_tuples::ItemKeys;
 use key_orders::{Scan, Value, ValueRef};
+use page_layout::{PageKind, PageView};
 use rel_files::ReadFault;
 use std::alloc::Global;
 use std::test::Fail;
@@ -285,6 +287,44 @@ fn descents_by_halves(rt: HostRuntime) -> Result<(), Fail> {
         );
         assert_eq!(rt; reader.visits.count, 2);
     }
+    Ok(())
+}
+
+// The first value and the item of the entry at a place, whose key is at hand.
+fn entry_in_hand(view: PageView<'_>, keys: &ItemKeys<'_>, at: Spot) -> Option<(i64, u16)> {
+    if view.page_rule(PageKind::Tree).is_some() || at.item == 0 || at.item > view.item_count() {
+        return None;
+    }
+    match keys.first.kept.as_slice().first() {
+        Some(ValueRef::Int(value)) => Some((*value, tid_on(view, at).item)),
+        _ => None,
+    }
+}
+
+#[test]
+fn entries_of_a_leaf(rt: HostRuntime) -> Result<(), Fail> {
+    let alloc = rt.alloc();
+    let (mut files, tree) = SmallIndex::Listed.open(alloc)?;
+    let scan = scan_of(alloc, &tree, ALL)?;
+    let mut reader = new_reader(false);
+    start(&tree, &mut files, &scan, &mut reader)?;
+    let search = Search {
+        tree: &tree,
+        scan: &scan,
+        limit: 0,
+    };
+    let view = PageView::new(&reader.page);
+    let mut keys = ItemKeys::new();
+    for want in [(7, 2), (7, 3), (9, 4)] {
+        let OnLeaf::Entry(at) = read_leaf(&search, view, &mut reader.spot, &mut keys) else {
+            return Err("no entry".into());
+        };
+        assert_eq!(rt; entry_in_hand(view, &keys, at), Some(want));
+    }
+    assert_eq!(rt;
+        read_leaf(&search, view, &mut reader.spot, &mut keys),
+        OnLeaf::End
+    );
     Ok(())
 }
 

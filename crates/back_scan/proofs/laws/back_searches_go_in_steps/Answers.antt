@@ -5,7 +5,7 @@ use Rattle.key_orders.specs.Scans.{order_of}
 use Rattle.bt_levels.specs.Sound.{image_of, specs_of}
 use Rattle.bt_steps.specs.Pages.{is_killed}
 use Rattle.bt_search.specs.Spots.{rest_from, scan_on}
-use Rattle.back_scan.specs.Spots.{back_on}
+use Rattle.bt_search.specs.Items.{back_on}
 use Rattle.back_scan.proofs.laws.back_searches_go_in_steps.Goals as goal
 
 pub returns : goal.returns

@@ -53,5 +53,5 @@ close-requires-clause-told g c = λ names told. c.walk.ensures.told names (sym c
 
 pub returns-clause-done : goal.returns-clause-done
 returns-clause-done g c = λ names told.
-    done names c.args.at c.args.unique c.args.roots c.in-Ok.scan (c.in-Ok.ensures.ok) c.new-group.result c.walk.new.group c.close.new.group c.new-group.ensures
+    done names c.args.at c.args.unique c.args.roots _ (c.in-Ok.ensures.ok) c.new-group.result c.walk.new.group c.close.new.group c.new-group.ensures
     (c.in_ok-walk.ensures.met names told) (c.in_ok-close.ensures.met names (c.walk.ensures.asked.same ∙ told))

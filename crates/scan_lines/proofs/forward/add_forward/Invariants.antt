@@ -1,19 +1,19 @@
-use Rattle.std.proofs.Common.{◌+◌, ◌-◌, ◌^◌, ◌≤◌}
+use Rattle.std.proofs.Common.{◌+◌, ◌-◌, ◌*◌, ◌≤◌, min}
 use Rattle.outside.specs.Outside.{IfTold, Passed}
-use Rattle.bt_levels.specs.Sound.{block_count}
 use Rattle.bt_search.specs.Spots.{StandsAt, left_at, rest_at}
 use Rattle.scan_lines.specs.Lines.{LeavesLinesOf}
 use Rattle.scan_lines.specs.Wanted.{wanted_on}
 use Rattle.scan_lines.proofs.forward.add_forward.Given as goal
 
 -- what is left at the spot are the lines that are left
-abbrev pub invariant-loop-visits : goal.invariant-loop-visits
-invariant-loop-visits g l = record {
-  stands : IfTold g.F.Files.seen l.fn.files (λ names. StandsAt names l.tree l.scan l.spot l.page);
-  few : IfTold g.F.Files.seen l.fn.files (λ names. l.visits.count + left_at names l.tree l.scan l.spot ≤ block_count l.tree);
-  lines : IfTold g.F.Files.seen l.fn.files (λ names. LeavesLinesOf (wanted_on names l.tree l.scan) (rest_at names l.tree l.scan l.spot) l.fn.lines l.lines);
+abbrev pub invariant-loop-spot : goal.invariant-loop-spot
+invariant-loop-spot g l = record {
+  limit : l.visits.count ≤ l.search.limit;
+  stands : IfTold g.F.Files.seen l.fn.files (λ names. StandsAt names l.search.tree.now l.search.scan.now l.spot l.page);
+  few : IfTold g.F.Files.seen l.fn.files (λ names. l.visits.count + left_at names l.search.tree.now l.search.scan.now l.spot ≤ l.search.limit);
+  lines : IfTold g.F.Files.seen l.fn.files (λ names. LeavesLinesOf (wanted_on names l.search.tree.now l.search.scan.now) (rest_at names l.search.tree.now l.search.scan.now l.spot) l.fn.lines l.lines);
   asked : Passed g.F.Files.seen l.fn.files l.files;
 }
 
-abbrev pub decreases-loop-visits : goal.decreases-loop-visits
-decreases-loop-visits g l = 2 ^ 64 - l.lines.count
+abbrev pub decreases-loop-spot : goal.decreases-loop-spot
+decreases-loop-spot g l = 2 * (l.search.limit - l.visits.count) + min 1 l.spot.block

@@ -1,16 +1,15 @@
 use Rattle.std.proofs.Common.{◌∙◌, sym}
 use Rattle.std.proofs.lemmas.Result.{on_ok_weaker}
 use Rattle.duplicate_keys.specs.Tables.{table_seen}
-use Rattle.duplicate_keys.proofs.Steps.{entry-is, shows-entry}
+use Rattle.duplicate_keys.proofs.Steps.{entry-is}
 use Rattle.duplicate_keys.proofs.grouping.Grouping.take_entry.Goals as goal
 
 pub take_tid-requires-clause-told : goal.take_tid-requires-clause-told
 take_tid-requires-clause-told g c = λ names told. c.open.ensures.told names (sym c.open.ensures.asked.same ∙ told)
 
 pub returns-clause-met : goal.returns-clause-met
-returns-clause-met g c = on_ok_weaker c.take_tid.result (λ met names told e there is.
-    let shows = shows-entry c.in-Some.entry _ e c.in-Some.ensures.entry is in
-    entry-is (table_seen names c.args.self) e c.args.group.now c.open.new.group c.take_tid.new.group _ c.in-Some.entry.tid (c.as_slice.ensures.values ∙ shows.key) shows.tid (c.in_ok-open.ensures.met names told) (met names (c.open.ensures.asked.same ∙ told)))
+returns-clause-met g c = on_ok_weaker c.take_tid.result (λ met names told e values tid.
+    entry-is (table_seen names c.args.self) e c.args.group.now c.open.new.group c.take_tid.new.group _ c.args.tid (c.as_slice.ensures.values ∙ sym values) tid (c.in_ok-open.ensures.met names told) (met names (c.open.ensures.asked.same ∙ told)))
     c.take_tid.ensures.met
 
 pub returns-clause-told : goal.returns-clause-told

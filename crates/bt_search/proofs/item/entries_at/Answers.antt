@@ -4,9 +4,9 @@ use Rattle.page_layout.specs.View.{page_bytes}
 use Rattle.page_layout.specs.declared.page.LinePtr.{LinePtr}
 use Rattle.bt_meta.specs.declared.records.TreeHead.{TreeHead}
 use Rattle.bt_meta.specs.Heads.{tree_head_of}
-use Rattle.back_scan.specs.Leaves.{entries_by}
-use Rattle.back_scan.proofs.Counts.{entries-are}
-use Rattle.back_scan.proofs.spots.entries_at.Goals as goal
+use Rattle.bt_search.specs.Items.{entries_by}
+use Rattle.bt_search.proofs.InHand.{entries-are}
+use Rattle.bt_search.proofs.item.entries_at.Goals as goal
 
 pub returns : goal.returns
 returns c = λ columns read.

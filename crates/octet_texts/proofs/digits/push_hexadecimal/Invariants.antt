@@ -1,6 +1,6 @@
 use Rattle.std.proofs.Common.{◌≡◌, ◌++◌, length}
 use Rattle.hex.specs.Hex.{encode_lower}
-use Rattle.copy_out.proofs.fields.push_digits.Given as goal
+use Rattle.octet_texts.proofs.digits.push_hexadecimal.Given as goal
 
 -- what is written and the digits of what is left are the digits of all
 abbrev pub invariant-loop-rest : goal.invariant-loop-rest

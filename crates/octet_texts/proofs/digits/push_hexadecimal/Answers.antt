@@ -1,7 +1,7 @@
 use Rattle.std.proofs.Common.{List, ℕ, ◌++◌, sym, ap, ◌∙◌, append_assoc}
 use Rattle.hex.specs.Hex.{encode_lower, lower_digits}
-use Rattle.copy_out.proofs.HexDigits.{encode_with-append}
-use Rattle.copy_out.proofs.fields.push_digits.Goals as goal
+use Rattle.octet_texts.proofs.Encoding.{encode_with-append}
+use Rattle.octet_texts.proofs.digits.push_hexadecimal.Goals as goal
 
 pub loop-rest-preserved : goal.loop-rest-preserved
 loop-rest-preserved c =
