@@ -10,7 +10,6 @@ use Rattle.std.proofs.lemmas.Bool.Decides.{nat_tests}
 use Rattle.std.proofs.lemmas.List.Elements.{All-contains}
 use Rattle.std.proofs.lemmas.List.Sorted.{Contains-permutation, IsPermutation-sym}
 use Rattle.outside.specs.Outside.{Names}
-use Rattle.rel_files.specs.Blocks.{block_of}
 use Rattle.rel_files.specs.Relation.{count_of}
 use Rattle.tree_search.specs.Keys.{Entry, Separator, compare_keys}
 use Rattle.tree_search.specs.Search.{IsWanted, entries_of, is_wanted}
@@ -22,14 +21,10 @@ use Rattle.key_orders.specs.Scans.{order_of}
 use Rattle.case_file.specs.Record.{CaseRecord}
 use Rattle.case_file.specs.Sound.{IsSound}
 use Rattle.varlena_attrs.specs.Columns.{TreeColumns}
-use Rattle.tree_image.specs.Image.{index_image}
-use Rattle.bt_walks.specs.Trees.{image_of as image_in}
 use Rattle.bt_levels.specs.declared.sound.SoundTree.{SoundTree}
 use Rattle.bt_levels.specs.Files.{number_of}
-use Rattle.bt_levels.specs.Index.{index_of, tree_of}
-use Rattle.bt_levels.specs.Sound.{file_of, held_block, image_of, index_columns, specs_of}
+use Rattle.bt_levels.specs.Sound.{file_of, image_of, index_columns, specs_of}
 use Rattle.bt_steps.specs.Pages.{is_killed}
-use Rattle.bt_steps.specs.Sought.{HasAlive as IsSearched}
 use Rattle.bt_steps.proofs.Members.{either-in, first-in, none-in, other-in}
 use Rattle.bt_search.specs.Spots.{scan_on}
 use Rattle.heap_files.specs.Case.{heap_blocks}
@@ -42,7 +37,6 @@ use Rattle.indexed_rules.specs.Broken.{AreJoined}
 use Rattle.indexed_rules.specs.Lists.{duplicates_lists}
 use Rattle.indexed_rules.specs.Rows.{key_numbers, key_of, values_at}
 use Rattle.indexed_rules.specs.Unique.{AreDuplicates, counts, unique_of}
-use Rattle.indexed_rules.proofs.Alive.{searched}
 use Rattle.indexed_rules.proofs.Duplicates.{is-second, with-earlier}
 use Rattle.row_keys.specs.Joined.{BelongTogether, HoldTogether}
 use Rattle.row_keys.proofs.Pages.{count-is, few-items}
@@ -57,6 +51,7 @@ use Rattle.duplicate_keys.proofs.Grouped.{Fits, HasItem, Two, later-noted, later
 use Rattle.duplicate_keys.proofs.HeapRows.{block-rises, in-block, of-block, roots-apart}
 use Rattle.duplicate_keys.proofs.Listing.{listed}
 use Rattle.duplicate_keys.proofs.Ordered.{grouped}
+use Rattle.duplicate_keys.proofs.RowEntries.{row-entry}
 use Rattle.duplicate_keys.proofs.Sorting.{deduped-from, deduped-in, deduped-rise, from-sort}
 
 kept-in : {X : Type 0} (test : X → Bool) (xs : List X) (x : X) → Contains xs x → test x ≡ true → Contains (filter test xs) x
@@ -95,12 +90,6 @@ module _ (names : Names) (at : IndexedHeap) (unique : Unique) (held : Roots) whe
       (same_key : (s t : Separator Value Tid) → (compare_keys (columns_of (specs_of tree)) tid_order s t ≡ Equal) ↔ (s ≡ t))
       (roots : All (λ row. is_root_in held row.root ≡ true) (rows_of case names))
       (es : List (Entry Value Tid)) (wanted : IsWanted (order_of (specs_of tree)) is_killed (image_of names tree) (scan_on tree no_bounds) es) where
-    blocks-are : (b : ℕ) → held_block names tree b ≡ block_of names (index_of case n).file case.segment_blocks b
-    blocks-are b = λ i. block_of names (belong.index.belongs.named.named i) (belong.index.belongs.named.sized i) b
-
-    image-is : image_in (tree_of case names n) ≡ image_of names tree
-    image-is = sym (λ i. index_image (belong.index.columns i).specs (belong.index.columns i).more (hold.file.count i) (λ b. blocks-are b i))
-
     -- the key of a row
     abbrev key_in : LiveRow → Option (List Value)
     key_in row = values_at (key_numbers (index_columns tree)) row.cells
@@ -108,21 +97,16 @@ module _ (names : Names) (at : IndexedHeap) (unique : Unique) (held : Roots) whe
     keys-are : (row : LiveRow) → key_in row ≡ key_of case n row
     keys-are row = ap (λ (c : TreeColumns). values_at (key_numbers c) row.cells) belong.index.columns
 
-    some-is : (a b : List Value) → Some a ≡ Some b → a ≡ b
-    some-is a b e = cc
-
     count : count_of (heap_in at.heap.now) ≡ heap_blocks case names
     count = count-is case names at.heap.now belong.heap hold.heap
 
     entry-of : (row : LiveRow) (key : List Value) → Contains (rows_of case names) row → key_in row ≡ Some key → HasItem es key row.root
     entry-of row key among is =
-        let own = joined.rows row among in
-        let same : own.key ≡ key = some-is own.key key (sym own.values ∙ sym (keys-are row) ∙ is) in
-        let has : IsSearched (image_of names tree) own.key row.root = subst (λ x. IsSearched x own.key row.root) image-is (searched (tree_of case names n) own.key own.more row.root own.entry) in
+        let has = row-entry names case at.heap.now tree belong hold joined row key among (sym (keys-are row) ∙ is) in
         record {
           item = has.entry;
           among = wanted-in (specs_of tree) names tree es wanted has.entry has.among has.alive;
-          values = has.sought.values ∙ same;
+          values = has.sought.values;
           tid_is = has.sought.tid_is;
         }
 

@@ -8,3 +8,5 @@ pub mod Fitting
 pub mod Adding
 pub mod Done
 pub mod NotUnique
+pub mod RowEntries
+pub mod NoneTwice

@@ -35,12 +35,16 @@ module _ (case : CaseRecord) (names : Names) (n : ℕ) where
       (λ i. joined (finding_at (Tuple n row.tid) (duplicate_rule (none row (first-in row rows) i))) (of_each report_lists (duplicate_lists case names n) rows))
       ∙ rows-nothing rows (λ r among. none r (other-in row r rows among))
 
-  none-listed : unique_of case n ≡ No → duplicates_lists case names n ≡ nothing
+  -- where no row is a duplicate
+  pub none-listed : ((row : LiveRow) → Contains (rows_of case names) row → is_duplicate case names n row ≡ false) → duplicates_lists case names n ≡ nothing
   unfolding duplicates_lists
-  none-listed kind = rows-nothing (rows_of case names) (none-twice kind)
+  none-listed none = rows-nothing (rows_of case names) none
+
+  pub nothing-with : duplicates_lists case names n ≡ nothing → (old : Lists) → old ≡ joined old (duplicates_lists case names n)
+  nothing-with none old = sym (ap (joined old) none ∙ report_lists.with_none old)
 
   pub nothing-added : unique_of case n ≡ No → (old : Lists) → old ≡ joined old (duplicates_lists case names n)
-  nothing-added kind old = sym (ap (joined old) (none-listed kind) ∙ report_lists.with_none old)
+  nothing-added kind = nothing-with (none-listed (none-twice kind))
 
 -- an index of a case
 pub unique-there : (o : Option IndexRecord) (unique : Unique) → option_map (λ i. i.unique) o ≡ Some unique → unique ≡ (unwrap_or o no_index).unique

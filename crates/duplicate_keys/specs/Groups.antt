@@ -8,7 +8,14 @@ use Rattle.key_orders.specs.declared.Tid.{Tid}
 use Rattle.stored_keys.specs.Same.{same_key}
 use Rattle.heap_check.specs.declared.rows.LiveRow.{LiveRow}
 use Rattle.case_file.specs.declared.case.Unique.{Unique}
+use Rattle.case_file.specs.declared.case.Unique.TheVariants.{No, NullsDistinct, NullsEqual}
 use Rattle.indexed_rules.specs.Unique.{counts}
+
+-- whether an index of this kind is asked for equal keys
+abbrev pub is_asked : Unique → Bool
+is_asked No = false
+is_asked NullsDistinct = true
+is_asked NullsEqual = true
 
 -- a TID as one number, which rises as TIDs do
 abbrev pub tid_number : Tid → ℕ

@@ -2,7 +2,7 @@
 ghost use Rattle.std.specs.Prelude.{◌≡◌, ◌<◌, ◌≤◌, ◌^◌, All, IfOk, OnOk, length, true};
 ghost use Rattle.outside.specs.Adds.{AddsIn};
 ghost use Rattle.outside.specs.Outside.{Asked, IfTold, Names, Tells};
-ghost use Rattle.reports.specs.Added.{report_lists};
+ghost use Rattle.reports.specs.Added.{nothing, report_lists};
 ghost use Rattle.bt_levels.specs.Files.{number_of};
 ghost use Rattle.bt_levels.specs.Sound.{file_of};
 ghost use Rattle.heap_check.specs.RowCursor.{IsCursorOf, rows_ahead};
@@ -11,6 +11,8 @@ ghost use Rattle.indexed_rules.specs.Broken.{AreJoined};
 ghost use Rattle.indexed_rules.specs.Lists.{duplicates_lists};
 ghost use Rattle.indexed_rules.specs.Unique.{unique_of};
 ghost use Rattle.row_keys.specs.Joined.{BelongTogether, HoldTogether};
+ghost use Rattle.apart_keys.specs.Apart.{AreApart};
+ghost use Rattle.duplicate_keys.specs.Groups.{is_asked};
 ghost use Rattle.duplicate_keys.specs.Later.{later_lists};
 ghost use Rattle.duplicate_keys.specs.Roots.{is_root_in};
 ghost use Rattle.duplicate_keys.specs.Tables.{IsDone};
@@ -18,6 +20,7 @@ ghost use Rattle.duplicate_keys.specs.Tables.{IsDone};
 use crate::group::KeyGroup;
 use crate::grouping::Grouping;
 use crate::roots::Roots;
+use apart_keys::apart_leaves_have_no_equal_keys;
 use case_file::{Case, Unique};
 use heap_check::{RowCursor, rows_are_live_tuples};
 use key_orders::{Scan, Tid, key_orders_are_total};
@@ -33,6 +36,29 @@ fn unique_of(case: &Case, n: u16) -> Unique
     ensures { result ≡ unique_of case.now n }
 {
     case.index_unique(n)
+}
+
+/// Whether the case calls an index unique, so that it is asked for equal keys.
+pub fn is_unique(at: IndexedHeap<'_>) -> bool
+    requires belong { BelongTogether at.case.now at.heap.now at.tree.now }
+    ensures { result ≡ is_asked (unique_of at.entry.case.now (number_of (file_of at.entry.tree.now))) }
+{
+    match unique_of(at.case, at.tree.index()) {
+        Unique::No => false,
+        Unique::NullsDistinct | Unique::NullsEqual => true,
+    }
+}
+
+// No row is a duplicate where the leaves of the index are apart.
+fn no_row_is_second(at: IndexedHeap<'_>)
+    requires belong { BelongTogether at.case.now at.heap.now at.tree.now }
+    ensures { (names : Names) → HoldTogether names at.entry.case.now at.entry.heap.now at.entry.tree.now
+        → AreJoined at.entry.case.now names (number_of (file_of at.entry.tree.now)) → AreApart names at.entry.tree.now
+        → duplicates_lists at.entry.case.now names (number_of (file_of at.entry.tree.now)) ≡ nothing }
+{
+    rows_are_live_tuples();
+    apart_leaves_have_no_equal_keys();
+    at.case.sound();
 }
 
 // Adds X3 at the rows of these numbers.
@@ -149,7 +175,8 @@ fn later_rows<F: Files>(
 /// Adds to the report each live row of a heap that has, in a unique index of it, the key of a row with a lower TID
 /// (X3), by rising TID. A null is equal to none, unless the index takes nulls as equal; included columns play no part.
 /// Each live row has its entry in the index, and each entry names what it may (`AreJoined`): nothing was found of
-/// either before. Of an index that isn't unique nothing is added, and nothing is read.
+/// either before. Of an index that isn't unique nothing is added, and nothing is read; nor is it where it is known that
+/// no two entries of the index have the same values (`apart`).
 ///
 /// The heap is read once for the roots of its rows, and the leaves of the index once along their chain. Of the entries
 /// that have one key and may be of a row, where they are more than one, each block that they name is read once more.
@@ -160,16 +187,22 @@ pub fn check_duplicates<F: Files>(
     alloc: Global,
     files: &mut F,
     at: IndexedHeap<'_>,
+    apart: bool,
     report: &mut Report,
 ) -> Result<(), PageFault>
     requires belong { BelongTogether at.case.now at.heap.now at.tree.now }
     requires hold { IfTold F.seen files.old (λ names. HoldTogether names at.case.now at.heap.now at.tree.now) }
     requires joined { IfTold F.seen files.old (λ names.
         AreJoined at.case.now names (number_of (file_of at.tree.now))) }
+    requires apart { IfTold F.seen files.old (λ names. apart ≡ true → AreApart names at.tree.now) }
     ensures lists { IfTold F.seen files.old (λ names. AddsIn report_lists result report.old report.new
         (duplicates_lists at.entry.case.now names (number_of (file_of at.entry.tree.now)))) }
     ensures asked { Asked F.seen files.old files.new result PageFault.ReadFault }
 {
+    if apart {
+        no_row_is_second(at);
+        return Ok(());
+    }
     let index = at.tree.index();
     let unique = unique_of(at.case, index);
     if let Unique::No = unique {

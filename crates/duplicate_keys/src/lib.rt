@@ -8,4 +8,4 @@ mod group;
 mod grouping;
 mod roots;
 
-pub use check::check_duplicates;
+pub use check::{check_duplicates, is_unique};

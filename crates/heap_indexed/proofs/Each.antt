@@ -1,5 +1,5 @@
 -- Indexes and what is in work for them, place by place.
-use Rattle.std.proofs.Common.{◌≡◌, ◌∙◌, ◌≢◌, ◌⊎◌, ℕ, suc, ◌+◌, ◌<◌, ◌≤◌, List, [], ◌∷◌, ◌++◌, inl, inr, drop, length, get_or, set, map, refl, sym, ap, subst, arith}
+use Rattle.std.proofs.Common.{◌≡◌, ◌∙◌, ◌≢◌, ◌⊎◌, ℕ, zero, suc, true, false, ◌+◌, ◌<◌, ◌≤◌, List, [], ◌∷◌, ◌++◌, inl, inr, drop, length, get_or, set, map, refl, sym, ap, subst, arith}
 use Rattle.std.specs.Prelude.{take}
 use Rattle.std.proofs.lemmas.Bool.{cases_eq}
 use Rattle.std.proofs.Math.ListN.{get_or-append}
@@ -96,6 +96,18 @@ reports-are f (t ∷ trees) (m ∷ meetings) all =
       each = λ k x y lt. all.each (suc k) x y (omega arith);
     } in
     λ i. here i ∷ reports-are f trees meetings rest i
+
+-- what is so of each index of which its work says that it is
+pub each-known : (P : SoundTree → Type 0) (trees : List SoundTree) (meetings : List Meeting) → EachFor (λ (tree : SoundTree) (m : Meeting). m.apart ≡ true → P tree) trees meetings → (k : ℕ) (tree : SoundTree) → k < length trees → get_or (map (λ (m : Meeting). m.apart) meetings) k false ≡ true → P (get_or trees k tree)
+each-known P [] meetings all k tree lt known = absurd (omega (arith, lt))
+each-known P (t ∷ trees) [] all k tree lt known = absurd (omega (arith, all.same))
+each-known P (t ∷ trees) (m ∷ meetings) all zero tree lt known = all.each 0 t m (omega arith) known
+each-known P (t ∷ trees) (m ∷ meetings) all (suc k) tree lt known =
+    let rest : EachFor (λ (x : SoundTree) (n : Meeting). n.apart ≡ true → P x) trees meetings = record {
+      same = omega (arith, all.same);
+      each = λ j x y below. all.each (suc j) x y (omega arith);
+    } in
+    each-known P trees meetings rest k tree (omega (arith, lt)) known
 
 -- what a slice of all of a vector leaves behind
 pub written-back : (n : ℕ) (new old : List Meeting) → n ≡ length new → take n (new ++ drop (length new) old) ≡ new

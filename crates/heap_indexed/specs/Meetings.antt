@@ -16,6 +16,7 @@ use Rattle.heap_check.specs.declared.row_cursor.RowCursor.{RowCursor}
 use Rattle.heap_check.specs.declared.rows.LiveRow.{LiveRow}
 use Rattle.heap_check.specs.RowCursor.{asked_at, case_at, heap_at}
 use Rattle.indexed_rules.specs.Rows.{key_numbers, more_numbers, values_at}
+use Rattle.apart_keys.specs.Apart.{AreApart}
 use Rattle.index_targets.specs.Passes.{strays_of}
 use Rattle.row_slots.specs.Slots.{Tables, keys_in, keys_with, met_in}
 use Rattle.heap_indexed.specs.declared.joined.IndexedTable.{IndexedTable}
@@ -94,13 +95,14 @@ IsKept names index first end meeting = meeting.is_whole ≡ true
     → All (IsKeptRow (index_columns index.at.tree.now) meeting.slots)
     (rows_from index.at.case.now names first (end - first))
 
--- what was found so far of the rows and of the entries of an index is this; none of the rows of the range was met yet,
--- and each of them is kept, where it says so
+-- what was found so far of the rows and of the entries of an index is this, and no two entries have the same values,
+-- where it says so; none of the rows of the range was met yet, and each of them is kept, where it says so
 pub record InWork (names : Names) (done strays : Lists) (range : List LiveRow) (tree : SoundTree) (meeting : Meeting)
     : Type 0 where
   pub pages : AreOf names tree meeting.look_ups
   pub done_is : meeting.rows ≡ done
   pub strays_are : meeting.entries ≡ strays
+  pub apart : meeting.apart ≡ true → AreApart names tree
   pub unmet : (tid : Tid) → met_in meeting.slots tid ≡ false
   pub kept : meeting.is_whole ≡ true → All (IsKeptRow (index_columns tree) meeting.slots) range
 
@@ -141,8 +143,15 @@ pub record AreToFinish (names : Names) (ranges : Ranges) (range : List LiveRow) 
   pub strays : SoundTree → Lists
   pub work : AreInWork names done strays range ranges.at.trees.now meetings
 
--- all rows and all entries were judged
-abbrev pub IsJudged : CaseRecord → Names → (blocks : ℕ) → List (List Bool) → SoundTree → Meeting → Type 0
-IsJudged case names blocks targets tree meeting =
-    joined meeting.rows meeting.entries
-    ≡ joined (owed_for names tree (rows_from case names 0 blocks)) (strays_of names (Some targets) tree)
+-- all rows and all entries were judged, and no two entries have the same values, where it says so
+pub record IsJudged (case : CaseRecord) (names : Names) (blocks : ℕ) (targets : List (List Bool)) (tree : SoundTree)
+    (meeting : Meeting) : Type 0 where
+  pub lists : joined meeting.rows meeting.entries
+      ≡ joined (owed_for names tree (rows_from case names 0 blocks)) (strays_of names (Some targets) tree)
+  pub apart : meeting.apart ≡ true → AreApart names tree
+
+-- so it is of each index of which it is known
+abbrev pub AreApartWhere : Names → List SoundTree → List Bool → Type 0
+AreApartWhere names trees aparts =
+    (k : ℕ) (tree : SoundTree) → k < length trees → slice_index_or aparts k false ≡ true
+    → AreApart names (slice_index_or trees k tree)

@@ -5,6 +5,7 @@ ghost use Rattle.outside.specs.Outside.{Asked, IfTold, Tells};
 ghost use Rattle.reports.specs.Added.{report_lists};
 ghost use Rattle.bt_levels.specs.Files.{number_of};
 ghost use Rattle.bt_levels.specs.Sound.{file_of};
+ghost use Rattle.apart_keys.specs.Apart.{AreApart};
 ghost use Rattle.bt_search.specs.Lookups.{most_visits};
 ghost use Rattle.heap_check.specs.Rows.{rows_of};
 ghost use Rattle.indexed_rules.specs.Lists.{entries_lists, indexed_lists, joined_lists, rows_lists};
@@ -16,7 +17,7 @@ use crate::row_judge::RowJudge;
 use bt_search::ways_are_short;
 use duplicate_keys::check_duplicates;
 use heap_check::RowCursor;
-use index_targets::check_entries;
+use index_targets::{Questions, check_entries};
 use indexed_rules::heaps_and_indexes_are_judged;
 use outside::Files;
 use reports::{CheckFault, PageFault, Report};
@@ -40,7 +41,12 @@ fn check_strays<F: Files>(
 {
     set_tells_of_pages();
     let mut slots = RowSlots::new(alloc, 0)?;
-    check_entries(files, at.tree, Some(at.heap.targets()), &mut slots, report)
+    let asked = Questions {
+        targets: Some(at.heap.targets()),
+        apart: false,
+    };
+    check_entries(files, at.tree, asked, &mut slots, report)?;
+    Ok(())
 }
 
 // Looks up the rows of a heap one after another.
@@ -146,16 +152,19 @@ fn is_empty(report: &Report) -> bool
 }
 
 // Adds the rows of a unique index whose keys earlier rows have (X3) to the report on the index, where nothing is in it.
+// It may be known that no two entries of the index have the same values.
 pub(crate) fn add_duplicates<F: Files>(
     alloc: Global,
     files: &mut F,
     at: IndexedHeap<'_>,
+    apart: bool,
     report: &mut Report,
 ) -> Result<(), PageFault>
     requires belong { BelongTogether at.case.now at.heap.now at.tree.now }
     requires hold { IfTold F.seen files.old (λ names. HoldTogether names at.case.now at.heap.now at.tree.now) }
     requires joined { IfTold F.seen files.old (λ names.
         report.old ≡ joined_lists at.case.now names (number_of (file_of at.tree.now))) }
+    requires apart { IfTold F.seen files.old (λ names. apart ≡ true → AreApart names at.tree.now) }
     ensures lists { IfTold F.seen files.old (λ names. OnOk result (report.new
         ≡ indexed_lists at.entry.case.now names (number_of (file_of at.entry.tree.now)))) }
     ensures asked { Asked F.seen files.old files.new result PageFault.ReadFault }
@@ -164,7 +173,7 @@ pub(crate) fn add_duplicates<F: Files>(
     if !is_empty(report) {
         return Ok(());
     }
-    check_duplicates(alloc, files, at, report)
+    check_duplicates(alloc, files, at, apart, report)
 }
 
 // The report on a heap and an index of it, told by look-ups.
@@ -182,7 +191,7 @@ pub(crate) fn index_report<F: Files>(
 {
     let mut report = Report::new(alloc);
     check_joined(alloc, files, at, &mut report)?;
-    add_duplicates(alloc, files, at, &mut report)?;
+    add_duplicates(alloc, files, at, false, &mut report)?;
     Ok(report)
 }
 

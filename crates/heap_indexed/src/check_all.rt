@@ -9,7 +9,8 @@ ghost use Rattle.heap_check.specs.RowCursor.{AreAsked, asked_at};
 ghost use Rattle.heap_check.specs.declared.row_cursor.RowCursor.{RowCursor as Cursor};
 ghost use Rattle.indexed_rules.specs.Lists.{indexed_lists, joined_lists};
 ghost use Rattle.row_keys.specs.Joined.{BelongTogether, HoldTogether};
-ghost use Rattle.heap_indexed.specs.Meetings.{AreFirsts, AreInWork, BelongToIt, HoldIt, columns_of_all};
+ghost use Rattle.heap_indexed.specs.Meetings.{AreApartWhere, AreFirsts, AreInWork, BelongToIt, HoldIt};
+ghost use Rattle.heap_indexed.specs.Meetings.{columns_of_all};
 ghost use Rattle.row_keys.specs.Rows.{columns_in};
 
 use crate::check::{add_duplicates, index_report};
@@ -109,17 +110,36 @@ fn reports_of(alloc: Global, meetings: Vec<Meeting>) -> Result<VecDeque<Report>,
     Ok(reports)
 }
 
+// Whether it is known of each index that no two of its entries have the same values.
+fn aparts_of(alloc: Global, meetings: &[Meeting]) -> Result<Vec<bool>, NoMemory>
+    ensures are { IfOk result (λ aparts. aparts.items ≡ map (λ m. m.apart) meetings.now) }
+    ensures count { IfOk result (λ aparts. length aparts.items ≡ length meetings.now) }
+{
+    let mut aparts = Vec::new(alloc);
+    for j in 0..meetings.len() {
+        aparts.push(meetings[j].apart)?;
+    }
+    Ok(aparts)
+}
+
+// What is found of the rows and the entries of indexes, a report for each, and of which of them it is known that no two
+// entries have the same values.
+#[derive(Drop)]
+struct Met {
+    reports: VecDeque<Report>,
+    aparts: Vec<bool>,
+}
+
 // What is found of the rows and the entries of each index (X1, U6, X2), told by entries that meet rows.
-fn meet_all<F: Files>(
-    alloc: Global,
-    files: &mut F,
-    at: IndexedTable<'_>,
-) -> Result<VecDeque<Report>, PageFault>
+fn meet_all<F: Files>(alloc: Global, files: &mut F, at: IndexedTable<'_>) -> Result<Met, PageFault>
     requires belong { BelongToIt at }
     requires hold { IfTold F.seen files.old (λ names. HoldIt names at) }
-    ensures reports { Tells F.seen files.old result (λ reports names. reports.items
+    ensures reports { Tells F.seen files.old result (λ met names. met.reports.items
         ≡ map (λ tree. joined_lists at.entry.case.now names (number_of (file_of tree))) at.entry.trees.now) }
-    ensures count { IfOk result (λ reports. length reports.items ≡ length at.entry.trees.now) }
+    ensures count { IfOk result (λ met. length met.reports.items ≡ length at.entry.trees.now) }
+    ensures aparts { Tells F.seen files.old result (λ met names.
+        AreApartWhere names at.entry.trees.now met.aparts.items) }
+    ensures aparts_count { IfOk result (λ met. length met.aparts.items ≡ length at.entry.trees.now) }
     ensures asked { Asked F.seen files.old files.new result PageFault.ReadFault }
 {
     set_tells_of_pages();
@@ -133,22 +153,27 @@ fn meet_all<F: Files>(
         firsts: &firsts,
     };
     ranges.judge_all(files, &mut meetings, &mut cursor)?;
+    let aparts = aparts_of(alloc, &meetings)?;
     let reports = reports_of(alloc, meetings)?;
-    Ok(reports)
+    Ok(Met { reports, aparts })
 }
 
-// Adds to the report on each index, where nothing is in it, the rows whose keys earlier rows have (X3).
+// Adds to the report on each index, where nothing is in it, the rows whose keys earlier rows have (X3). Of some indexes
+// it is known that no two entries have the same values.
 fn judge_keys<F: Files>(
     alloc: Global,
     files: &mut F,
     at: IndexedTable<'_>,
     joined: VecDeque<Report>,
+    aparts: &[bool],
 ) -> Result<VecDeque<Report>, PageFault>
     requires belong { BelongToIt at }
     requires hold { IfTold F.seen files.old (λ names. HoldIt names at) }
     requires count { length joined.items ≡ length at.trees.now }
     requires joined { IfTold F.seen files.old (λ names. joined.items
         ≡ map (λ tree. joined_lists at.case.now names (number_of (file_of tree))) at.trees.now) }
+    requires aparts_count { length aparts.now ≡ length at.trees.now }
+    requires aparts { IfTold F.seen files.old (λ names. AreApartWhere names at.trees.now aparts.now) }
     ensures reports { Tells F.seen files.old result (λ reports names. reports.items
         ≡ map (λ tree. indexed_lists at.entry.case.now names (number_of (file_of tree))) at.entry.trees.now) }
     ensures asked { Asked F.seen files.old files.new result PageFault.ReadFault }
@@ -159,7 +184,9 @@ fn judge_keys<F: Files>(
     while let Some(found) = joined.pop_front() {
         let mut report = found;
         let tree = &trees[reports.len()];
-        add_duplicates(alloc, files, IndexedHeap { case, heap, tree }, &mut report)?;
+        let apart = aparts[reports.len()];
+        let index = IndexedHeap { case, heap, tree };
+        add_duplicates(alloc, files, index, apart, &mut report)?;
         push_report(&mut reports, report)?;
     }
     Ok(reports)
@@ -183,8 +210,11 @@ pub fn meet_indexes<F: Files>(
     ensures only { IfErr result (λ e. e ≡ CheckFault.ReadFault ⊎ e ≡ CheckFault.NoMemory) }
     ensures asked { Asked F.seen files.old files.new result CheckFault.ReadFault }
 {
-    let joined = meet_all(alloc, files, at)?;
-    let reports = judge_keys(alloc, files, at, joined)?;
+    let Met {
+        reports: joined,
+        aparts,
+    } = meet_all(alloc, files, at)?;
+    let reports = judge_keys(alloc, files, at, joined, &aparts)?;
     Ok(reports)
 }
 

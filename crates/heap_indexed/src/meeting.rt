@@ -17,18 +17,20 @@ ghost use Rattle.row_slots.specs.Slots.{AreAllMet, IsBegun, keys_in, keys_with, 
 ghost use Rattle.heap_indexed.specs.Looking.{AreOf};
 ghost use Rattle.heap_indexed.specs.Judging.{IsBehind, IsReadyBehind};
 ghost use Rattle.heap_indexed.specs.Meetings.{InWork, IsKept, IsPut, IsToFinish};
+ghost use Rattle.row_keys.specs.Joined.{BelongTogether};
 ghost use Rattle.row_keys.specs.Rows.{IsFound, IsIndexAt};
 ghost use Rattle.heap_indexed.specs.Rows.{owed_for, rows_from};
 
 use crate::joined::LookUps;
 use crate::row_judge::RowJudge;
+use duplicate_keys::is_unique;
 use heap_check::{RowCursor, RowPlace};
-use index_targets::check_entries;
+use index_targets::{Questions, check_entries};
 use key_orders::{KeyRefs, MoreRefs, Tid, ValueRef};
 use outside::{Files, NoMemory};
 use reports::{PageFault, Report};
 use root_set::RootSet;
-use row_keys::KeyedHeap;
+use row_keys::{IndexedHeap, KeyedHeap};
 use row_slots::RowSlots;
 use std::alloc::Global;
 use stored_keys::RowValues;
@@ -49,6 +51,8 @@ pub struct Meeting {
     pub rows: Report,
     /// What is found of the entries.
     pub entries: Report,
+    /// Whether it is known that no two entries have the same values.
+    pub apart: bool,
 }
 
 // Whether an index may have these values, by their lengths.
@@ -114,6 +118,17 @@ fn keep_row_at(
     Ok(kept)
 }
 
+// Whether it is asked that no two entries of an index have the same values: of a unique one, by the pass over its
+// leaves that asks what they name.
+fn asks_keys(targets: Option<&RootSet>, at: IndexedHeap<'_>) -> bool
+    requires belong { BelongTogether at.case.now at.heap.now at.tree.now }
+{
+    if targets.is_none() {
+        return false;
+    }
+    is_unique(at)
+}
+
 impl Meeting {
     /// Nothing is done yet, and no row is kept.
     pub fn new(alloc: Global) -> Result<Meeting, NoMemory>
@@ -125,6 +140,7 @@ impl Meeting {
             look_ups: LookUps::new(alloc)?,
             rows: Report::new(alloc),
             entries: Report::new(alloc),
+            apart: false,
         })
     }
 
@@ -181,6 +197,7 @@ impl Meeting {
             → OnOk result (self.new.rows ≡ joined self.old.rows (owed_for names index.entry.at.tree.now
             (rows_from index.entry.at.case.now names first (next_in cursor.old - first))))) }
         ensures entries { self.new.entries ≡ self.old.entries }
+        ensures apart { self.new.apart ≡ self.old.apart }
         ensures pages { IfTold F.seen files.old (λ names. AreOf names index.entry.at.tree.now self.new.look_ups) }
         ensures behind { IfTold F.seen files.old (λ names. OnOk result (IsBehind names cursor.new)) }
         ensures next_block { OnOk result (next_in cursor.new ≡ next_in cursor.old) }
@@ -204,6 +221,7 @@ impl Meeting {
         ensures slots { IsBegun block self.new.slots }
         ensures rows { self.new.rows ≡ self.old.rows }
         ensures entries { self.new.entries ≡ self.old.entries }
+        ensures apart { self.new.apart ≡ self.old.apart }
         ensures look_ups { self.new.look_ups ≡ self.old.look_ups }
     {
         self.slots.begin(block);
@@ -211,7 +229,8 @@ impl Meeting {
     }
 
     /// Has the entries of the index meet the rows of the range, whose first block is given, and judges these and, where
-    /// it is asked, what the entries name; a cursor stands behind the range. Then the next range begins.
+    /// it is asked, what the entries name, and of a unique index then whether no two have the same values; a cursor
+    /// stands behind the range. Then the next range begins.
     pub fn finish_range<F: Files>(
         &mut self,
         files: &mut F,
@@ -237,15 +256,20 @@ impl Meeting {
         ensures same { IsSameCursor cursor.old cursor.new }
         ensures asked { Asked F.seen files.old files.new result PageFault.ReadFault }
     {
-        check_entries(
+        let asked = Questions {
+            targets,
+            apart: asks_keys(targets, index.at),
+        };
+        let apart = check_entries(
             files,
             index.at.tree,
-            targets,
+            asked,
             &mut self.slots,
             &mut self.entries,
         )?;
         self.judge_rows(files, index, cursor, first)?;
         self.begin(cursor.next_block());
+        self.apart = self.apart || apart;
         Ok(())
     }
 

@@ -1,5 +1,5 @@
 -- What a pass over the leaves of an index finds of what its entries name, where that is asked.
-use Rattle.std.specs.Prelude.{ℕ, ◌-◌, Bool, List, Option, None, Some}
+use Rattle.std.specs.Prelude.{◌≡◌, ℕ, ◌-◌, Bool, true, List, Option, None, Some}
 use Rattle.outside.specs.Outside.{Names}
 use Rattle.varlena_attrs.specs.Columns.{TreeColumns}
 use Rattle.reports.specs.Added.{each_upto, nothing, report_lists}
@@ -8,6 +8,8 @@ use Rattle.bt_levels.specs.declared.sound.SoundTree.{SoundTree}
 use Rattle.bt_levels.specs.Files.{number_of}
 use Rattle.bt_levels.specs.Sound.{block_count, file_of, held_block, index_columns}
 use Rattle.root_set.specs.Targets.{is_in}
+use Rattle.bt_steps.specs.Pages.{is_live_leaf}
+use Rattle.apart_keys.specs.Apart.{IsApart}
 use Rattle.indexed_rules.specs.Lists.{leaf_lists}
 
 -- the entries of a block that name what the set doesn't have, where there is a set
@@ -21,3 +23,8 @@ strays_of names targets tree =
     each_upto report_lists
     (λ b. strays_on (number_of (file_of tree)) (index_columns tree) targets b (held_block names tree b))
     (block_count tree - 1)
+
+-- block b is apart, if it is a leaf in use that isn't half-dead, and it was known so far that keys are
+pub record IsApartSoFar (names : Names) (tree : SoundTree) (b : ℕ) (before : Bool) : Type 0 where
+  pub known : before ≡ true
+  pub here : is_live_leaf (held_block names tree b) ≡ true → IsApart (index_columns tree) (held_block names tree b)

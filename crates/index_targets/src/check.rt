@@ -1,30 +1,44 @@
 //! The leaves of an index, one after another.
-ghost use Rattle.std.specs.Prelude.{◌≡◌, ◌<◌, ◌≤◌, OnOk, true};
+ghost use Rattle.std.specs.Prelude.{◌≡◌, ◌<◌, ◌≤◌, None, OnOk, true};
 ghost use Rattle.std.specs.Option.{option_copied};
 ghost use Rattle.outside.specs.Adds.{AddsIn};
-ghost use Rattle.outside.specs.Outside.{AskedAtMost, IfTold};
+ghost use Rattle.outside.specs.Outside.{AskedAtMost, IfTold, Tells};
+ghost use Rattle.page_layout.specs.Page.{count_of, page_rule_of};
+ghost use Rattle.page_layout.specs.declared.page.PageKind.TheVariants.{Tree};
 ghost use Rattle.reports.specs.Added.{report_lists};
 ghost use Rattle.rel_files.specs.Ahead.{IsAheadOf};
 ghost use Rattle.bt_levels.specs.Files.{number_of, relation_of};
 ghost use Rattle.bt_levels.specs.Sound.{HoldsTree, block_count, file_of, held_block, index_columns};
 ghost use Rattle.bt_steps.specs.Pages.{IsReadable, is_live_leaf};
 ghost use Rattle.leaf_meets.specs.Meeting.{HaveMet, all_entries, leaf_entries};
-ghost use Rattle.index_targets.specs.Passes.{strays_of, strays_on};
+ghost use Rattle.apart_keys.specs.Apart.{AreApart};
+ghost use Rattle.apart_keys.specs.Items.{RisesTo};
+ghost use Rattle.index_targets.specs.Passes.{IsApartSoFar, strays_of, strays_on};
 
-use crate::leaf::Named;
+use crate::leaf::{Named, Seen};
+use apart_keys::Rise;
 use bt_levels::SoundTree;
-use leaf_meets::{RowsAhead, meet_page};
+use leaf_meets::meet_page;
 use outside::{Files, NoMemory};
 use rel_files::Ahead;
 use reports::{PageFault, Report};
 use root_set::RootSet;
 use row_slots::RowSlots;
 
-// What is in hand while leaves are gone over: blocks that were read together, and the rows that entries of one name.
+/// What a pass over the leaves of an index is asked of its entries, beside which rows they meet.
+#[derive(Clone, Copy)]
+pub struct Questions<'a> {
+    /// What they may name, where that is asked.
+    pub targets: Option<&'a RootSet>,
+    /// Whether it is asked that no two of them have the same values.
+    pub apart: bool,
+}
+
+// What is in hand while leaves are gone over: blocks that were read together, and what was seen of entries.
 #[derive(Drop)]
 struct Hands {
     blocks: Ahead,
-    rows: RowsAhead,
+    seen: Seen,
 }
 
 // An index in which nothing was found, and the set of what its entries may name, where that is asked.
@@ -40,17 +54,21 @@ impl Leaves<'_> {
         self,
         page: &[u8; 8192],
         b: u32,
-        ahead: &mut RowsAhead,
+        seen: &mut Seen,
         report: &mut Report,
     ) -> Result<(), NoMemory>
-        ensures { (is_live_leaf page.now ≡ true → IsReadable (index_columns self.entry.tree.now) page.now)
+        ensures lists { (is_live_leaf page.now ≡ true → IsReadable (index_columns self.entry.tree.now) page.now)
             → AddsIn report_lists result report.old report.new
             (strays_on (number_of (file_of self.entry.tree.now)) (index_columns self.entry.tree.now)
             (option_copied self.entry.targets) b page.now) }
+        ensures rise { is_live_leaf page.now ≡ true → page_rule_of Tree page.now ≡ None
+            → OnOk result (RisesTo (index_columns self.entry.tree.now) page.now (count_of page.now) seen.new.rise) }
+        ensures apart { seen.new.apart ≡ seen.old.apart }
     {
-        ahead.clear();
+        seen.begin();
         let Some(targets) = self.targets else {
-            ahead.add_page(page);
+            seen.ahead.add_page(page);
+            seen.rise = Rise::Untold;
             return Ok(());
         };
         let named = Named {
@@ -58,10 +76,11 @@ impl Leaves<'_> {
             columns: self.tree.columns(),
             targets,
         };
-        named.judge_page(page, b, ahead, report)
+        named.judge_page(page, b, seen, report)
     }
 
-    // Takes a block that isn't the first in hand, judges what its entries name, and has them meet their rows.
+    // Takes a block that isn't the first in hand, judges what its entries name and whether their keys are apart, and
+    // has them meet their rows.
     fn take_block<F: Files>(
         self,
         files: &mut F,
@@ -81,14 +100,17 @@ impl Leaves<'_> {
         ensures met { OnOk result (IfTold F.seen files.old (λ names.
             HaveMet (leaf_entries (index_columns self.entry.tree.now) (held_block names self.entry.tree.now b))
             slots.old slots.new)) }
+        ensures apart { OnOk result (IfTold F.seen files.old (λ names. hands.new.seen.apart ≡ true
+            → IsApartSoFar names self.entry.tree.now b hands.old.seen.apart)) }
         ensures hand { IfTold F.seen files.old (λ names.
             IsAheadOf names (relation_of (file_of self.entry.tree.now)) hands.new.blocks) }
         ensures asked { AskedAtMost 1 F.seen files.old files.new result PageFault.ReadFault }
     {
         self.tree.take_ahead(files, b, &mut hands.blocks)?;
         let page = hands.blocks.page(b);
-        self.judge_page(page, b, &mut hands.rows, report)?;
-        meet_page(slots, &self.tree.columns(), page, &hands.rows);
+        self.judge_page(page, b, &mut hands.seen, report)?;
+        meet_page(slots, &self.tree.columns(), page, &hands.seen.ahead);
+        hands.seen.apart = hands.seen.is_still_apart(page, &self.tree.columns());
         Ok(())
     }
 }
@@ -97,30 +119,38 @@ impl Leaves<'_> {
 /// and place in the item, each entry of its leaves, killed or not, that names what the set doesn't have (X2), where
 /// there is a set. Each block but the first is read once, up to eight by one call.
 ///
+/// Where it is asked, the answer tells whether no two entries of one leaf have the same values and no high key of a
+/// leaf keeps a TID, so that no two entries of the index have the same values
+/// ([`apart_leaves_have_no_equal_keys`](apart_keys::apart_leaves_have_no_equal_keys)). `false` says nothing.
+///
 /// `ReadFault` comes only where the count of the files' faults rose. After an error the report has a first
 /// part of what it would have got, and what was met is unspecified.
 pub fn check_entries<F: Files>(
     files: &mut F,
     tree: &SoundTree,
-    targets: Option<&RootSet>,
+    asked: Questions<'_>,
     slots: &mut RowSlots,
     report: &mut Report,
-) -> Result<(), PageFault>
+) -> Result<bool, PageFault>
     requires holds { IfTold F.seen files.old (λ names. HoldsTree names tree.now) }
     ensures lists { IfTold F.seen files.old (λ names. AddsIn report_lists result report.old report.new
-        (strays_of names (option_copied targets.entry) tree.now)) }
+        (strays_of names (option_copied asked.entry.targets) tree.now)) }
     ensures met { OnOk result (IfTold F.seen files.old (λ names.
         HaveMet (all_entries (index_columns tree.now) (block_count tree.now) (held_block names tree.now))
         slots.old slots.new)) }
+    ensures apart { Tells F.seen files.old result (λ apart names. apart ≡ true → AreApart names tree.now) }
     ensures asked { AskedAtMost (block_count tree.now) F.seen files.old files.new result PageFault.ReadFault }
 {
-    let leaves = Leaves { tree, targets };
+    let leaves = Leaves {
+        tree,
+        targets: asked.targets,
+    };
     let mut hands = Hands {
         blocks: Ahead::new(),
-        rows: RowsAhead::new(),
+        seen: Seen::new(asked.apart),
     };
     for k in 0..tree.blocks().saturating_sub(1) {
         leaves.take_block(files, k + 1, &mut hands, slots, report)?;
     }
-    Ok(())
+    Ok(hands.seen.apart)
 }

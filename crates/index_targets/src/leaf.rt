@@ -1,16 +1,20 @@
 //! The entries of a leaf, against what they may name.
-ghost use Rattle.std.specs.Prelude.{◌≡◌, ◌≤◌, None, true};
+ghost use Rattle.std.specs.Prelude.{◌≡◌, ◌≤◌, ◌-◌, List, None, OnOk, true, ℕ};
+ghost use Rattle.std.specs.Bool.{OnTrue};
 ghost use Rattle.outside.specs.Adds.{AddsIn};
 ghost use Rattle.page_layout.specs.Page.{count_of, page_rule_of};
 ghost use Rattle.page_layout.specs.View.{page_bytes};
-ghost use Rattle.varlena_attrs.specs.Columns.{tree_columns};
+ghost use Rattle.varlena_attrs.specs.Columns.{TreeColumns, tree_columns};
 ghost use Rattle.tree_image.specs.Image.{first_data};
 ghost use Rattle.bt_steps.specs.Entries.{IsRead};
 ghost use Rattle.bt_steps.specs.Pages.{IsReadable, is_live_leaf};
 ghost use Rattle.root_set.specs.Targets.{is_in};
 ghost use Rattle.reports.specs.Added.{report_lists};
+ghost use Rattle.apart_keys.specs.Apart.{IsApart};
+ghost use Rattle.apart_keys.specs.Items.{RisesTo};
 ghost use Rattle.indexed_rules.specs.Lists.{entry_lists, item_lists, items_lists, leaf_lists, tids_lists};
 
+use apart_keys::{Rise, is_page_apart};
 use bt_steps::is_live_leaf;
 use bt_tuples::{Spot3, TidList, TreeItem, plain_entry, tree_item};
 use key_orders::Tid;
@@ -28,6 +32,64 @@ pub struct Named<'a> {
     pub number: u16,
     pub columns: IndexColumns<'a>,
     pub targets: &'a RootSet,
+}
+
+/// What looks at the entries of leaves leave beside what is found.
+#[derive(Drop)]
+pub struct Seen {
+    /// The rows that the entries of the last leaf name.
+    pub ahead: RowsAhead,
+    /// How the keys of that leaf stand to each other.
+    pub rise: Rise,
+    /// Whether no two entries of the index have the same values, as far as the leaves were looked at; `false` where it
+    /// isn't asked.
+    pub apart: bool,
+}
+
+// How keys stand before the first item of a leaf, where that is asked.
+fn before_items(asked: bool) -> Rise
+    ensures { (columns : TreeColumns) (page : List ℕ) → RisesTo columns page 0 result }
+{
+    if asked {
+        return Rise::Begins;
+    }
+    Rise::Untold
+}
+
+impl Seen {
+    /// No leaf was looked at, and it is asked whether keys are apart, or not.
+    pub fn new(apart: bool) -> Seen
+        ensures { result.apart ≡ apart }
+    {
+        Seen {
+            ahead: RowsAhead::new(),
+            rise: Rise::Untold,
+            apart,
+        }
+    }
+
+    /// Begins with the next leaf. How its keys stand isn't asked where it is known that some are the same.
+    pub fn begin(&mut self)
+        ensures rise { (columns : TreeColumns) (page : List ℕ) → RisesTo columns page 0 self.new.rise }
+        ensures apart { self.new.apart ≡ self.old.apart }
+    {
+        self.ahead.clear();
+        self.rise = before_items(self.apart);
+    }
+
+    /// Whether no two entries have the same values, of those of this leaf and of those that were looked at before.
+    /// `false` says nothing.
+    pub fn is_still_apart(&self, page: &[u8; 8192], columns: &IndexColumns<'_>) -> bool
+        requires rise { is_live_leaf page.now ≡ true → page_rule_of PageKind.Tree page.now ≡ None
+            → RisesTo (tree_columns columns.now) page.now (count_of page.now) self.now.rise }
+        ensures { OnTrue result ((self.now.apart ≡ true)
+            × (is_live_leaf page.now ≡ true → IsApart (tree_columns columns.now) page.now)) }
+    {
+        if !self.apart {
+            return false;
+        }
+        is_page_apart(page, columns, self.rise)
+    }
 }
 
 // Where an item of a leaf stands.
@@ -66,25 +128,30 @@ impl Named<'_> {
         self,
         page: PageView<'_>,
         at: ItemAt,
-        ahead: &mut RowsAhead,
+        seen: &mut Seen,
         report: &mut Report,
     ) -> Result<(), NoMemory>
         requires page { page_rule_of PageKind.Tree (page_bytes page) ≡ None }
         requires first { 1 ≤ at.item }
         requires last { at.item ≤ count_of (page_bytes page) }
-        ensures { (first_data (page_bytes page.entry) ≤ at.item
+        ensures lists { (first_data (page_bytes page.entry) ≤ at.item
             → IsRead (tree_columns self.entry.columns) (page_bytes page.entry) at.item)
             → AddsIn report_lists result report.old report.new
             (item_lists self.entry.number (tree_columns self.entry.columns)
             (is_in self.entry.targets.now) at.block (page_bytes page.entry) at.item) }
+        ensures rise { RisesTo (tree_columns self.entry.columns) (page_bytes page.entry) (at.item - 1) seen.old.rise
+            → RisesTo (tree_columns self.entry.columns) (page_bytes page.entry) at.item seen.new.rise }
+        ensures apart { seen.new.apart ≡ seen.old.apart }
     {
         if at.item < first_data(page) {
             return Ok(());
         }
         if let Some(entry) = plain_entry(page, at.item) {
-            ahead.add(entry.tid);
+            seen.ahead.add(entry.tid);
+            seen.rise.add(&self.columns, entry.body);
             return self.judge_tid(at, entry.tid, report);
         }
+        seen.rise = Rise::Untold;
         self.judge_any_item(page, at, report)
     }
 
@@ -119,40 +186,49 @@ impl Named<'_> {
         self,
         page: PageView<'_>,
         block: u32,
-        ahead: &mut RowsAhead,
+        seen: &mut Seen,
         report: &mut Report,
     ) -> Result<(), NoMemory>
         requires page { page_rule_of PageKind.Tree (page_bytes page) ≡ None }
-        ensures { IsReadable (tree_columns self.entry.columns) (page_bytes page.entry)
+        ensures lists { IsReadable (tree_columns self.entry.columns) (page_bytes page.entry)
             → is_live_leaf (page_bytes page.entry) ≡ true
             → AddsIn report_lists result report.old report.new
             (items_lists self.entry.number (tree_columns self.entry.columns)
             (is_in self.entry.targets.now) block (page_bytes page.entry)) }
+        ensures rise { RisesTo (tree_columns self.entry.columns) (page_bytes page.entry) 0 seen.old.rise
+            → OnOk result (RisesTo (tree_columns self.entry.columns) (page_bytes page.entry)
+            (count_of (page_bytes page.entry)) seen.new.rise) }
+        ensures apart { seen.new.apart ≡ seen.old.apart }
     {
         for i in 0..page.item_count() {
-            self.judge_item(page, ItemAt { block, item: i + 1 }, ahead, report)?;
+            self.judge_item(page, ItemAt { block, item: i + 1 }, seen, report)?;
         }
         Ok(())
     }
 
     /// Judges the entries of a page, if it is a leaf in use that isn't half-dead, killed entries among them,
-    /// and adds each that names what it may not. What they name is told ahead to the look at rows.
+    /// and adds each that names what it may not. What they name is told ahead to the look at rows, and the numbers of
+    /// their keys to what is known of them.
     pub fn judge_page(
         self,
         page: &[u8; 8192],
         block: u32,
-        ahead: &mut RowsAhead,
+        seen: &mut Seen,
         report: &mut Report,
     ) -> Result<(), NoMemory>
-        ensures { (is_live_leaf page.now ≡ true → IsReadable (tree_columns self.entry.columns) page.now)
+        ensures lists { (is_live_leaf page.now ≡ true → IsReadable (tree_columns self.entry.columns) page.now)
             → AddsIn report_lists result report.old report.new
             (leaf_lists self.entry.number (tree_columns self.entry.columns)
             (is_in self.entry.targets.now) block page.now) }
+        ensures rise { RisesTo (tree_columns self.entry.columns) page.now 0 seen.old.rise
+            → is_live_leaf page.now ≡ true → page_rule_of PageKind.Tree page.now ≡ None
+            → OnOk result (RisesTo (tree_columns self.entry.columns) page.now (count_of page.now) seen.new.rise) }
+        ensures apart { seen.new.apart ≡ seen.old.apart }
     {
         let page = PageView::new(page);
         if !is_live_leaf(page) || page.page_rule(PageKind::Tree).is_some() {
             return Ok(());
         }
-        self.judge_items(page, block, ahead, report)
+        self.judge_items(page, block, seen, report)
     }
 }

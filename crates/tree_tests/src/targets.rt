@@ -1,6 +1,6 @@
 //! The entries of a leaf of four, against a page of a heap.
 use crate::trees::SmallIndex;
-use index_targets::check_entries;
+use index_targets::{Questions, check_entries};
 use page_layout::{PageKind, PageView};
 use reports::Report;
 use root_set::RootSet;
@@ -34,7 +34,11 @@ fn strays(alloc: Global, flags: [u8; 4]) -> Result<(u64, u64), Fail> {
     let (mut files, tree) = SmallIndex::Listed.open(alloc)?;
     let mut report = Report::new(alloc);
     let mut slots = RowSlots::new(alloc, 0)?;
-    check_entries(&mut files, &tree, Some(&targets), &mut slots, &mut report)?;
+    let asked = Questions {
+        targets: Some(&targets),
+        apart: false,
+    };
+    check_entries(&mut files, &tree, asked, &mut slots, &mut report)?;
     Ok(report.counts())
 }
 

@@ -5,7 +5,7 @@ use Rattle.bt_levels.specs.Files.{number_of}
 use Rattle.bt_levels.specs.Sound.{file_of}
 use Rattle.indexed_rules.specs.Lists.{duplicates_lists}
 use Rattle.indexed_rules.specs.Unique.{unique_of}
-use Rattle.duplicate_keys.proofs.NotUnique.{nothing-added}
+use Rattle.duplicate_keys.proofs.NotUnique.{nothing-added, nothing-with}
 use Rattle.duplicate_keys.proofs.check.check_duplicates.Goals as goal
 
 pub unique_of-unique-requires : goal.unique_of-unique-requires
@@ -22,3 +22,9 @@ pub returns-in_err-later-clause-lists : goal.returns-in_err-later-clause-lists
 returns-in_err-later-clause-lists g c = λ names told.
     let owed = duplicates_lists c.args.at.case.now names (number_of (file_of c.args.at.tree.now)) in
     Adds-exit report_lists c.from_residual.result _ c.args.report.now c.args.report.now owed c.from_residual.ensures.1 (Begins-none report_lists c.args.report.now owed)
+
+pub returns-then-apart-clause-lists : goal.returns-then-apart-clause-lists
+returns-then-apart-clause-lists g c = λ names told.
+    let case = c.args.at.case.now in
+    let none = c.no_row_is_second.ensures names (c.requires.hold names told) (c.requires.joined names told) (c.requires.apart names told c.if-apart.true) in
+    nothing-with case names (number_of (file_of c.args.at.tree.now)) none c.args.report.now

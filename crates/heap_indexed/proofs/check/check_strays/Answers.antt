@@ -1,7 +1,7 @@
-use Rattle.std.proofs.Common.{Bool, List, subst}
-use Rattle.outside.specs.Adds.{AddsIn}
+use Rattle.std.proofs.Common.{◌∙◌, Bool, List, ap, subst}
+use Rattle.outside.specs.Adds.{Begins}
 use Rattle.outside.proofs.Adding.{Adds-exit, Begins-none}
-use Rattle.reports.specs.Added.{report_lists}
+use Rattle.reports.specs.Added.{joined, report_lists}
 use Rattle.reports.specs.Lists.{Lists}
 use Rattle.bt_levels.specs.Files.{number_of}
 use Rattle.bt_levels.specs.Sound.{file_of}
@@ -19,6 +19,17 @@ returns-in_err-slots-clause-lists g c = λ names told.
     let owed = entries_lists c.args.at.case.now names (number_of (file_of c.args.at.tree.now)) in
     Adds-exit report_lists c.from_residual.result _ c.args.report.now c.args.report.now owed c.from_residual.ensures.1 (Begins-none report_lists c.args.report.now owed)
 
+pub returns-in_err-check_entries-clause-lists : goal.returns-in_err-check_entries-clause-lists
+returns-in_err-check_entries-clause-lists g c = λ names told.
+    let case = c.args.at.case.now in
+    let heap = c.args.at.heap.now in
+    let hold = c.requires.hold names told in
+    let set : List (List Bool) = c.targets.result.now in
+    let says = set-says case names heap c.requires.belong.heap hold.heap set c.targets.ensures (c.set_tells_of_pages.ensures.tells (heap_page case names) (heap_blocks case names)) in
+    Adds-exit report_lists c.from_residual-in_err-check_entries.result _ c.args.report.now c.check_entries.new.report (entries_lists case names (number_of (file_of c.args.at.tree.now))) c.from_residual-in_err-check_entries.ensures.1
+    (subst (λ (l : Lists). Begins report_lists c.args.report.now c.check_entries.new.report l) (strays-are case names c.args.at.tree.now c.requires.belong.index hold.file set says)
+    (c.in_err-check_entries.ensures.lists names told))
+
 pub returns-clause-lists : goal.returns-clause-lists
 returns-clause-lists g c = λ names told.
     let case = c.args.at.case.now in
@@ -26,6 +37,5 @@ returns-clause-lists g c = λ names told.
     let hold = c.requires.hold names told in
     let set : List (List Bool) = c.targets.result.now in
     let says = set-says case names heap c.requires.belong.heap hold.heap set c.targets.ensures (c.set_tells_of_pages.ensures.tells (heap_page case names) (heap_blocks case names)) in
-    subst (λ (l : Lists). AddsIn report_lists c.check_entries.result c.args.report.now c.check_entries.new.report l)
-    (strays-are case names c.args.at.tree.now c.requires.belong.index hold.file set says)
-    (c.check_entries.ensures.lists names told)
+    c.in_ok-check_entries.ensures.lists names told
+    ∙ ap (joined c.args.report.now) (strays-are case names c.args.at.tree.now c.requires.belong.index hold.file set says)

@@ -1,5 +1,5 @@
 use Rattle.std.proofs.Common.{◌≡◌, ◌∙◌, ◌<◌, [], ℕ, List, length, map, refl, ap, sym, subst, arith}
-use Rattle.std.specs.Prelude.{All, Bool, slice_index_or}
+use Rattle.std.specs.Prelude.{All, Bool, false, slice_index_or}
 use Rattle.rel_files.specs.Relation.{count_of}
 use Rattle.reports.specs.Added.{joined, nothing}
 use Rattle.bt_levels.specs.Files.{number_of}
@@ -9,13 +9,14 @@ use Rattle.heap_files.specs.Case.{heap_blocks, heap_page}
 use Rattle.heap_files.specs.Files.{heap_in, targets_in}
 use Rattle.heap_check.specs.RowCursor.{AreAsked, asked_at}
 use Rattle.heap_check.specs.Rows.{rows_of}
+use Rattle.apart_keys.specs.Apart.{AreApart}
 use Rattle.indexed_rules.specs.Lists.{joined_lists}
 use Rattle.heap_indexed.specs.declared.meeting.Meeting.{Meeting}
 use Rattle.heap_indexed.specs.Meetings.{AreFirsts, AreInWork, EachFor, columns_of_all}
 use Rattle.heap_indexed.specs.Rows.{rows_from}
 use Rattle.heap_indexed.proofs.Cases.{both-are, rows-are, strays-are}
 use Rattle.heap_indexed.proofs.Columns.{all-there}
-use Rattle.heap_indexed.proofs.Each.{reports-are, written-back}
+use Rattle.heap_indexed.proofs.Each.{each-known, reports-are, written-back}
 use Rattle.heap_indexed.proofs.Owed.{rows-all}
 use Rattle.row_keys.proofs.Pages.{count-is, set-says}
 use Rattle.heap_indexed.proofs.check_all.meet_all.Goals as goal
@@ -73,9 +74,19 @@ returns-clause-reports g c = λ names told.
           let index = (c.requires.belong.each k t lt).index in
           let file = (hold.each k t lt).file in
           let rows : rows_from case names 0 (count_of (heap_in heap)) ≡ rows_of case names = ap (rows_from case names 0) blocks ∙ rows-all case names in
-          judged.each k t d lt
+          (judged.each k t d lt).lists
           ∙ (λ i. joined (rows-are case names tree index file _ rows i) (strays-are case names tree index file set says i))
           ∙ sym (both-are case names (number_of (file_of tree)));
     } in
     let end = written-back c.in_ok-meetings.meetings.len c.judge_all.new.meetings c.in_ok-meetings.meetings.items (omega (arith, c.in_ok-meetings.ensures.count, judged.same, c.deref_mut.ensures.len, ap length c.deref_mut.ensures.value)) in
     c.in_ok-reports.ensures ∙ ap (λ (ms : List Meeting). map (λ (m : Meeting). joined m.rows m.entries) ms) end ∙ reports-are (λ (tree : SoundTree). joined_lists case names (number_of (file_of tree))) trees c.judge_all.new.meetings all
+
+pub returns-clause-aparts : goal.returns-clause-aparts
+returns-clause-aparts g c = λ names told k tree lt known.
+    let trees = c.args.at.trees.now in
+    let judged = c.in_ok-judge_all.ensures.judged names told in
+    let meetings : List Meeting = c.judge_all.new.meetings in
+    let end = written-back c.in_ok-meetings.meetings.len meetings c.in_ok-meetings.meetings.items (omega (arith, c.in_ok-meetings.ensures.count, judged.same, c.deref_mut.ensures.len, ap length c.deref_mut.ensures.value)) in
+    let are = c.in_ok-aparts.ensures.are ∙ ap (map (λ (m : Meeting). m.apart)) (c.deref-3.ensures.value ∙ end) in
+    each-known (AreApart names) trees meetings (record { same = judged.same; each = λ j t d below. (judged.each j t d below).apart }) k tree lt
+    (ap (λ (l : List Bool). slice_index_or l k false) (sym are) ∙ known)

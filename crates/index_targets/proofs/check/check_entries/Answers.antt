@@ -1,7 +1,8 @@
-use Rattle.std.proofs.Common.{◌≡◌, ◌∙◌, ◌+◌, ◌-◌, ◌++◌, ℕ, Bool, List, ap, subst, sym, arith}
+use Rattle.std.proofs.Common.{◌≡◌, ◌∙◌, ◌+◌, ◌-◌, ◌++◌, ℕ, Bool, List, inl, inr, true, ap, subst, sym, arith}
 use Rattle.std.specs.List.{flat_map}
 use Rattle.std.specs.Option.{option_copied}
 use Rattle.std.specs.Prelude.{Ok, Option, Some}
+use Rattle.std.proofs.lemmas.Bool.{cases_lt}
 use Rattle.std.proofs.lemmas.Grind.{common_steps}
 use Rattle.outside.specs.declared.files.Failed.{Failed}
 use Rattle.outside.specs.Outside.{AskedWithin, Names, Seen, failed}
@@ -15,6 +16,8 @@ use Rattle.reports.specs.Added.{each_upto, joined, report_lists}
 use Rattle.reports.specs.Lists.{Lists}
 use Rattle.reports.proofs.Upto.{upto-cut, upto-next, upto-none}
 use Rattle.bt_levels.specs.declared.sound.SoundTree.{SoundTree}
+use Rattle.bt_steps.specs.Pages.{is_live_leaf}
+use Rattle.apart_keys.specs.Apart.{AreApartBelow, IsApart}
 use Rattle.leaf_meets.specs.Meeting.{all_entries, leaf_entries}
 use Rattle.leaf_meets.proofs.Meets.{met-then, none, same}
 use Rattle.index_targets.specs.Passes.{strays_of, strays_on}
@@ -27,6 +30,15 @@ of-block tree targets names b = strays_on (number_of (file_of tree)) (index_colu
 
 abbrev keys-of : SoundTree → Names → ℕ → List LeafEntry
 keys-of tree names b = leaf_entries (index_columns tree) (held_block names tree b)
+
+-- one block more is apart
+one-more : (tree : SoundTree) (names : Names) (k : ℕ) → AreApartBelow names tree (k + 1) → (is_live_leaf (held_block names tree (k + 1)) ≡ true → IsApart (index_columns tree) (held_block names tree (k + 1))) → AreApartBelow names tree (k + 1 + 1)
+one-more tree names k so here b from below = elim (cases_lt b (k + 1)) [
+  | inl low ↦ so b from low
+  | inr high ↦
+      let same : k + 1 ≡ b = omega (arith, high, below) in
+      subst (λ (n : ℕ). is_live_leaf (held_block names tree n) ≡ true → IsApart (index_columns tree) (held_block names tree n)) same here
+]
 
 -- one read more
 passed-more : {D E U : Type 0} {n : ℕ} {a b d : Seen} {y : U} {e : D} {f : E} → AskedWithin {T = Failed} {E = D} (Some n) a b (Ok failed) e → AskedWithin {T = U} {E = E} (Some 1) b d (Ok y) f
@@ -41,8 +53,9 @@ take_block-requires-clause-hand g c names told = c.loop-k.invariant.hand names (
 
 pub loop-k-init : goal.loop-k-init
 loop-k-init g c = record {
-  lists = λ names told. upto-none report_lists (of-block c.args.tree.now (option_copied c.args.targets) names) c.args.report.now;
+  lists = λ names told. upto-none report_lists (of-block c.args.tree.now (option_copied c.args.asked.targets) names) c.args.report.now;
   met = λ names told. none c.args.slots.now;
+  apart = λ names told known b from below. absurd (omega (arith, from, below));
   hand = λ names told. c.new.ensures names (relation_of (file_of c.args.tree.now));
   asked = PassedAtMost-none;
 }
@@ -50,7 +63,7 @@ loop-k-init g c = record {
 pub loop-k-preserved : goal.loop-k-preserved
 loop-k-preserved g c = record {
   lists = λ names told.
-      upto-next report_lists (of-block c.args.tree.now (option_copied c.args.targets) names) c.loop-k.k c.args.report.now c.loop-k.report c.take_block.new.report (c.loop-k.invariant.lists names told)
+      upto-next report_lists (of-block c.args.tree.now (option_copied c.args.asked.targets) names) c.loop-k.k c.args.report.now c.loop-k.report c.take_block.new.report (c.loop-k.invariant.lists names told)
       (c.in_ok-take_block.ensures.lists names (c.loop-k.invariant.asked.same ∙ told));
   met = λ names told.
       let keys = keys-of c.args.tree.now names in
@@ -59,6 +72,9 @@ loop-k-preserved g c = record {
       same (before ++ keys (k + 1)) (flat_map keys (tree_blocks (k + 1 + 1))) c.args.slots.now c.take_block.new.slots (sym (blocks-next keys k))
       (met-then before (keys (k + 1)) c.args.slots.now c.loop-k.slots c.take_block.new.slots (c.loop-k.invariant.met names told)
       (c.in_ok-take_block.ensures.met names (c.loop-k.invariant.asked.same ∙ told)));
+  apart = λ names told known.
+      let here = c.in_ok-take_block.ensures.apart names (c.loop-k.invariant.asked.same ∙ told) known in
+      one-more c.args.tree.now names c.loop-k.k (c.loop-k.invariant.apart names told here.known) here.here;
   hand = λ names told. c.in_ok-take_block.ensures.hand names (c.loop-k.invariant.asked.same ∙ told);
   asked = passed-more c.loop-k.invariant.asked c.in_ok-take_block.ensures.asked;
 }
@@ -67,7 +83,7 @@ pub returns-in_err-take_block-clause-lists : goal.returns-in_err-take_block-clau
 unfolding strays_of
 returns-in_err-take_block-clause-lists g c names told =
     let tree = c.args.tree.now in
-    let of = of-block tree (option_copied c.args.targets) names in
+    let of = of-block tree (option_copied c.args.asked.targets) names in
     Adds-exit report_lists c.from_residual.result _ c.args.report.now c.take_block.new.report (each_upto report_lists of (block_count tree - 1)) c.from_residual.ensures.1
     (upto-cut report_lists of c.loop-k.k (block_count tree - 1) c.args.report.now c.loop-k.report c.take_block.new.report (omega (arith, c.loop-k-test.true, c.saturating_sub-k-end.ensures, c.blocks-2.ensures)) (c.loop-k.invariant.lists names told)
     (c.in_err-take_block.ensures.lists names (c.loop-k.invariant.asked.same ∙ told)))
@@ -76,7 +92,7 @@ pub returns-clause-lists : goal.returns-clause-lists
 unfolding strays_of
 returns-clause-lists g c names told =
     let tree = c.args.tree.now in
-    let of = of-block tree (option_copied c.args.targets) names in
+    let of = of-block tree (option_copied c.args.asked.targets) names in
     let whole : c.loop-k.k ≡ block_count tree - 1 = omega (arith, c.loop-k-test.false, c.saturating_sub-k-end.ensures, c.blocks-2.ensures) in
     subst (λ (n : ℕ). c.loop-k.report ≡ joined c.args.report.now (each_upto report_lists of n)) whole (c.loop-k.invariant.lists names told)
 
@@ -88,3 +104,9 @@ returns-clause-met g c names told =
     let whole : c.loop-k.k ≡ block_count tree - 1 = omega (arith, c.loop-k-test.false, c.saturating_sub-k-end.ensures, c.blocks-2.ensures) in
     same (flat_map keys (tree_blocks (c.loop-k.k + 1))) (flat_map keys (tree_blocks (block_count tree))) c.args.slots.now c.loop-k.slots (ap (flat_map keys) (all-blocks c.loop-k.k (block_count tree) whole))
     (c.loop-k.invariant.met names told)
+
+pub returns-clause-apart : goal.returns-clause-apart
+returns-clause-apart g c names told known b from below =
+    let tree = c.args.tree.now in
+    let whole : c.loop-k.k ≡ block_count tree - 1 = omega (arith, c.loop-k-test.false, c.saturating_sub-k-end.ensures, c.blocks-2.ensures) in
+    c.loop-k.invariant.apart names told known b from (omega (arith, whole, below))

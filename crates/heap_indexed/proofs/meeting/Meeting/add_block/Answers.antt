@@ -8,6 +8,7 @@ returns c = λ names done strays range tree work. record {
   pages = work.pages;
   done_is = work.done_is;
   strays_are = work.strays_are;
+  apart = work.apart;
   unmet = λ tid. c.in_ok-add_block.ensures.ok.met tid ∙ work.unmet tid;
   kept = λ whole. kept-same (index_columns tree) c.args.self.now.slots c.add_block.new.self range c.in_ok-add_block.ensures.ok.keys (work.kept whole);
 }

@@ -10,6 +10,7 @@ returns c = λ names done strays range row found work. record {
   pages = work.pages;
   done_is = work.done_is;
   strays_are = work.strays_are;
+  apart = work.apart;
   unmet = λ tid. ap (λ m. m tid) c.keep_row_at.ensures.met ∙ work.unmet tid;
   kept = λ whole. elim c.if-self.branch [
     | then-self w ↦

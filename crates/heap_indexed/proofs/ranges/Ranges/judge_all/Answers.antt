@@ -31,7 +31,7 @@ first-done case names n m tree zero-is =
 all-judged : (case : CaseRecord) (names : Names) (blocks n : ℕ) (targets : List (List Bool)) (trees : List SoundTree) (meetings : List Meeting) → n ≡ blocks → AreInWork names (λ (t : SoundTree). owed_for names t (rows_from case names 0 n)) (λ (t : SoundTree). strays_of names (Some targets) t) [] trees meetings → EachFor (IsJudged case names blocks targets) trees meetings
 all-judged case names blocks n targets trees meetings is work =
     each-map (λ (t : SoundTree) (m : Meeting). InWork names (owed_for names t (rows_from case names 0 n)) (strays_of names (Some targets) t) [] t m) (IsJudged case names blocks targets) trees meetings
-    (λ t m w i. joined ((w.done_is ∙ ap (λ (k : ℕ). owed_for names t (rows_from case names 0 k)) is) i) (w.strays_are i)) work
+    (λ t m w. record { lists = λ i. joined ((w.done_is ∙ ap (λ (k : ℕ). owed_for names t (rows_from case names 0 k)) is) i) (w.strays_are i); apart = w.apart }) work
 
 pub judge_range-requires-clause-told : goal.judge_range-requires-clause-told
 judge_range-requires-clause-told g c = λ names told. record {

@@ -1,13 +1,17 @@
 use Rattle.std.proofs.Common.{◌≡◌, ◌≢◌, ◌∙◌, ◌<◌, ℕ, List, true, arith, subst, sym}
 use Rattle.std.specs.Option.{option_copied}
+use Rattle.std.proofs.lemmas.Bool.{OnTrue_at}
 use Rattle.outside.specs.Outside.{Names}
 use Rattle.outside.proofs.Adding.{Adds-exit, Begins-none}
+use Rattle.page_layout.specs.Page.{count_of}
 use Rattle.varlena_attrs.specs.Columns.{TreeColumns, tree_columns}
 use Rattle.bt_levels.specs.declared.sound.SoundTree.{SoundTree}
 use Rattle.bt_levels.specs.Files.{number_of}
 use Rattle.bt_levels.specs.Sound.{HoldsTree, block_count, file_of, held_block, index_columns}
 use Rattle.bt_steps.specs.Pages.{IsReadable, is_live_leaf}
 use Rattle.bt_steps.proofs.OnLeaf.{live-parts, page-readable}
+use Rattle.apart_keys.specs.Apart.{IsApart}
+use Rattle.apart_keys.specs.Items.{RisesTo}
 use Rattle.leaf_meets.specs.Meeting.{HaveMet, leaf_entries}
 use Rattle.reports.specs.Added.{report_lists}
 use Rattle.index_targets.specs.Passes.{strays_on}
@@ -38,7 +42,7 @@ returns-clause-lists g c names told =
     let not-meta = c.requires.not_meta in
     let some : c.args.b ≢ 0 = λ e. absurd (omega (arith, not-meta, e)) in
     let readable = readable-by (index_columns tree) (index_columns tree) c.page-page.result.now (held_block names tree c.args.b) (λ i. index_columns tree) page (block-readable names tree (c.requires.holds names told) c.args.b some c.requires.below) in
-    c.in_ok-judge_page.ensures readable
+    c.in_ok-judge_page.ensures.lists readable
     ∙ (λ i. report_lists.join c.args.report.now (strays_on (number_of (file_of tree)) (index_columns tree) (option_copied c.args.self.targets) c.args.b (page i)))
 
 pub returns-clause-met : goal.returns-clause-met
@@ -50,3 +54,23 @@ returns-clause-met g c names told =
     let readable = readable-by (tree_columns c.columns.result) (index_columns tree) c.page-page.result.now (held_block names tree c.args.b) c.columns.ensures.lists page (block-readable names tree (c.requires.holds names told) c.args.b some c.requires.below) in
     subst (λ (s : TreeColumns). HaveMet (leaf_entries s (held_block names tree c.args.b)) c.args.slots.now c.meet_page.new.slots) c.columns.ensures.lists
     (subst (λ (p : List ℕ). HaveMet (leaf_entries (tree_columns c.columns.result) p) c.args.slots.now c.meet_page.new.slots) page (c.meet_page.ensures readable))
+
+pub is_still_apart-hands-requires : goal.is_still_apart-hands-requires
+is_still_apart-hands-requires g c = record {
+  rise = λ live laid_out.
+      let page = c.page-page.result.now in
+      subst (λ (t : TreeColumns). RisesTo t page (count_of page) c.judge_page.new.seen.rise) (sym c.columns-2.ensures.lists) (c.in_ok-judge_page.ensures.rise live laid_out);
+}
+
+pub returns-clause-apart : goal.returns-clause-apart
+returns-clause-apart g c names told known =
+    let tree = c.args.self.tree.now in
+    let block = held_block names tree c.args.b in
+    let page = c.page-page.ensures ∙ c.in_ok-take_ahead.ensures.bytes names told in
+    let both = OnTrue_at known c.is_still_apart-hands.ensures in
+    record {
+      known = sym c.in_ok-judge_page.ensures.apart ∙ both.0;
+      here =
+          subst (λ (t : TreeColumns). is_live_leaf block ≡ true → IsApart t block) c.columns-2.ensures.lists
+          (subst (λ (p : List ℕ). is_live_leaf p ≡ true → IsApart (tree_columns c.columns-2.result) p) page both.1);
+    }

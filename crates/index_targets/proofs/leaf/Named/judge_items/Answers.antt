@@ -1,4 +1,4 @@
-use Rattle.std.proofs.Common.{◌≡◌, ◌+◌, ◌≤◌, ℕ, List, true, subst, arith}
+use Rattle.std.proofs.Common.{◌≡◌, ◌∙◌, ◌+◌, ◌-◌, ◌≤◌, ℕ, List, true, refl, subst, arith}
 use Rattle.outside.proofs.Adding.{Adds-exit}
 use Rattle.page_layout.specs.Page.{count_of}
 use Rattle.page_layout.specs.View.{page_bytes}
@@ -10,6 +10,7 @@ use Rattle.bt_steps.proofs.OnLeaf.{item-read, live-parts}
 use Rattle.reports.specs.Added.{each_upto, joined, report_lists}
 use Rattle.reports.proofs.Upto.{upto-cut, upto-next, upto-none}
 use Rattle.root_set.specs.Targets.{is_in}
+use Rattle.apart_keys.specs.Items.{RisesTo}
 use Rattle.indexed_rules.specs.Lists.{item_lists, items_lists}
 use Rattle.index_targets.proofs.leaf.Named.judge_items.Goals as goal
 
@@ -22,6 +23,8 @@ read-at columns page i readable leaf to from =
 pub loop-i-init : goal.loop-i-init
 loop-i-init c = record {
   lists = λ readable leaf. upto-none report_lists (item_lists c.args.self.number (tree_columns c.args.self.columns) (is_in c.args.self.targets.now) c.args.block (page_bytes c.args.page)) c.args.report.now;
+  rise = λ so. so;
+  apart = refl;
 }
 
 pub loop-i-preserved : goal.loop-i-preserved
@@ -30,21 +33,30 @@ loop-i-preserved c =
     record {
       lists = λ readable leaf.
           upto-next report_lists (item_lists c.args.self.number (tree_columns c.args.self.columns) (is_in c.args.self.targets.now) c.args.block page) c.loop-i.i c.args.report.now c.loop-i.report c.judge_item.new.report (c.loop-i.invariant.lists readable leaf)
-          (c.in_ok-judge_item.ensures (λ from. read-at (tree_columns c.args.self.columns) page (c.loop-i.i + 1) readable leaf (omega arith) from));
+          (c.in_ok-judge_item.ensures.lists (λ from. read-at (tree_columns c.args.self.columns) page (c.loop-i.i + 1) readable leaf (omega arith) from));
+      rise = λ so.
+          let back : c.loop-i.i ≡ c.loop-i.i + 1 - 1 = omega arith in
+          c.in_ok-judge_item.ensures.rise (subst (λ (k : ℕ). RisesTo (tree_columns c.args.self.columns) page k c.loop-i.seen.rise) back (c.loop-i.invariant.rise so));
+      apart = c.in_ok-judge_item.ensures.apart ∙ c.loop-i.invariant.apart;
     }
 
-pub returns-in_err-judge_item : goal.returns-in_err-judge_item
+pub returns-in_err-judge_item-clause-lists : goal.returns-in_err-judge_item-clause-lists
 unfolding items_lists
-returns-in_err-judge_item c readable leaf =
+returns-in_err-judge_item-clause-lists c readable leaf =
     let page = page_bytes c.args.page in
     let of = item_lists c.args.self.number (tree_columns c.args.self.columns) (is_in c.args.self.targets.now) c.args.block page in
     Adds-exit report_lists c.from_residual.result _ c.args.report.now c.judge_item.new.report (each_upto report_lists of (count_of page)) c.from_residual.ensures.1
     (upto-cut report_lists of c.loop-i.i (count_of page) c.args.report.now c.loop-i.report c.judge_item.new.report (omega arith) (c.loop-i.invariant.lists readable leaf)
-    (c.in_err-judge_item.ensures (λ from. read-at (tree_columns c.args.self.columns) page (c.loop-i.i + 1) readable leaf (omega arith) from)))
+    (c.in_err-judge_item.ensures.lists (λ from. read-at (tree_columns c.args.self.columns) page (c.loop-i.i + 1) readable leaf (omega arith) from)))
 
-pub returns : goal.returns
+pub returns-clause-lists : goal.returns-clause-lists
 unfolding items_lists
-returns c readable leaf =
+returns-clause-lists c readable leaf =
     let page = page_bytes c.args.page in
     let whole : c.loop-i.i ≡ count_of page = omega arith in
     subst (λ (n : ℕ). c.loop-i.report ≡ joined c.args.report.now (each_upto report_lists (item_lists c.args.self.number (tree_columns c.args.self.columns) (is_in c.args.self.targets.now) c.args.block page) n)) whole (c.loop-i.invariant.lists readable leaf)
+
+pub returns-clause-rise : goal.returns-clause-rise
+returns-clause-rise c so =
+    let whole : c.loop-i.i ≡ count_of (page_bytes c.args.page) = omega arith in
+    subst (λ (n : ℕ). RisesTo (tree_columns c.args.self.columns) (page_bytes c.args.page) n c.loop-i.seen.rise) whole (c.loop-i.invariant.rise so)

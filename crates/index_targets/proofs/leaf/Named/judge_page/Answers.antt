@@ -1,20 +1,21 @@
 use Rattle.std.proofs.Common.{◌≡◌, ◌∙◌, ℕ, List, true, false, ap, subst, sym}
-use Rattle.std.specs.Prelude.{is_some}
+use Rattle.std.specs.Prelude.{OnOk, is_some}
 use Rattle.outside.specs.Adds.{AddsIn}
-use Rattle.page_layout.specs.Page.{page_rule_of}
+use Rattle.page_layout.specs.Page.{count_of, page_rule_of}
 use Rattle.page_layout.specs.declared.page.PageKind.TheVariants.{Tree}
 use Rattle.varlena_attrs.specs.Columns.{tree_columns}
 use Rattle.bt_steps.specs.Pages.{IsReadable, is_live_leaf}
 use Rattle.reports.specs.Added.{joined, report_lists}
 use Rattle.reports.specs.Lists.{Lists}
 use Rattle.root_set.specs.Targets.{is_in}
+use Rattle.apart_keys.specs.Items.{RisesTo}
 use Rattle.indexed_rules.specs.Lists.{items_lists}
 use Rattle.index_targets.proofs.Lists.{a-leaf, no-leaf}
 use Rattle.index_targets.proofs.leaf.Named.judge_page.Goals as goal
 use Rattle.index_targets.proofs.leaf.Named.judge_page.Goals.{then-not-is_live_leaf-via-then-not-is_live_leaf, then-not-is_live_leaf-via-else-not-is_live_leaf+then-is_some}
 
-pub returns-then-not-is_live_leaf : goal.returns-then-not-is_live_leaf
-returns-then-not-is_live_leaf c readable =
+pub returns-then-not-is_live_leaf-clause-lists : goal.returns-then-not-is_live_leaf-clause-lists
+returns-then-not-is_live_leaf-clause-lists c readable =
     let self = c.args.self in
     let page = c.args.page.now in
     let told = sym (c.is_live_leaf.ensures ∙ ap is_live_leaf c.new-page.ensures) in
@@ -28,8 +29,18 @@ returns-then-not-is_live_leaf c readable =
           absurd (let clash : true ≡ false = sym w.if-is_some.true ∙ w.is_some.ensures ∙ ap is_some rule in cc)
     ]
 
-pub returns : goal.returns
-returns c readable =
+pub returns-then-not-is_live_leaf-clause-rise : goal.returns-then-not-is_live_leaf-clause-rise
+returns-then-not-is_live_leaf-clause-rise c so live laid_out =
+    let told = sym (c.is_live_leaf.ensures ∙ ap is_live_leaf c.new-page.ensures) in
+    elim c.then-not-is_live_leaf.branch [
+      | then-not-is_live_leaf-via-then-not-is_live_leaf w ↦ absurd (let clash : true ≡ false = sym live ∙ told ∙ w.if-not-is_live_leaf.true in cc)
+      | then-not-is_live_leaf-via-else-not-is_live_leaf+then-is_some w ↦
+          let rule = w.page_rule.ensures.value ∙ ap (page_rule_of Tree) c.new-page.ensures ∙ laid_out in
+          absurd (let clash : true ≡ false = sym w.if-is_some.true ∙ w.is_some.ensures ∙ ap is_some rule in cc)
+    ]
+
+pub returns-clause-lists : goal.returns-clause-lists
+returns-clause-lists c readable =
     let self = c.args.self in
     let page = c.args.page.now in
     let may = is_in self.targets.now in
@@ -37,4 +48,9 @@ returns c readable =
     subst (λ (l : Lists). AddsIn report_lists c.judge_items.result c.args.report.now c.judge_items.new.report l)
     (sym (a-leaf self.number (tree_columns self.columns) may c.args.block page live))
     (subst (λ (p : List ℕ). IsReadable (tree_columns self.columns) p → is_live_leaf p ≡ true → AddsIn report_lists c.judge_items.result c.args.report.now c.judge_items.new.report (items_lists self.number (tree_columns self.columns) may c.args.block p)) c.new-page.ensures
-    c.judge_items.ensures (readable live) live)
+    c.judge_items.ensures.lists (readable live) live)
+
+pub returns-clause-rise : goal.returns-clause-rise
+returns-clause-rise c so live laid_out =
+    let columns = tree_columns c.args.self.columns in
+    subst (λ (p : List ℕ). RisesTo columns p 0 c.args.seen.now.rise → OnOk c.judge_items.result (RisesTo columns p (count_of p) c.judge_items.new.seen.rise)) c.new-page.ensures c.judge_items.ensures.rise so
