@@ -14,13 +14,13 @@ use Rattle.heap_check.specs.RowCursor.{IsPlaceOfFirst, rows_ahead}
 use Rattle.copy_out.specs.Fields.{field_text}
 use Rattle.copy_out.specs.Lines.{fields_of, is_unread, line_of, row_text, tab_before, text_of, unread_in, unread_of}
 use Rattle.copy_out.specs.Live.{AreLeft, IsAdded, cells_in}
-use Rattle.copy_out.specs.declared.live.CopyText.{CopyText}
+use Rattle.copy_out.specs.declared.live.CopyWriter.{CopyWriter}
 use Rattle.copy_out.proofs.Joining.{field_written, none_left, rest_of}
 
 -- A row, field by field
 
 -- what is written and counted of the first k fields of a row, and what is left of it, are all of it
-pub record IsPart (columns : List Column) (cells : List Cell) (k : ℕ) (old new : CopyText) : Type 0 where
+pub record IsPart (columns : List Column) (cells : List Cell) (k : ℕ) (old new : CopyWriter) : Type 0 where
   pub text : new.text ++ rest_of k (fields_of (drop k columns) (drop k cells)) ≡ old.text ++ row_text columns cells
   pub unread : new.unread + unread_in (drop k cells) ≡ old.unread + unread_in cells
 
@@ -38,11 +38,11 @@ unread_from : (cells : List Cell) (k : ℕ) (c : Cell) → slice_get cells k ≡
 unread_from cells k c is =
     ap unread_in (cells_from cells k c is) ∙ sum_by-append (λ (x : Cell). cond (is_unread x) 1 0) (c ∷ []) (drop (k + 1) cells)
 
-pub part_none : (columns : List Column) (cells : List Cell) (old : CopyText) → IsPart columns cells 0 old old
+pub part_none : (columns : List Column) (cells : List Cell) (old : CopyWriter) → IsPart columns cells 0 old old
 part_none columns cells old = record { text = refl; unread = refl }
 
 -- one field more is written, behind a tab unless it is the first
-pub part_next : (columns : List Column) (cells : List Cell) (k : ℕ) (column : Column) (c : Cell) (old now new : CopyText) → k < length columns
+pub part_next : (columns : List Column) (cells : List Cell) (k : ℕ) (column : Column) (c : Cell) (old now new : CopyWriter) → k < length columns
     → column ≡ get_or columns k column → slice_get cells k ≡ Some c → new.text ≡ (now.text ++ tab_before k) ++ field_text column.ctype c
     → new.unread ≡ now.unread + unread_in (c ∷ []) → IsPart columns cells k old now → IsPart columns cells (k + 1) old new
 part_next columns cells k column c old now new lt at is text count part = record {
@@ -54,7 +54,7 @@ part_next columns cells k column c old now new lt at is text count part = record
 }
 
 -- with its line feed it is the row's line
-pub part_all : (columns : List Column) (cells : List Cell) (k : ℕ) (old now new : CopyText) → length columns ≤ k → length cells ≤ k
+pub part_all : (columns : List Column) (cells : List Cell) (k : ℕ) (old now new : CopyWriter) → length columns ≤ k → length cells ≤ k
     → new.text ≡ now.text ++ 10 ∷ [] → new.unread ≡ now.unread → IsPart columns cells k old now → IsAdded columns cells old new
 unfolding line_of
 part_all columns cells k old now new past end text count part =
@@ -71,7 +71,7 @@ part_all columns cells k old now new past end text count part =
 -- Rows
 
 -- one row more is written
-pub left_next : (columns : List Column) (all rows rest : List LiveRow) (row : LiveRow) (old new : CopyText) → rows ≡ row ∷ rest
+pub left_next : (columns : List Column) (all rows rest : List LiveRow) (row : LiveRow) (old new : CopyWriter) → rows ≡ row ∷ rest
     → IsAdded columns row.cells old new → AreLeft columns all rows old → AreLeft columns all rest new
 left_next columns all rows rest row old new is added left =
     let before = subst (λ (rs : List LiveRow). AreLeft columns all rs old) is left in
@@ -83,19 +83,19 @@ left_next columns all rows rest row old new is added left =
     }
 
 -- before the first all rows are left
-left_all : (columns : List Column) (all : List LiveRow) (new : CopyText) → new.text ≡ [] → new.unread ≡ 0 → AreLeft columns all all new
+left_all : (columns : List Column) (all : List LiveRow) (new : CopyWriter) → new.text ≡ [] → new.unread ≡ 0 → AreLeft columns all all new
 left_all columns all new text count = record {
   text = ap (λ (r : List ℕ). r ++ text_of columns (cells_in all)) text;
   unread = omega (arith, count);
 }
 
-pub begun_all : (names : Names) (columns : List Column) (all : List LiveRow) (cursor : RowCursor) (new : CopyText) → rows_ahead names cursor ≡ all
+pub begun_all : (names : Names) (columns : List Column) (all : List LiveRow) (cursor : RowCursor) (new : CopyWriter) → rows_ahead names cursor ≡ all
     → new.text ≡ [] → new.unread ≡ 0 → AreLeft columns all (rows_ahead names cursor) new
 begun_all names columns all cursor new is text count =
     subst (λ (rows : List LiveRow). AreLeft columns all rows new) (sym is) (left_all columns all new text count)
 
 -- and at the end none
-pub left_none : (columns : List Column) (all : List LiveRow) (new : CopyText) → AreLeft columns all [] new
+pub left_none : (columns : List Column) (all : List LiveRow) (new : CopyWriter) → AreLeft columns all [] new
     → (new.text ≡ text_of columns (cells_in all)) × (new.unread ≡ unread_of (cells_in all))
 left_none columns all new left = (sym (append-nil new.text) ∙ left.text, omega (arith, left.unread))
 

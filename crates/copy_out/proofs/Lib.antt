@@ -9,6 +9,7 @@ mod LineLaws
 mod Runs
 mod Joining
 mod LaneLaws
+mod Writing
 mod ReadBytes
 mod RowSteps
 mod Refusals

@@ -9,7 +9,7 @@ use Rattle.heap_check.specs.declared.row_cells.Cell.{Cell}
 use Rattle.heap_check.specs.declared.row_cursor.RowCursor.{RowCursor}
 use Rattle.heap_check.specs.declared.rows.LiveRow.{LiveRow}
 use Rattle.copy_out.specs.Lines.{line_of, text_of, unread_in, unread_of}
-use Rattle.copy_out.specs.declared.live.CopyText.{CopyText}
+use Rattle.copy_out.specs.declared.live.CopyWriter.{CopyWriter}
 
 -- the cells of each row
 abbrev pub cells_in : List LiveRow → List (List Cell)
@@ -35,11 +35,11 @@ pub record IsOver (columns : List Column) (cursor : RowCursor) : Type 0 where
   pub asked : AreAsked (numbers_from 0 (length columns)) (asked_at cursor)
 
 -- the line of a row was added, and its unread values are counted
-pub record IsAdded (columns : List Column) (cells : List Cell) (old new : CopyText) : Type 0 where
+pub record IsAdded (columns : List Column) (cells : List Cell) (old new : CopyWriter) : Type 0 where
   pub text : new.text ≡ old.text ++ line_of columns cells
   pub unread : new.unread ≡ old.unread + unread_in cells
 
 -- what is written and the text of the rows that are left are that of all these rows, and so it is with what is counted
-pub record AreLeft (columns : List Column) (all left : List LiveRow) (copy : CopyText) : Type 0 where
+pub record AreLeft (columns : List Column) (all left : List LiveRow) (copy : CopyWriter) : Type 0 where
   pub text : copy.text ++ text_of columns (cells_in left) ≡ text_of columns (cells_in all)
   pub unread : copy.unread + unread_of (cells_in left) ≡ unread_of (cells_in all)

@@ -3,7 +3,7 @@ ghost use Rattle.std.specs.Prelude.{◌≡◌, ◌≤◌, ◌++◌, None, OnOk, 
 ghost use Rattle.copy_out.specs.Escapes.{escaped, letter_of};
 
 use crate::lanes::may_have_letters;
-use key_orders::Octets;
+use crate::writer::TextWriter;
 use outside::NoMemory;
 
 // The letter that stands for a byte behind a backslash, where one does.
@@ -72,7 +72,7 @@ fn may_have_escapes(bytes: &[u8]) -> bool
 }
 
 // Adds the bytes of a text with their escapes. What lies between two escapes is added as a whole.
-fn push_with_escapes(text: &mut Octets, bytes: &[u8]) -> Result<(), NoMemory>
+fn push_with_escapes(text: &mut TextWriter, bytes: &[u8]) -> Result<(), NoMemory>
     ensures { OnOk result (text.new ≡ text.old ++ escaped bytes.now) }
 {
     let mut done: usize = 0;
@@ -87,7 +87,7 @@ fn push_with_escapes(text: &mut Octets, bytes: &[u8]) -> Result<(), NoMemory>
 }
 
 /// Adds the bytes of a text with their escapes. Most texts have none, and are added as they are.
-pub(crate) fn push_escaped(text: &mut Octets, bytes: &[u8]) -> Result<(), NoMemory>
+pub(crate) fn push_escaped(text: &mut TextWriter, bytes: &[u8]) -> Result<(), NoMemory>
     ensures { OnOk result (text.new ≡ text.old ++ escaped bytes.now) }
 {
     if may_have_escapes(bytes) {

@@ -1,5 +1,5 @@
 //! The text of a field.
-ghost use Rattle.std.specs.Prelude.{◌≡◌, ◌++◌, codes, length, OnOk};
+ghost use Rattle.std.specs.Prelude.{◌≡◌, ◌++◌, ◌≤◌, codes, length, OnOk};
 ghost use Rattle.hex.specs.Hex.{encode_lower};
 ghost use Rattle.key_orders.specs.Values.{value_shown};
 ghost use Rattle.heap_check.specs.RowValues.{cell_lent};
@@ -8,10 +8,34 @@ ghost use Rattle.copy_out.specs.Lines.{tab_before};
 
 use crate::escapes::push_escaped;
 use crate::forms::Form;
+use crate::writer::TextWriter;
 use heap_check::{Cell, CellRef};
-use key_orders::{Octets, ValueRef};
-use octet_texts::{push_hexadecimal, push_number};
+use key_orders::ValueRef;
 use outside::NoMemory;
+
+// Hexadecimal digits of a few bytes.
+fn push_few_digits(text: &mut TextWriter, bytes: &[u8]) -> Result<(), NoMemory>
+    requires { length bytes.now ≤ 64 }
+    ensures { OnOk result (text.new ≡ text.old ++ encode_lower bytes.now) }
+{
+    let mut digits = [0u8; 128];
+    let room = &mut digits[..2 * bytes.len()];
+    hex::encode_to_slice(bytes, room).unwrap();
+    text.push_slice(room)
+}
+
+// Hexadecimal digits.
+fn push_digits(text: &mut TextWriter, bytes: &[u8]) -> Result<(), NoMemory>
+    ensures { OnOk result (text.new ≡ text.old ++ encode_lower bytes.now) }
+{
+    let mut rest = bytes;
+    while rest.len() > 64 {
+        let (part, after) = rest.split_at(64);
+        push_few_digits(text, part)?;
+        rest = after;
+    }
+    push_few_digits(text, rest)
+}
 
 // The 32 digits of 16 bytes.
 fn sixteen(bytes: &[u8]) -> [u8; 32]
@@ -24,15 +48,15 @@ fn sixteen(bytes: &[u8]) -> [u8; 32]
 }
 
 // A piece and a hyphen.
-fn push_group(text: &mut Octets, piece: &[u8]) -> Result<(), NoMemory>
+fn push_group(text: &mut TextWriter, piece: &[u8]) -> Result<(), NoMemory>
     ensures { OnOk result (text.new ≡ text.old ++ (piece.now ++ codes "-")) }
 {
     text.push_slice(piece)?;
-    text.push_slice(b"-")
+    text.push(b'-')
 }
 
 // The groups of 32 digits.
-fn push_groups(text: &mut Octets, digits: &[u8]) -> Result<(), NoMemory>
+fn push_groups(text: &mut TextWriter, digits: &[u8]) -> Result<(), NoMemory>
     requires { length digits.now ≡ 32 }
     ensures { OnOk result (text.new ≡ text.old ++ in_groups digits.now) }
 {
@@ -49,7 +73,7 @@ fn push_groups(text: &mut Octets, digits: &[u8]) -> Result<(), NoMemory>
 
 // Hexadecimal digits in groups.
 #[tactic(auto, unfolding(crate::specs::Fields::grouped))]
-fn push_grouped(text: &mut Octets, bytes: &[u8]) -> Result<(), NoMemory>
+fn push_grouped(text: &mut TextWriter, bytes: &[u8]) -> Result<(), NoMemory>
     requires { length bytes.now ≡ 16 }
     ensures { OnOk result (text.new ≡ text.old ++ grouped bytes.now) }
 {
@@ -59,43 +83,47 @@ fn push_grouped(text: &mut Octets, bytes: &[u8]) -> Result<(), NoMemory>
 
 // `\\x` and hexadecimal digits.
 #[tactic(auto, unfolding(crate::specs::Fields::hexadecimal))]
-fn push_bytea(text: &mut Octets, bytes: &[u8]) -> Result<(), NoMemory>
+fn push_hexadecimal(text: &mut TextWriter, bytes: &[u8]) -> Result<(), NoMemory>
     ensures { OnOk result (text.new ≡ text.old ++ hexadecimal bytes.now) }
 {
     text.push_slice(b"\\\\x")?;
-    push_hexadecimal(text, bytes)
+    push_digits(text, bytes)
 }
 
 // A value by the form of its type.
-fn push_value(text: &mut Octets, form: Form, value: ValueRef<'_>) -> Result<(), NoMemory>
+fn push_value(text: &mut TextWriter, form: Form, value: ValueRef<'_>) -> Result<(), NoMemory>
     requires { FitsForm form (value_shown value) }
     ensures { OnOk result (text.new ≡ text.old ++ value_text form (value_shown value.entry)) }
 {
     match (form, value) {
         (_, ValueRef::Null) => text.push_slice(b"\\N"),
-        (Form::Letter, ValueRef::Bool(true)) => text.push_slice(b"t"),
-        (Form::Letter, ValueRef::Bool(false)) => text.push_slice(b"f"),
-        (Form::Decimal, ValueRef::Int(n)) => push_number(text, n),
+        (Form::Letter, ValueRef::Bool(true)) => text.push(b't'),
+        (Form::Letter, ValueRef::Bool(false)) => text.push(b'f'),
+        (Form::Decimal, ValueRef::Int(n)) => text.push_number(n),
         (Form::Grouped, ValueRef::Bytes(bytes)) => push_grouped(text, bytes),
         (Form::Escaped, ValueRef::Bytes(bytes)) => push_escaped(text, bytes),
-        (Form::Digits, ValueRef::Bytes(bytes)) => push_bytea(text, bytes),
+        (Form::Digits, ValueRef::Bytes(bytes)) => push_hexadecimal(text, bytes),
         (_, _) => Ok(()),
     }
 }
 
 /// Adds a tab, unless the field that follows is the first of its row. Fields count from 0.
 #[inline]
-pub(crate) fn push_tab(text: &mut Octets, i: usize) -> Result<(), NoMemory>
+pub(crate) fn push_tab(text: &mut TextWriter, i: usize) -> Result<(), NoMemory>
     ensures { OnOk result (text.new ≡ text.old ++ tab_before i) }
 {
     if i == 0 {
         return Ok(());
     }
-    text.push_slice(b"\t")
+    text.push(b'\t')
 }
 
 /// Adds the text of a cell by the form of its column's type, which it fits.
-pub(crate) fn push_field(text: &mut Octets, form: Form, cell: CellRef<'_>) -> Result<(), NoMemory>
+pub(crate) fn push_field(
+    text: &mut TextWriter,
+    form: Form,
+    cell: CellRef<'_>,
+) -> Result<(), NoMemory>
     requires { FitsAs form (cell_lent cell) }
     ensures { OnOk result (text.new ≡ text.old ++ cell_text form (cell_lent cell.entry)) }
 {

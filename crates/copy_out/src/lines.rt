@@ -5,6 +5,7 @@ ghost use Rattle.copy_out.specs.Lines.{line_of, row_text};
 
 use crate::fields::{lent, push_field, push_tab};
 use crate::forms::form_of;
+use crate::writer::TextWriter;
 use case_file::Column;
 use heap_check::{Cell, LiveRow};
 use key_orders::Octets;
@@ -13,7 +14,7 @@ use std::alloc::Global;
 
 /// Adds the fields of a row, which has a cell for each column that fits it.
 pub(crate) fn push_fields(
-    text: &mut Octets,
+    text: &mut TextWriter,
     columns: &[Column],
     cells: &[Cell],
 ) -> Result<(), NoMemory>
@@ -36,8 +37,8 @@ pub fn row_line(alloc: Global, columns: &[Column], row: &LiveRow) -> Result<Octe
     requires { FitColumns columns.now row.now.cells }
     ensures { IfOk result (λ line. line ≡ line_of columns.now row.now.cells) }
 {
-    let mut line = Octets::new(alloc);
+    let mut line = TextWriter::new(alloc);
     push_fields(&mut line, columns, row.cells.as_slice())?;
-    line.push_slice(b"\n")?;
-    Ok(line)
+    line.push(b'\n')?;
+    line.finish()
 }

@@ -14,6 +14,7 @@ ghost use Rattle.copy_out.specs.Live.{AreLeft, IsAdded, IsOver, copied_text, num
 
 use crate::fields::{push_field, push_tab};
 use crate::forms::{Form, form_of};
+use crate::writer::TextWriter;
 use case_file::{Case, Column};
 use heap_check::{CellRef, RowCursor, SoundHeap};
 use key_orders::Octets;
@@ -31,6 +32,13 @@ pub struct CopyText {
     pub unread: u64,
 }
 
+// The same while it grows.
+#[derive(Drop)]
+struct CopyWriter {
+    text: TextWriter,
+    unread: u64,
+}
+
 // So many numbers from 0 on.
 fn numbers_below(alloc: Global, count: u16) -> Result<Vec<u16>, NoMemory>
     ensures { IfOk result (λ numbers. numbers.items ≡ numbers_from 0 count) }
@@ -42,23 +50,23 @@ fn numbers_below(alloc: Global, count: u16) -> Result<Vec<u16>, NoMemory>
     Ok(numbers)
 }
 
-// One more of what each takes a byte of these.
+// One more of what each takes one of so many bytes.
 #[inline]
-fn one_more(count: u64, bytes: &[u8]) -> u64
-    requires { count < length bytes.now }
+fn one_more(count: u64, bytes: u64) -> u64
+    requires { count < bytes }
     ensures { result ≡ count + 1 }
 {
     count + 1
 }
 
-impl CopyText {
+impl CopyWriter {
     // The text of no rows.
-    fn new(alloc: Global) -> CopyText
+    fn new(alloc: Global) -> CopyWriter
         ensures text { result.text ≡ [] }
         ensures unread { result.unread ≡ 0 }
     {
-        CopyText {
-            text: Octets::new(alloc),
+        CopyWriter {
+            text: TextWriter::new(alloc),
             unread: 0,
         }
     }
@@ -75,7 +83,7 @@ impl CopyText {
             CellRef::Held(_) => push_field(&mut self.text, form, cell),
             CellRef::Packed => {
                 push_field(&mut self.text, form, cell)?;
-                self.unread = one_more(self.unread, self.text.as_slice());
+                self.unread = one_more(self.unread, self.text.len());
                 Ok(())
             }
         }
@@ -96,7 +104,7 @@ impl CopyText {
             push_tab(&mut self.text, k)?;
             self.add_field(form_of(column.ctype), cell)?;
         }
-        self.text.push_slice(b"\n")?;
+        self.text.push(b'\n')?;
         Ok(())
     }
 
@@ -177,8 +185,11 @@ pub fn copy_rows<F: Files>(
     let columns = case.columns();
     let numbers = numbers_below(alloc, columns.len() as u16)?;
     let mut cursor = RowCursor::new(alloc, case, heap, &numbers)?;
-    let mut copy = CopyText::new(alloc);
+    let mut copy = CopyWriter::new(alloc);
     let most = heap.heap().blocks() as u64 * MAX_ITEMS as u64;
     copy.add_rows(files, columns, &mut cursor, most)?;
-    Ok(copy)
+    Ok(CopyText {
+        text: copy.text.finish()?,
+        unread: copy.unread,
+    })
 }

@@ -6,9 +6,10 @@ ghost use Rattle.copy_out.specs.Readings.{CutsField, IsNoRow, Lacks, ReadsRow};
 
 use crate::lines::push_fields;
 use crate::read_fields::read_cell;
+use crate::writer::TextWriter;
 use case_file::Column;
 use heap_check::{Cell, Cells};
-use key_orders::{Octets, fits_type};
+use key_orders::fits_type;
 use outside::NoMemory;
 use std::alloc::Global;
 
@@ -77,8 +78,9 @@ pub(crate) fn read_line(
     let Some(cells) = read_row(alloc, columns, row)? else {
         return Ok(None);
     };
-    let mut text = Octets::new(alloc);
+    let mut text = TextWriter::new(alloc);
     push_fields(&mut text, columns, cells.as_slice())?;
+    let text = text.finish()?;
     if text.as_slice() == row {
         Ok(Some(cells))
     } else {

@@ -19,8 +19,8 @@ loop-i-preserved c =
       | in-Some+in_ok-push_slice+in_ok-push_slice-2 w ↦
           let escape = 92 ∷ w.in-Some.letter ∷ [] in
           let text : c.match-letter_of.text ≡ (c.loop-i.text ++ drop done (take i bytes)) ++ escape =
-          w.text-is ∙ w.in_ok-push_slice-2.ensures.ok
-          ∙ ap (λ (r : List ℕ). r ++ escape) (w.in_ok-push_slice.ensures.ok ∙ ap (λ (r : List ℕ). c.loop-i.text ++ r) (run_is bytes done i le)) in
+          w.text-is ∙ w.in_ok-push_slice-2.ensures
+          ∙ ap (λ (r : List ℕ). r ++ escape) (w.in_ok-push_slice.ensures ∙ ap (λ (r : List ℕ). c.loop-i.text ++ r) (run_is bytes done i le)) in
           record {
             in_range = omega (arith, w.done-is);
             told =

@@ -14,4 +14,4 @@ returns c =
     c.split_at.ensures.front c.split_at.ensures.back c.split_at-2.ensures.front c.split_at-2.ensures.back
     c.split_at-3.ensures.front c.split_at-3.ensures.back c.split_at-4.ensures.front c.split_at-4.ensures.back
     c.in_ok-push_group.ensures c.in_ok-push_group-2.ensures c.in_ok-push_group-3.ensures c.in_ok-push_group-4.ensures e)
-    c.push_slice.ensures.ok
+    c.push_slice.ensures

@@ -46,7 +46,7 @@ returns-clause-text g c = λ names told.
     let all = rows_of c.args.case.now names in
     let columns = c.columns-columns.result.now in
     let begun = begun_all names columns all c.in_ok-cursor.cursor c.new-copy.result (c.in_ok-cursor.ensures.all names) c.new-copy.ensures.text c.new-copy.ensures.unread in
-    (left_none columns all c.add_rows.new.self (c.in_ok-add_rows.ensures.left names told all begun)).0
+    c.in_ok-finish.ensures ∙ (left_none columns all c.add_rows.new.self (c.in_ok-add_rows.ensures.left names told all begun)).0
     ∙ ap (λ (cs : List Column). text_of cs (cells_in all)) c.columns-columns.ensures
 
 pub returns-clause-unread : goal.returns-clause-unread

@@ -11,7 +11,7 @@ use Rattle.copy_out.specs.Lines.{tab_before}
 use Rattle.copy_out.proofs.Asking.{asked_count, asked_number}
 use Rattle.copy_out.proofs.Copying.{part_all, part_next, part_none}
 use Rattle.copy_out.proofs.Fitting.{field_is, fits_field}
-use Rattle.copy_out.proofs.live.CopyText.add_row.Goals as goal
+use Rattle.copy_out.proofs.live.CopyWriter.add_row.Goals as goal
 
 pub loop-k-init : goal.loop-k-init
 loop-k-init c = record {
@@ -64,7 +64,7 @@ add_field-requires-clause-counted c =
 
 pub returns-clause-counted : goal.returns-clause-counted
 returns-clause-counted c =
-    omega (arith, c.loop-k.invariant.counted, ap length c.in_ok-push_slice.ensures.ok, length-append c.loop-k.self.text (10 ∷ []))
+    omega (arith, c.loop-k.invariant.counted, ap length c.in_ok-push.ensures, length-append c.loop-k.self.text (10 ∷ []))
 
 pub returns-clause-added : goal.returns-clause-added
 returns-clause-added c = λ names row rows are is.
@@ -73,5 +73,5 @@ returns-clause-added c = λ names row rows are is.
     let next = are.next c.requires.at.places.found in
     let long : length row.cells ≡ length columns =
     ap (λ (r : LiveRow). length r.cells) (sym (first_is names cursor row rows next is)) ∙ next.row.columns ∙ ap length c.requires.over.table in
-    part_all columns row.cells c.loop-k.k c.args.self.now c.loop-k.self _ (omega arith) (omega (arith, long)) c.in_ok-push_slice.ensures.ok refl
+    part_all columns row.cells c.loop-k.k c.args.self.now c.loop-k.self _ (omega arith) (omega (arith, long)) c.in_ok-push.ensures refl
     (c.loop-k.invariant.part names row rows are is)

@@ -3,7 +3,7 @@ use Rattle.outside.specs.Outside.{Names}
 use Rattle.heap_check.specs.RowCursor.{IsCursorOf, rows_ahead}
 use Rattle.heap_check.specs.declared.rows.LiveRow.{LiveRow}
 use Rattle.copy_out.proofs.Copying.{IsPart}
-use Rattle.copy_out.proofs.live.CopyText.add_row.Given as goal
+use Rattle.copy_out.proofs.live.CopyWriter.add_row.Given as goal
 
 -- the fields so far are written
 abbrev pub invariant-loop-k : goal.invariant-loop-k

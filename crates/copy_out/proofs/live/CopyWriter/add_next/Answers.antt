@@ -6,7 +6,7 @@ use Rattle.heap_check.specs.RowCursor.{IsPlaceOfFirst, rows_ahead}
 use Rattle.copy_out.proofs.Asking.{same_over}
 use Rattle.copy_out.proofs.Copying.{left_next, row_there}
 use Rattle.copy_out.specs.Live.{AreLeft}
-use Rattle.copy_out.proofs.live.CopyText.add_next.Goals as goal
+use Rattle.copy_out.proofs.live.CopyWriter.add_next.Goals as goal
 
 pub add_row-requires-clause-over : goal.add_row-requires-clause-over
 add_row-requires-clause-over g c = same_over c.args.columns.now c.args.cursor.now c.find.new.self c.find.ensures.same c.requires.over

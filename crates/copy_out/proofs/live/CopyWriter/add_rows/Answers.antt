@@ -5,7 +5,7 @@ use Rattle.heap_check.specs.RowCursor.{rows_ahead}
 use Rattle.copy_out.specs.Live.{AreLeft}
 use Rattle.copy_out.proofs.Asking.{same_over, same_then}
 use Rattle.copy_out.proofs.Copying.{none_there}
-use Rattle.copy_out.proofs.live.CopyText.add_rows.Goals as goal
+use Rattle.copy_out.proofs.live.CopyWriter.add_rows.Goals as goal
 
 pub add_next-requires-clause-over : goal.add_next-requires-clause-over
 add_next-requires-clause-over g c = same_over c.args.columns.now c.args.cursor.now c.loop-k.cursor c.loop-k.invariant.same c.requires.over

@@ -3,7 +3,7 @@ use Rattle.outside.specs.Outside.{IfTold, Passed}
 use Rattle.heap_check.specs.declared.rows.LiveRow.{LiveRow}
 use Rattle.heap_check.specs.RowCursor.{IsCursorOf, IsSameCursor, rows_ahead}
 use Rattle.copy_out.specs.Live.{AreLeft}
-use Rattle.copy_out.proofs.live.CopyText.add_rows.Given as goal
+use Rattle.copy_out.proofs.live.CopyWriter.add_rows.Given as goal
 
 -- the rows that aren't ahead any more are written
 abbrev pub invariant-loop-k : goal.invariant-loop-k
