@@ -9,7 +9,6 @@ mod LineLaws
 mod Runs
 mod Joining
 mod LaneLaws
-mod Writing
 mod ReadBytes
 mod RowSteps
 mod Refusals

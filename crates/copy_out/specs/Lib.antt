@@ -2,7 +2,6 @@ pub mod Escapes
 pub mod Fields
 pub mod Lines
 pub mod Live
-pub mod Writer
 pub mod Readings
 pub mod Refused
 pub mod Laws

@@ -3,8 +3,8 @@ ghost use Rattle.std.specs.Prelude.{◌≡◌, ◌≤◌, ◌++◌, None, OnOk, 
 ghost use Rattle.copy_out.specs.Escapes.{escaped, letter_of};
 
 use crate::lanes::may_have_letters;
-use crate::writer::TextWriter;
 use outside::NoMemory;
+use text_writer::TextWriter;
 
 // The letter that stands for a byte behind a backslash, where one does.
 #[inline]

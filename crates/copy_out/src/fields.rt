@@ -1,5 +1,5 @@
 //! The text of a field.
-ghost use Rattle.std.specs.Prelude.{◌≡◌, ◌++◌, ◌≤◌, codes, length, OnOk};
+ghost use Rattle.std.specs.Prelude.{◌≡◌, ◌++◌, codes, length, OnOk};
 ghost use Rattle.hex.specs.Hex.{encode_lower};
 ghost use Rattle.key_orders.specs.Values.{value_shown};
 ghost use Rattle.heap_check.specs.RowValues.{cell_lent};
@@ -8,34 +8,10 @@ ghost use Rattle.copy_out.specs.Lines.{tab_before};
 
 use crate::escapes::push_escaped;
 use crate::forms::Form;
-use crate::writer::TextWriter;
 use heap_check::{Cell, CellRef};
 use key_orders::ValueRef;
 use outside::NoMemory;
-
-// Hexadecimal digits of a few bytes.
-fn push_few_digits(text: &mut TextWriter, bytes: &[u8]) -> Result<(), NoMemory>
-    requires { length bytes.now ≤ 64 }
-    ensures { OnOk result (text.new ≡ text.old ++ encode_lower bytes.now) }
-{
-    let mut digits = [0u8; 128];
-    let room = &mut digits[..2 * bytes.len()];
-    hex::encode_to_slice(bytes, room).unwrap();
-    text.push_slice(room)
-}
-
-// Hexadecimal digits.
-fn push_digits(text: &mut TextWriter, bytes: &[u8]) -> Result<(), NoMemory>
-    ensures { OnOk result (text.new ≡ text.old ++ encode_lower bytes.now) }
-{
-    let mut rest = bytes;
-    while rest.len() > 64 {
-        let (part, after) = rest.split_at(64);
-        push_few_digits(text, part)?;
-        rest = after;
-    }
-    push_few_digits(text, rest)
-}
+use text_writer::{TextWriter, push_hexadecimal};
 
 // The 32 digits of 16 bytes.
 fn sixteen(bytes: &[u8]) -> [u8; 32]
@@ -83,11 +59,11 @@ fn push_grouped(text: &mut TextWriter, bytes: &[u8]) -> Result<(), NoMemory>
 
 // `\\x` and hexadecimal digits.
 #[tactic(auto, unfolding(crate::specs::Fields::hexadecimal))]
-fn push_hexadecimal(text: &mut TextWriter, bytes: &[u8]) -> Result<(), NoMemory>
+fn push_bytea(text: &mut TextWriter, bytes: &[u8]) -> Result<(), NoMemory>
     ensures { OnOk result (text.new ≡ text.old ++ hexadecimal bytes.now) }
 {
     text.push_slice(b"\\\\x")?;
-    push_digits(text, bytes)
+    push_hexadecimal(text, bytes)
 }
 
 // A value by the form of its type.
@@ -102,7 +78,7 @@ fn push_value(text: &mut TextWriter, form: Form, value: ValueRef<'_>) -> Result<
         (Form::Decimal, ValueRef::Int(n)) => text.push_number(n),
         (Form::Grouped, ValueRef::Bytes(bytes)) => push_grouped(text, bytes),
         (Form::Escaped, ValueRef::Bytes(bytes)) => push_escaped(text, bytes),
-        (Form::Digits, ValueRef::Bytes(bytes)) => push_hexadecimal(text, bytes),
+        (Form::Digits, ValueRef::Bytes(bytes)) => push_bytea(text, bytes),
         (_, _) => Ok(()),
     }
 }

@@ -11,7 +11,6 @@ mod live;
 mod read_fields;
 mod read_lines;
 mod read_texts;
-mod writer;
 
 pub use laws::{refusals_are_right, texts_tell_rows};
 pub use lines::row_line;

@@ -5,12 +5,12 @@ ghost use Rattle.copy_out.specs.Lines.{line_of, row_text};
 
 use crate::fields::{lent, push_field, push_tab};
 use crate::forms::form_of;
-use crate::writer::TextWriter;
 use case_file::Column;
 use heap_check::{Cell, LiveRow};
 use key_orders::Octets;
 use outside::NoMemory;
 use std::alloc::Global;
+use text_writer::TextWriter;
 
 /// Adds the fields of a row, which has a cell for each column that fits it.
 pub(crate) fn push_fields(

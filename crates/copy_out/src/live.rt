@@ -14,7 +14,6 @@ ghost use Rattle.copy_out.specs.Live.{AreLeft, IsAdded, IsOver, copied_text, num
 
 use crate::fields::{push_field, push_tab};
 use crate::forms::{Form, form_of};
-use crate::writer::TextWriter;
 use case_file::{Case, Column};
 use heap_check::{CellRef, RowCursor, SoundHeap};
 use key_orders::Octets;
@@ -22,6 +21,7 @@ use outside::{Files, NoMemory};
 use page_layout::MAX_ITEMS;
 use reports::PageFault;
 use std::alloc::Global;
+use text_writer::TextWriter;
 
 /// Rows as text, and how many of their values are compressed, which aren't read.
 #[derive(Drop)]

@@ -6,12 +6,12 @@ ghost use Rattle.copy_out.specs.Readings.{CutsField, IsNoRow, Lacks, ReadsRow};
 
 use crate::lines::push_fields;
 use crate::read_fields::read_cell;
-use crate::writer::TextWriter;
 use case_file::Column;
 use heap_check::{Cell, Cells};
 use key_orders::fits_type;
 use outside::NoMemory;
 use std::alloc::Global;
+use text_writer::TextWriter;
 
 // What stands before the first such byte, and what stands behind it.
 pub(crate) fn cut_at(bytes: &[u8], byte: u8) -> Option<(&[u8], &[u8])>

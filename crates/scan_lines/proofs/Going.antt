@@ -3,18 +3,18 @@ use Rattle.std.proofs.Common.{◌≡◌, ℕ, ◌+◌, List, [], ◌∷◌, ◌+
 use Rattle.tree_search.specs.Keys.{Entry}
 use Rattle.key_orders.specs.declared.columns.Value.{Value}
 use Rattle.key_orders.specs.declared.Tid.{Tid}
-use Rattle.scan_lines.specs.declared.lines.ScanLines.{ScanLines}
+use Rattle.scan_lines.specs.declared.lines.LineWriter.{LineWriter}
 use Rattle.scan_lines.specs.Lines.{AddsLinesOf, LeavesLinesOf, line_of, lines_of}
 
 -- at first all are left
-pub leaves-all : (es left : List (Entry Value Tid)) (old : ScanLines) → left ≡ es → LeavesLinesOf es left old old
+pub leaves-all : (es left : List (Entry Value Tid)) (old : LineWriter) → left ≡ es → LeavesLinesOf es left old old
 leaves-all es left old is = record {
   text = ap (λ (l : List (Entry Value Tid)). old.text ++ lines_of l) is;
   count = ap (λ (l : List (Entry Value Tid)). old.count + length l) is;
 }
 
 -- one line more
-pub leaves-next : (es left rest : List (Entry Value Tid)) (e : Entry Value Tid) (old now new : ScanLines)
+pub leaves-next : (es left rest : List (Entry Value Tid)) (e : Entry Value Tid) (old now new : LineWriter)
     → LeavesLinesOf es left old now → left ≡ e ∷ rest → new.text ≡ now.text ++ line_of e → new.count ≡ now.count + 1
     → LeavesLinesOf es rest old new
 leaves-next es left rest e old now new so_far is one more =
@@ -26,15 +26,15 @@ leaves-next es left rest e old now new so_far is one more =
     }
 
 -- one part after another
-pub leaves-then : (es mid left : List (Entry Value Tid)) (old now new : ScanLines) → LeavesLinesOf es mid old now → LeavesLinesOf mid left now new → LeavesLinesOf es left old new
+pub leaves-then : (es mid left : List (Entry Value Tid)) (old now new : LineWriter) → LeavesLinesOf es mid old now → LeavesLinesOf mid left now new → LeavesLinesOf es left old new
 leaves-then es mid left old now new first second = record { text = second.text ∙ first.text; count = second.count ∙ first.count }
 
 -- what is left, by another name
-pub leaves-as : (es left rest : List (Entry Value Tid)) (old now : ScanLines) → left ≡ rest → LeavesLinesOf es left old now → LeavesLinesOf es rest old now
+pub leaves-as : (es left rest : List (Entry Value Tid)) (old now : LineWriter) → left ≡ rest → LeavesLinesOf es left old now → LeavesLinesOf es rest old now
 leaves-as es left rest old now same so_far = subst (λ (l : List (Entry Value Tid)). LeavesLinesOf es l old now) same so_far
 
 -- and where none is left they are added
-pub leaves-none : (es left : List (Entry Value Tid)) (old now : ScanLines) → LeavesLinesOf es left old now → left ≡ [] → AddsLinesOf es old now
+pub leaves-none : (es left : List (Entry Value Tid)) (old now : LineWriter) → LeavesLinesOf es left old now → left ≡ [] → AddsLinesOf es old now
 leaves-none es left old now so_far none =
     let all = so_far.count in
     let nothing : length left ≡ 0 = ap length none in

@@ -10,7 +10,7 @@ use Rattle.bt_search.specs.declared.spot.Spot.{Spot}
 use Rattle.bt_search.specs.Spots as forward
 use Rattle.back_scan.specs.Spots as backward
 use Rattle.back_scan.specs.Texts.{entry_text}
-use Rattle.scan_lines.specs.declared.lines.ScanLines.{ScanLines}
+use Rattle.scan_lines.specs.declared.lines.LineWriter.{LineWriter}
 use Rattle.scan_lines.specs.Lines.{LeavesLinesOf, line_of}
 
 -- the line of an entry, by its key and its TID
@@ -18,13 +18,13 @@ pub line-is : (key : List Value) (tid : Tid) (e : Entry Value Tid) → e.values 
 line-is key tid e values same = let own = sym values in λ i. entry_text (own i) (same i)
 
 -- the reader went from one spot of the leaf to another
-pub record Went (names : Names) (sound : SoundTree) (bounds : Bounds) (from spot : Spot) (page : List ℕ) (old now : ScanLines) : Type 0 where
+pub record Went (names : Names) (sound : SoundTree) (bounds : Bounds) (from spot : Spot) (page : List ℕ) (old now : LineWriter) : Type 0 where
   pub stands : forward.StandsAt names sound bounds spot page
   pub lines : LeavesLinesOf (forward.rest_at names sound bounds from) (forward.rest_at names sound bounds spot) old now
   pub left : forward.left_at names sound bounds from ≡ forward.left_at names sound bounds spot
 
 -- and the same down
-pub record WentDown (names : Names) (sound : SoundTree) (bounds : Bounds) (from spot : Spot) (page : List ℕ) (old now : ScanLines) : Type 0 where
+pub record WentDown (names : Names) (sound : SoundTree) (bounds : Bounds) (from spot : Spot) (page : List ℕ) (old now : LineWriter) : Type 0 where
   pub stands : backward.StandsAt names sound bounds spot page
   pub lines : LeavesLinesOf (backward.rest_at names sound bounds from) (backward.rest_at names sound bounds spot) old now
   pub left : backward.left_at names sound bounds from ≡ backward.left_at names sound bounds spot

@@ -7,6 +7,7 @@ use Rattle.key_orders.specs.declared.Tid.{Tid}
 use Rattle.back_scan.specs.Texts.{entry_text}
 use Rattle.scan_lines.specs.declared.lines.ScanDirection.{ScanDirection}
 use Rattle.scan_lines.specs.declared.lines.ScanDirection.TheVariants.{Forward, Backward}
+use Rattle.scan_lines.specs.declared.lines.LineWriter.{LineWriter}
 use Rattle.scan_lines.specs.declared.lines.ScanLines.{ScanLines}
 
 abbrev pub line_of : Entry Value Tid → List ℕ
@@ -26,11 +27,11 @@ pub record AreLinesOf (es : List (Entry Value Tid)) (lines : ScanLines) : Type 0
   pub count : lines.count ≡ length es
 
 -- those were added
-pub record AddsLinesOf (es : List (Entry Value Tid)) (old new : ScanLines) : Type 0 where
+pub record AddsLinesOf (es : List (Entry Value Tid)) (old new : LineWriter) : Type 0 where
   pub text : new.text ≡ old.text ++ lines_of es
   pub count : new.count ≡ old.count + length es
 
 -- they were added but for these, which are left
-pub record LeavesLinesOf (es left : List (Entry Value Tid)) (old new : ScanLines) : Type 0 where
+pub record LeavesLinesOf (es left : List (Entry Value Tid)) (old new : LineWriter) : Type 0 where
   pub text : new.text ++ lines_of left ≡ old.text ++ lines_of es
   pub count : new.count + length left ≡ old.count + length es

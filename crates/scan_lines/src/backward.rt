@@ -8,7 +8,7 @@ ghost use Rattle.scan_lines.specs.Leaves.{AddsLeafBack};
 ghost use Rattle.scan_lines.specs.Lines.{AddsLinesOf};
 ghost use Rattle.scan_lines.specs.Wanted.{wanted_on};
 
-use crate::lines::ScanLines;
+use crate::lines::LineWriter;
 use back_scan::{OnLeaf, back_searches_go_in_steps, descend_last, go_left, read_leaf};
 use bt_levels::SoundTree;
 use bt_search::{Search, Spot, Visits, searches_go_in_steps, tid_on};
@@ -23,7 +23,7 @@ fn add_leaf(
     search: &Search<'_>,
     page: &[u8; 8192],
     spot: &mut Spot,
-    lines: &mut ScanLines,
+    lines: &mut LineWriter,
 ) -> Result<Option<u32>, NoMemory>
     requires fits { FitsKey (specs_of search.now.tree.now) search.now.scan.now }
     ensures { IfOk result (λ next. (names : Held) → HoldsTree names search.now.tree.now → spot.old.block ≢ 0
@@ -49,7 +49,7 @@ pub fn add_backward<F: Files>(
     tree: &SoundTree,
     scan: &Scan,
     page: &mut [u8; 8192],
-    lines: &mut ScanLines,
+    lines: &mut LineWriter,
 ) -> Result<(), PageFault>
     requires holds { IfTold F.seen files.old (λ names. HoldsTree names tree.now) }
     requires fits { FitsKey (specs_of tree.now) scan.now }

@@ -8,7 +8,7 @@ ghost use Rattle.scan_lines.specs.Leaves.{AddsLeaf};
 ghost use Rattle.scan_lines.specs.Lines.{AddsLinesOf};
 ghost use Rattle.scan_lines.specs.Wanted.{wanted_on};
 
-use crate::lines::ScanLines;
+use crate::lines::LineWriter;
 use bt_levels::SoundTree;
 use bt_search::{OnLeaf, Search, Spot, Visits, arrive, descend, read_leaf, tid_on};
 use bt_tuples::ItemKeys;
@@ -22,7 +22,7 @@ fn add_leaf(
     search: &Search<'_>,
     page: &[u8; 8192],
     spot: &mut Spot,
-    lines: &mut ScanLines,
+    lines: &mut LineWriter,
 ) -> Result<Option<u32>, NoMemory>
     requires fits { FitsKey (specs_of search.now.tree.now) search.now.scan.now }
     ensures { IfOk result (λ next. (names : Held) → HoldsTree names search.now.tree.now → spot.old.block ≢ 0
@@ -48,7 +48,7 @@ pub fn add_forward<F: Files>(
     tree: &SoundTree,
     scan: &Scan,
     page: &mut [u8; 8192],
-    lines: &mut ScanLines,
+    lines: &mut LineWriter,
 ) -> Result<(), PageFault>
     requires holds { IfTold F.seen files.old (λ names. HoldsTree names tree.now) }
     requires fits { FitsKey (specs_of tree.now) scan.now }

@@ -1,5 +1,5 @@
 //! The lines of a scan.
-ghost use Rattle.std.specs.Prelude.{◌≡◌, ◌<◌, ◌+◌, ◌^◌, ◌++◌, [], OnOk};
+ghost use Rattle.std.specs.Prelude.{◌≡◌, ◌<◌, ◌+◌, ◌^◌, ◌++◌, [], IfOk, OnOk};
 ghost use Rattle.outside.specs.Outside.{Asked, IfTold, Tells};
 ghost use Rattle.key_orders.specs.Scans.{FitsKey};
 ghost use Rattle.bt_levels.specs.Sound.{HoldsTree, specs_of};
@@ -15,6 +15,7 @@ use key_orders::{KeyRefs, Octets, Scan, Tid};
 use outside::{Files, NoMemory};
 use reports::PageFault;
 use std::alloc::Global;
+use text_writer::TextWriter;
 
 /// Which way a scan goes along an index.
 #[derive(Clone, Copy, Debug, PartialEq, Eq)]
@@ -32,19 +33,27 @@ pub struct ScanLines {
     pub count: u64,
 }
 
-impl ScanLines {
+/// Lines that are written one after another.
+#[derive(Drop)]
+pub(crate) struct LineWriter {
+    pub(crate) text: TextWriter,
+    pub(crate) count: u64,
+}
+
+impl LineWriter {
     // No lines.
-    fn new(alloc: Global) -> ScanLines
-        ensures { AreLinesOf [] result }
+    fn new(alloc: Global) -> LineWriter
+        ensures text { result.text ≡ [] }
+        ensures count { result.count ≡ 0 }
     {
-        ScanLines {
-            text: Octets::new(alloc),
+        LineWriter {
+            text: TextWriter::new(alloc),
             count: 0,
         }
     }
 
     /// Adds the line of an entry with this key and this TID.
-    pub fn push(&mut self, key: &KeyRefs<'_>, tid: Tid) -> Result<(), NoMemory>
+    pub(crate) fn push(&mut self, key: &KeyRefs<'_>, tid: Tid) -> Result<(), NoMemory>
         requires { self.old.count + 1 < 2 ^ 64 }
         ensures text { OnOk result (self.new.text ≡ self.old.text ++ entry_text key.now tid) }
         ensures count { OnOk result (self.new.count ≡ self.old.count + 1) }
@@ -52,6 +61,16 @@ impl ScanLines {
         push_entry_line(&mut self.text, key, tid)?;
         self.count += 1;
         Ok(())
+    }
+
+    // All of them.
+    fn finish(self) -> Result<ScanLines, NoMemory>
+        ensures text { IfOk result (λ lines. lines.text ≡ self.text) }
+        ensures count { IfOk result (λ lines. lines.count ≡ self.count) }
+    {
+        let LineWriter { text, count } = self;
+        let text = text.finish()?;
+        Ok(ScanLines { text, count })
     }
 }
 
@@ -70,11 +89,11 @@ pub fn scan_lines<F: Files>(
         AreLinesOf (in_direction direction (wanted_on names tree.now scan.now)) lines) }
     ensures asked { Asked F.seen files.old files.new result PageFault.ReadFault }
 {
-    let mut lines = ScanLines::new(alloc);
+    let mut lines = LineWriter::new(alloc);
     let mut page = [0u8; 8192];
     match direction {
         ScanDirection::Forward => add_forward(files, tree, scan, &mut page, &mut lines)?,
         ScanDirection::Backward => add_backward(files, tree, scan, &mut page, &mut lines)?,
     }
-    Ok(lines)
+    Ok(lines.finish()?)
 }

@@ -1,6 +1,0 @@
-use Rattle.std.proofs.Common.{arith}
-use Rattle.copy_out.proofs.Writing.{part_behind}
-use Rattle.copy_out.proofs.writer.Waiting.put_slice.Goals as goal
-
-pub returns-clause-bytes : goal.returns-clause-bytes
-returns-clause-bytes c = part_behind c.args.self.now.used _ c.args.self.now.bytes c.args.bytes.now _ _ c.copy_from_slice.ensures.after (omega arith) (omega arith)

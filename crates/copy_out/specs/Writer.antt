@@ -1,6 +1,0 @@
--- What waits to be added to a text.
-use Rattle.std.specs.Prelude.{ℕ, List, take}
-use Rattle.copy_out.specs.declared.writer.Waiting.{Waiting}
-
-abbrev pub bytes_of : Waiting → List ℕ
-bytes_of w = take w.used w.bytes

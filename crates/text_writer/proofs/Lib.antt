@@ -1,0 +1,2 @@
+pub mod Encoding
+mod Writing
