@@ -313,18 +313,16 @@ fn entries_of_a_leaf(rt: HostRuntime) -> Result<(), Fail> {
         scan: &scan,
         limit: 0,
     };
+    let mut spot = reader.spot;
     let view = PageView::new(&reader.page);
     let mut keys = ItemKeys::new();
     for want in [(7, 2), (7, 3), (9, 4)] {
-        let OnLeaf::Entry(at) = read_leaf(&search, view, &mut reader.spot, &mut keys) else {
+        let OnLeaf::Entry(at) = read_leaf(&search, view, &mut spot, &mut keys) else {
             return Err("no entry".into());
         };
         assert_eq!(rt; entry_in_hand(view, &keys, at), Some(want));
     }
-    assert_eq!(rt;
-        read_leaf(&search, view, &mut reader.spot, &mut keys),
-        OnLeaf::End
-    );
+    assert_eq!(rt; read_leaf(&search, view, &mut spot, &mut keys), OnLeaf::End);
     Ok(())
 }
 
