@@ -17,6 +17,9 @@
 -- a key type or a collation that the checker doesn't order; and a missing value
 -- whose stored bytes can't be told from SQL. Such a value is read as null.
 --
+-- With `-v unique=on` a unique index is called so, and then no key may be there
+-- twice. That takes up to three times as long, so it isn't done without being asked for.
+--
 -- It needs no extension and no special right, and it changes nothing. Where a
 -- case can't describe the table it prints nothing, gives the reason on standard
 -- error, and ends with status 3. Tables and indexes that another session keeps
@@ -93,6 +96,10 @@ set jit = off;
 \if :{?lock_timeout}
 \else
     \set lock_timeout '60s'
+\endif
+\if :{?unique}
+\else
+    \set unique off
 \endif
 select set_config('kamzudrev.lock_timeout', :'lock_timeout', false) as waited,
     set_config('kamzudrev.table_oid', :'table_oid', false) as for_table
@@ -789,8 +796,8 @@ lines (table_oid, part, number, place, line) as (
             'name = ' || names.in_toml,
             format('file = "%s"', index_path),
             'include = [' || included_columns.in_toml || ']',
-            case when indisunique then 'unique = true' end,
-            case when has_equal_nulls then 'nulls_not_distinct = true' end
+            case when indisunique and :'unique' = 'on' then 'unique = true' end,
+            case when has_equal_nulls and :'unique' = 'on' then 'nulls_not_distinct = true' end
         )
     end
     from numbered_indexes
