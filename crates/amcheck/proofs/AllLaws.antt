@@ -11,10 +11,10 @@ use Rattle.reports.specs.Lists.{Lists}
 use Rattle.reports.specs.declared.places.Place.{Place}
 use Rattle.reports.specs.declared.places.Reason.{Reason}
 use Rattle.amcheck.specs.All.{BreaksAll, BreaksCase, DoubtsAll, DoubtsCase, HasTrueIndexes, all_found, all_judged, all_refusal, whole_judged}
-use Rattle.amcheck.specs.Cases.{case_in}
+use Rattle.run_outputs.specs.Cases.{case_in}
 use Rattle.amcheck.specs.Laws.{AreLaws}
 use Rattle.amcheck.specs.Numbered.{IsBehind}
-use Rattle.amcheck.proofs.CaseLaws.{HasCase, one_case, sound_case, the_case, unless_is}
+use Rattle.run_outputs.proofs.CaseLaws.{HasCase, one_case, sound_case, the_case, unless_is}
 use Rattle.amcheck.proofs.WholeLaws.{whole_doubt_listed, whole_doubts, whole_listed, whole_sound, whole_true}
 
 module _ (laws : AreLaws) (file : List ℕ) (names : Names) (lists : Lists) (e : all_judged file names ≡ Ok lists) where

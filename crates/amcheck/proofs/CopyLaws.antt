@@ -14,18 +14,18 @@ use Rattle.heap_check.specs.RowLaws.{AreLiveTuples}
 use Rattle.heap_check.specs.Rows.{rows_of}
 use Rattle.bt_levels.proofs.LevelLaws.{empty_quiet}
 use Rattle.copy_out.specs.Live.{unread_values}
-use Rattle.amcheck.specs.Answers.{answer_code}
-use Rattle.amcheck.specs.declared.status.Answer.TheVariants.{Clean, Unread}
-use Rattle.amcheck.specs.Cases.{case_in}
+use Rattle.run_outputs.specs.Answers.{answer_code}
+use Rattle.run_outputs.specs.declared.status.Answer.TheVariants.{Clean, Unread}
+use Rattle.run_outputs.specs.Cases.{case_in}
 use Rattle.amcheck.specs.Commands.{outcome_of}
 use Rattle.amcheck.specs.Copied.{IsCopy}
 use Rattle.amcheck.specs.Copy.{copy_outcome, read_copied, rows_after, rows_shown, rows_unless}
 use Rattle.amcheck.specs.Heap.{case_judged, heap_judged}
 use Rattle.amcheck.specs.Laws.{AreLaws}
-use Rattle.amcheck.specs.Outcome.{Judged, Meets, Outcome, reported}
+use Rattle.run_outputs.specs.Outcome.{Judged, Meets, Outcome, reported}
 use Rattle.amcheck.specs.Tables.{IsHeapIn, IsHeapOf}
-use Rattle.amcheck.specs.Words.{Copy, Form, Heap}
-use Rattle.amcheck.proofs.CaseLaws.{HasCase, one_case, sound_case, the_case, unless_is}
+use Rattle.run_words.specs.Words.{Copy, Form, Heap}
+use Rattle.run_outputs.proofs.CaseLaws.{HasCase, one_case, sound_case, the_case, unless_is}
 use Rattle.amcheck.proofs.NumberedLaws.{quiet_from, quiet_is}
 use Rattle.amcheck.proofs.TogetherLaws.{heap-where-quiet}
 use Rattle.amcheck.proofs.Worth.{clean_has_none, complete_report, sound_report}

@@ -1,6 +1,6 @@
 -- What `gen` builds: its case is sound, its files are judged, and its findings are the rules that are broken in them.
 use Rattle.std.proofs.Common.{◌≡◌, ◌≤◌, ◌<◌, ◌+◌, ◌*◌, ◌/◌, ◌++◌, ◌⊎◌, ℕ, Bool, true, false, List, [], refl, ap, sym, subst, ◌∙◌, arith, codes, length, nat_lt}
-use Rattle.std.specs.Prelude.{Err, IfOk, None, Ok, Option, Result, Some, min, if◌then◌else◌}
+use Rattle.std.specs.Prelude.{Err, IfOk, None, Ok, Option, Result, Some, if◌then◌else◌}
 use Rattle.std.specs.List.{All}
 use Rattle.std.proofs.lemmas.Bool.{le-ltb, lt-ltb, ltb-true}
 use Rattle.outside.specs.Memory.{sure_seen, sure_state}
@@ -30,15 +30,15 @@ use Rattle.rel_build.specs.Rows.{pages_for, rows_below}
 use Rattle.rel_build.specs.Trees.{has_upper_root, leaves_for, tree_blocks}
 use Rattle.rel_build.proofs.Parts.{length_rows}
 use Rattle.amcheck.specs.All.{all_found, all_refusal, first_upto, whole_judged}
-use Rattle.amcheck.specs.Cases.{unless_refused}
+use Rattle.run_outputs.specs.Cases.{unless_refused}
 use Rattle.amcheck.specs.Generated.{BreaksGenerated, DoubtsGenerated, IsTrueGenerated, counts_of, generated_judged, generated_owed}
 use Rattle.amcheck.specs.Laws.{AreLaws}
 use Rattle.amcheck.specs.Numbered.{IsBehind}
-use Rattle.amcheck.specs.Outcome.{Outcome, owed_by, owed_under, reported, reported_under, too_large}
-use Rattle.amcheck.specs.Seen.{outcome_seen}
-use Rattle.amcheck.specs.declared.fault.RunFault.{RunFault}
-use Rattle.amcheck.specs.declared.output.Output.{Output}
-use Rattle.amcheck.specs.declared.output.Unit.TheVariants.{Rows}
+use Rattle.run_outputs.specs.Outcome.{Outcome, owed_by, owed_under, reported, reported_under, too_large}
+use Rattle.run_outputs.specs.Seen.{outcome_seen}
+use Rattle.run_outputs.specs.declared.fault.RunFault.{RunFault}
+use Rattle.run_outputs.specs.declared.output.Output.{Output}
+use Rattle.run_outputs.specs.declared.output.Unit.TheVariants.{Rows}
 use Rattle.amcheck.proofs.WholeLaws.{whole_doubt_listed, whole_doubts, whole_listed, whole_sound, whole_true}
 
 -- Its files are judged

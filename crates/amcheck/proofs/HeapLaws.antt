@@ -15,7 +15,7 @@ use Rattle.heap_files.specs.Files.{refusal_of}
 use Rattle.heap_files.specs.Found.{case_found, doubts_of, findings_of}
 use Rattle.heap_files.proofs.TrueLaws.{case_is_judged, case_is_true}
 use Rattle.amcheck.specs.Heap.{BreaksHeap, DoubtsHeap, HasTrueHeap, case_judged, heap_judged}
-use Rattle.amcheck.proofs.CaseLaws.{HasCase, one_case, the_case, unless_is}
+use Rattle.run_outputs.proofs.CaseLaws.{HasCase, one_case, the_case, unless_is}
 
 module _ (name : List ℕ) (names : Names) (lists : Lists) (e : heap_judged name names ≡ Ok lists) where
   has : HasCase name names (case_judged names) lists

@@ -18,7 +18,7 @@ use Rattle.bt_pages.specs.Broken.{AreEmpty}
 use Rattle.amcheck.specs.Index.{BreaksIndex, DoubtsIndex, HasIndex, HasTrueIndex, in_index, in_table, index_found, index_judged, index_refusal, named_judged, numbered_judged}
 use Rattle.amcheck.specs.Laws.{AreLaws}
 use Rattle.amcheck.specs.Numbered.{BreaksNumbered, DoubtsNumbered, IsBehind, numbered_found}
-use Rattle.amcheck.proofs.CaseLaws.{HasCase, one_case, sound_case, the_case, unless_is}
+use Rattle.run_outputs.proofs.CaseLaws.{HasCase, one_case, sound_case, the_case, unless_is}
 use Rattle.amcheck.proofs.HeadlineLaws.{index_is_true}
 use Rattle.amcheck.proofs.NumberedLaws.{numbered_doubt_listed, numbered_doubts, numbered_joined, numbered_listed, numbered_sound, numbered_tree, numbered_unique}
 

@@ -1,15 +1,10 @@
 pub mod AllLaws
-pub mod Answers
-pub mod BoundLaws
-pub mod CaseLaws
 pub mod CopyLaws
 pub mod GeneratedLaws
 pub mod HeadlineLaws
 pub mod HeapLaws
 pub mod IndexLaws
-pub mod NumberLaws
 pub mod NumberedLaws
-pub mod PagesLaws
 pub mod ScanLaws
 pub mod TreesLaws
 pub mod TogetherLaws

@@ -25,7 +25,7 @@ use Rattle.bt_steps.specs.Pages.{is_killed}
 use Rattle.scan_lines.specs.Lines.{in_direction}
 use Rattle.scan_lines.specs.declared.lines.ScanDirection.{ScanDirection}
 use Rattle.scan_lines.specs.Wanted.{wanted_entries, wanted_on}
-use Rattle.amcheck.specs.Outcome.{bad_bound, reported}
+use Rattle.run_outputs.specs.Outcome.{bad_bound, reported}
 use Rattle.amcheck.specs.Scan.{are_fitting, bounded_scanned, entries_shown, keys_of, tree_scanned, wanted_in}
 use Rattle.amcheck.specs.Tables.{IsTreeOf}
 use Rattle.amcheck.proofs.TogetherLaws.{there-where-quiet}

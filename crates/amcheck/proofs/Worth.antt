@@ -11,20 +11,20 @@ use Rattle.reports.specs.declared.places.Finding.{Finding}
 use Rattle.reports.specs.declared.places.UnjudgedPlace.{UnjudgedPlace}
 use Rattle.page_layout.specs.declared.rules.Rule.{Rule}
 use Rattle.heap_pages.proofs.PageLaws.{none_listed}
-use Rattle.amcheck.specs.Answers.{answer_by, answer_code}
+use Rattle.run_outputs.specs.Answers.{answer_by, answer_code}
 use Rattle.amcheck.specs.Commands.{BreaksNothing, DoubtsNothing, IsComplete, IsGenerated, IsSound, IsTrue, IsWorth, heading_of, judged_by, outcome_of}
 use Rattle.amcheck.specs.Laws.{AreLaws}
 use Rattle.amcheck.specs.Numbered.{IsBehind}
 use Rattle.amcheck.specs.Generated.{generated_owed}
-use Rattle.amcheck.specs.Outcome.{Meets, Outcome, owed_under, reported_under}
-use Rattle.amcheck.specs.Words.{All as Every, Check, Form, Generated, Heap, Index, Judge, Pages}
+use Rattle.run_outputs.specs.Outcome.{Meets, Outcome, owed_under, reported_under}
+use Rattle.run_words.specs.Words.{All as Every, Check, Form, Generated, Heap, Index, Judge, Pages}
 use Rattle.amcheck.proofs.AllLaws.{all_doubt_listed, all_doubts, all_listed, all_sound, all_true}
 use Rattle.amcheck.proofs.GeneratedLaws.{generated_doubt_listed, generated_doubts, generated_listed, generated_sound, generated_true}
 use Rattle.amcheck.proofs.HeapLaws.{heap_doubt_listed, heap_doubts, heap_listed, heap_sound, heap_true}
 use Rattle.reports.specs.Added.{IsListed, found}
 use Rattle.reports.specs.declared.places.Place.{Place}
 use Rattle.amcheck.proofs.IndexLaws.{index_doubt_listed, index_doubts, index_listed, index_sound, index_true}
-use Rattle.amcheck.proofs.PagesLaws.{file_certain, file_listed, file_sound, pages_are}
+use Rattle.run_outputs.proofs.PagesLaws.{file_certain, file_listed, file_sound, pages_are}
 
 -- each finding of a report is a broken rule, and each place that it calls unjudged is in doubt
 pub sound_report : (laws : AreLaws) (check : Check) (names : Names) (lists : Lists) → judged_by check names ≡ Ok lists → IsSound check names lists

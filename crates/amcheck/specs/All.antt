@@ -16,10 +16,10 @@ use Rattle.heap_files.specs.Truth.{IsTrueHeap}
 use Rattle.bt_levels.specs.Broken.{IsTrueTree}
 use Rattle.bt_levels.specs.Files.{refusal_of as tree_refusal}
 use Rattle.bt_levels.specs.Index.{tree_of}
-use Rattle.amcheck.specs.Cases.{case_in, of_read, unless_refused}
+use Rattle.run_outputs.specs.Cases.{case_in, of_read, unless_refused}
 use Rattle.amcheck.specs.Headline.{IsTrueIndex}
 use Rattle.amcheck.specs.Numbered.{BreaksNumbered, DoubtsNumbered, IsNumber, numbered_found}
-use Rattle.amcheck.specs.Outcome.{Judged}
+use Rattle.run_outputs.specs.Outcome.{Judged}
 
 -- the first of those of 1, .., n, if there is one
 unfoldable pub first_upto : {X : Type 0} → (ℕ → Option X) → ℕ → Option X

@@ -9,19 +9,19 @@ use Rattle.reports.specs.Lists.{Lists}
 use Rattle.reports.specs.declared.places.Place.{Place}
 use Rattle.reports.specs.declared.places.Reason.{Reason}
 use Rattle.amcheck.specs.All.{BreaksAll, DoubtsAll, HasTrueIndexes, all_judged}
-use Rattle.amcheck.specs.Answers.{GaveUp}
+use Rattle.run_outputs.specs.Answers.{GaveUp}
 use Rattle.amcheck.specs.Copy.{copy_outcome}
 use Rattle.amcheck.specs.Generated.{BreaksGenerated, DoubtsGenerated, IsTrueGenerated, counts_of, generated_judged}
 use Rattle.amcheck.specs.Generated.{generated_owed}
 use Rattle.amcheck.specs.Heap.{BreaksHeap, DoubtsHeap, HasTrueHeap, heap_judged}
 use Rattle.amcheck.specs.Index.{BreaksIndex, DoubtsIndex, HasTrueIndex, index_judged}
 use Rattle.amcheck.specs.Numbered.{IsBehind}
-use Rattle.amcheck.specs.Outcome.{Judged, Meets, Outcome, owed_under, reported_under, usage}
-use Rattle.amcheck.specs.Pages.{BreaksFile, pages_judged}
+use Rattle.run_outputs.specs.Outcome.{Judged, Meets, Outcome, owed_under, reported_under, usage}
+use Rattle.run_outputs.specs.Pages.{BreaksFile, pages_judged}
 use Rattle.amcheck.specs.Scan.{scan_outcome}
-use Rattle.amcheck.specs.Show.{show_outcome}
-use Rattle.amcheck.specs.Words.{All as Every, Check, Copy, Form, Generated, Heap, Index, Judge, Pages, Scan, Show}
-use Rattle.amcheck.specs.Words.{form_of}
+use Rattle.run_outputs.specs.Show.{show_outcome}
+use Rattle.run_words.specs.Words.{All as Every, Check, Copy, Form, Generated, Heap, Index, Judge, Pages, Scan, Show}
+use Rattle.run_words.specs.Words.{form_of}
 
 -- what a command that judges finds
 abbrev pub judged_by : Check → Names → Judged

@@ -7,12 +7,12 @@ use Rattle.bt_levels.specs.Lists.{is_quiet}
 use Rattle.heap_check.specs.RowLaws.{AreLiveTuples}
 use Rattle.heap_check.specs.Rows.{rows_of}
 use Rattle.copy_out.specs.Live.{unread_values}
-use Rattle.amcheck.specs.Cases.{case_in}
+use Rattle.run_outputs.specs.Cases.{case_in}
 use Rattle.amcheck.specs.Commands.{IsComplete, IsSound}
 use Rattle.amcheck.specs.Copy.{rows_shown, rows_unless}
 use Rattle.amcheck.specs.Heap.{heap_judged}
-use Rattle.amcheck.specs.Outcome.{Meets}
-use Rattle.amcheck.specs.Words.{Copy, Heap, form_of}
+use Rattle.run_outputs.specs.Outcome.{Meets}
+use Rattle.run_words.specs.Words.{Copy, Heap, form_of}
 
 -- what it is worth, where this is the case and what `heap` finds of it
 pub record IsCopy

@@ -5,12 +5,12 @@ use Rattle.case_file.specs.Record.{CaseRecord}
 use Rattle.reports.specs.Lists.{Lists}
 use Rattle.bt_levels.specs.Lists.{is_quiet}
 use Rattle.copy_out.specs.Live.{copied_text, unread_values}
-use Rattle.amcheck.specs.Answers.{answer_code}
-use Rattle.amcheck.specs.Cases.{CaseRead, case_in}
+use Rattle.run_outputs.specs.Answers.{answer_code}
+use Rattle.run_outputs.specs.Cases.{CaseRead, case_in}
 use Rattle.amcheck.specs.Heap.{case_judged}
-use Rattle.amcheck.specs.Outcome.{Judged, Outcome, reported}
-use Rattle.amcheck.specs.declared.status.Answer.{Answer}
-use Rattle.amcheck.specs.declared.status.Answer.TheVariants.{Clean, Unread}
+use Rattle.run_outputs.specs.Outcome.{Judged, Outcome, reported}
+use Rattle.run_outputs.specs.declared.status.Answer.{Answer}
+use Rattle.run_outputs.specs.declared.status.Answer.TheVariants.{Clean, Unread}
 
 -- what is answered where so many values of rows aren't read
 abbrev pub answer_unread : ℕ → Answer

@@ -8,8 +8,8 @@ use Rattle.rel_build.specs.Files.{built_files}
 use Rattle.rel_build.specs.Rows.{pages_for, rows_below}
 use Rattle.rel_build.specs.Trees.{tree_blocks}
 use Rattle.amcheck.specs.All.{BreaksCase, DoubtsCase, IsTrueCase, all_found}
-use Rattle.amcheck.specs.Outcome.{Judged, Outcome, owed_under, too_large}
-use Rattle.amcheck.specs.declared.output.Unit.TheVariants.{Rows}
+use Rattle.run_outputs.specs.Outcome.{Judged, Outcome, owed_under, too_large}
+use Rattle.run_outputs.specs.declared.output.Unit.TheVariants.{Rows}
 
 -- the line of an index: its number, its blocks and its entries
 abbrev pub index_line : (n blocks entries : ℕ) → List ℕ

@@ -9,8 +9,8 @@ use Rattle.heap_files.specs.Broken.{Breaks, Doubts}
 use Rattle.heap_files.specs.Files.{refusal_of}
 use Rattle.heap_files.specs.Found.{case_found}
 use Rattle.heap_files.specs.Truth.{IsTrueHeap}
-use Rattle.amcheck.specs.Cases.{case_in, of_read, unless_refused}
-use Rattle.amcheck.specs.Outcome.{Judged}
+use Rattle.run_outputs.specs.Cases.{case_in, of_read, unless_refused}
+use Rattle.run_outputs.specs.Outcome.{Judged}
 
 -- the report on a case, unless its files are refused
 abbrev pub case_judged : Names → CaseRecord → Judged

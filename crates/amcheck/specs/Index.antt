@@ -16,10 +16,10 @@ use Rattle.heap_files.specs.Found.{case_found}
 use Rattle.bt_levels.specs.Broken.{IsTrueTree}
 use Rattle.bt_levels.specs.Files.{refusal_of as tree_refusal}
 use Rattle.bt_levels.specs.Index.{tree_of}
-use Rattle.amcheck.specs.Cases.{case_in, of_read, unless_refused}
+use Rattle.run_outputs.specs.Cases.{case_in, of_read, unless_refused}
 use Rattle.amcheck.specs.Headline.{IsTrueIndex}
 use Rattle.amcheck.specs.Numbered.{BreaksNumbered, DoubtsNumbered, numbered_found}
-use Rattle.amcheck.specs.Outcome.{Judged, Outcome, case_refused}
+use Rattle.run_outputs.specs.Outcome.{Judged, Outcome, case_refused}
 
 -- why the files can't be judged: the heap's cause, or else the TOAST table's, or else that of index n
 abbrev pub index_refusal : CaseRecord → Names → ℕ → Option CheckFault

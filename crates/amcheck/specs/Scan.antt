@@ -17,12 +17,12 @@ use Rattle.bt_steps.specs.Pages.{is_killed}
 use Rattle.scan_lines.specs.Lines.{in_direction, lines_of}
 use Rattle.scan_lines.specs.Wanted.{wanted_entries}
 use Rattle.scan_lines.specs.declared.lines.ScanDirection.{ScanDirection}
-use Rattle.amcheck.specs.Answers.{answer_code}
-use Rattle.amcheck.specs.Cases.{CaseRead, case_in, files_refused}
+use Rattle.run_outputs.specs.Answers.{answer_code}
+use Rattle.run_outputs.specs.Cases.{CaseRead, case_in, files_refused}
 use Rattle.amcheck.specs.Headline.{pages_of}
 use Rattle.amcheck.specs.Index.{unknown_index}
-use Rattle.amcheck.specs.Outcome.{Outcome, bad_bound, reported}
-use Rattle.amcheck.specs.declared.status.Answer.TheVariants.{Clean}
+use Rattle.run_outputs.specs.Outcome.{Outcome, bad_bound, reported}
+use Rattle.run_outputs.specs.declared.status.Answer.TheVariants.{Clean}
 
 -- the columns of the key of index n
 abbrev pub keys_of : CaseRecord → ℕ → List KeySpec

@@ -6,22 +6,20 @@ ghost use Rattle.reports.specs.Added.{joined};
 ghost use Rattle.heap_files.specs.Files.{AreFilesOf, BelongTo};
 ghost use Rattle.bt_levels.specs.Files.{BelongsTo, IsFileOf};
 ghost use Rattle.amcheck.specs.All.{all_found, all_judged, trees_refusal, whole_judged};
-ghost use Rattle.amcheck.specs.Cases.{unless_refused};
-ghost use Rattle.amcheck.specs.Outcome.{owed_by, reported};
-ghost use Rattle.amcheck.specs.Seen.{outcome_seen};
+ghost use Rattle.run_outputs.specs.Cases.{unless_refused};
+ghost use Rattle.run_outputs.specs.Outcome.{owed_by, reported};
+ghost use Rattle.run_outputs.specs.Seen.{outcome_seen};
 ghost use Rattle.amcheck.specs.Tables.{AreFirstTrees, IsHeapIn, IsHeapOf, case_seen, heap_seen, trees_found};
 
-use crate::case::{CaseOpening, open_case, refuse_files};
-use crate::fault::RunFault;
 use crate::heap::judge_heap;
 use crate::indexes::JudgedTable;
-use crate::output::{Output, report_output};
 use crate::together::judge_indexes;
 use bt_levels::TreeFile;
 use case_file::Case;
 use heap_files::HeapFiles;
 use outside::{Files, NoMemory};
 use reports::{CheckFault, Report};
+use run_outputs::{CaseOpening, Output, RunFault, open_case, refuse_files, report_output};
 use std::alloc::Global;
 use std::collections::VecDeque;
 

@@ -6,19 +6,16 @@ ghost use Rattle.heap_files.specs.Files.{AreFilesOf, BelongTo, IsSoundHeapOf, fi
 ghost use Rattle.heap_files.specs.Found.{IsQuiet, case_found};
 ghost use Rattle.copy_out.specs.Live.{copied_text, unread_values};
 ghost use Rattle.amcheck.specs.Copy.{answer_unread, case_copied, copy_outcome, rows_shown, rows_unless};
-ghost use Rattle.amcheck.specs.Seen.{outcome_seen};
+ghost use Rattle.run_outputs.specs.Seen.{outcome_seen};
 ghost use Rattle.amcheck.specs.Tables.{IsHeapIn, IsHeapOf};
 
-use crate::case::{CaseOpening, open_case, refuse_files};
-use crate::fault::RunFault;
 use crate::heap::judge_heap;
-use crate::output::{Output, report_output};
-use crate::status::Answer;
 use case_file::Case;
 use copy_out::{CopyText, copy_rows};
 use heap_files::{HeapFiles, SoundHeap};
 use outside::Files;
 use reports::{PageFault, Report};
+use run_outputs::{Answer, CaseOpening, Output, RunFault, open_case, refuse_files, report_output};
 use std::alloc::Global;
 
 // The answer where so many values aren't read.

@@ -6,16 +6,15 @@ ghost use Rattle.case_file.specs.Generated.{generated_case};
 ghost use Rattle.rel_build.specs.Files.{IsBuilt, built_files};
 ghost use Rattle.amcheck.specs.All.{all_found};
 ghost use Rattle.amcheck.specs.Generated.{counts_text, generated_owed, index_line};
-ghost use Rattle.amcheck.specs.Outcome.{reported};
-ghost use Rattle.amcheck.specs.Seen.{outcome_seen};
+ghost use Rattle.run_outputs.specs.Outcome.{reported};
+ghost use Rattle.run_outputs.specs.Seen.{outcome_seen};
 
 use crate::all::whole_output;
-use crate::fault::RunFault;
-use crate::output::{Output, Unit, too_large_output};
 use case_file::Case;
 use key_orders::Octets;
 use outside::{NoMemory, SureFiles};
 use rel_build::{BuildFault, BuiltCase, MAX_ROWS, build_case, built_files_are_held};
+use run_outputs::{Output, RunFault, Unit, too_large_output};
 use std::alloc::Global;
 
 // Adds the line of an index: its number, its blocks and its entries.

@@ -5,17 +5,15 @@ ghost use Rattle.reports.specs.Added.{joined};
 ghost use Rattle.heap_files.specs.Files.{AreFilesOf, BelongTo};
 ghost use Rattle.heap_files.specs.Found.{case_found};
 ghost use Rattle.amcheck.specs.Heap.{case_judged, heap_judged};
-ghost use Rattle.amcheck.specs.Outcome.{owed_by, reported};
-ghost use Rattle.amcheck.specs.Seen.{outcome_seen};
+ghost use Rattle.run_outputs.specs.Outcome.{owed_by, reported};
+ghost use Rattle.run_outputs.specs.Seen.{outcome_seen};
 ghost use Rattle.amcheck.specs.Tables.{IsHeapIn, IsHeapOf};
 
-use crate::case::{CaseOpening, open_case, refuse_files};
-use crate::fault::RunFault;
-use crate::output::{Output, report_output};
 use case_file::Case;
 use heap_files::{HeapFiles, SoundHeap, check_heap};
 use outside::Files;
 use reports::{CheckFault, Report};
+use run_outputs::{CaseOpening, Output, RunFault, open_case, refuse_files, report_output};
 use std::alloc::Global;
 
 /// Judges the files of a case's table, and adds what is found of them to the report. The heap comes back

@@ -4,16 +4,13 @@ ghost use Rattle.outside.specs.Outside.{Asked, IfTold, Tells};
 ghost use Rattle.heap_files.specs.Files.{AreFilesOf, BelongTo};
 ghost use Rattle.heap_files.specs.Files.{refusal_of as table_refusal};
 ghost use Rattle.bt_levels.specs.Files.{BelongsTo, IsFileOf, number_of, refusal_of as tree_refusal};
-ghost use Rattle.amcheck.specs.Cases.{unless_refused};
+ghost use Rattle.run_outputs.specs.Cases.{unless_refused};
 ghost use Rattle.amcheck.specs.Index.{index_found, index_judged, named_judged, numbered_judged, unknown_index};
-ghost use Rattle.amcheck.specs.Outcome.{owed_by, reported};
-ghost use Rattle.amcheck.specs.Seen.{outcome_seen};
+ghost use Rattle.run_outputs.specs.Outcome.{owed_by, reported};
+ghost use Rattle.run_outputs.specs.Seen.{outcome_seen};
 
-use crate::case::{CaseOpening, open_case, refuse_files};
-use crate::fault::RunFault;
 use crate::heap::judge_heap;
 use crate::indexes::JudgedTable;
-use crate::output::{Output, case_refused_output, report_output};
 use crate::together::judge_index;
 use bt_levels::TreeFile;
 use case_file::{Case, CaseRule};
@@ -21,6 +18,9 @@ use heap_files::HeapFiles;
 use key_orders::Octets;
 use outside::{Files, NoMemory};
 use reports::Report;
+use run_outputs::{
+    CaseOpening, Output, RunFault, case_refused_output, open_case, refuse_files, report_output,
+};
 use std::alloc::Global;
 
 // The files of a case that are judged: those of its table, and that of an index.

@@ -7,12 +7,12 @@ ghost use Rattle.bt_levels.specs.Index.{tree_lists};
 ghost use Rattle.bt_levels.specs.Sound.{IsSoundIndexOf};
 ghost use Rattle.amcheck.specs.Tables.{IsTreeOf, case_seen, heap_seen};
 
-use crate::fault::RunFault;
 use bt_levels::{SoundTree, TreeFile, check_tree};
 use case_file::Case;
 use heap_files::SoundHeap;
 use outside::Files;
 use reports::{CheckFault, Report};
+use run_outputs::RunFault;
 use std::alloc::Global;
 
 /// A case whose table was judged, and its heap, where nothing was found of that.

@@ -3,27 +3,15 @@
 #![tactic(auto)]
 
 mod all;
-mod blocks;
-mod bounds;
-mod case;
 mod copy;
-mod fault;
 mod generated;
 mod heap;
 mod index;
 mod indexes;
 mod laws;
-mod numbers;
-mod output;
-mod pages;
 mod runs;
 mod scan;
-mod show;
-mod status;
-mod text;
 mod together;
-mod words;
-mod write;
 
+pub use run_outputs::Status;
 pub use runs::run;
-pub use status::Status;

@@ -4,25 +4,21 @@ ghost use Rattle.outside.specs.Outside.{Asked, IfTold, Names, Rose, Tells};
 ghost use Rattle.amcheck.specs.Commands.{ForGenerated, ForReport, IsGenerated, IsWorth, outcome, outcome_of};
 ghost use Rattle.amcheck.specs.Copied.{ForCopy, IsCopy};
 ghost use Rattle.amcheck.specs.Generated.{generated_owed};
-ghost use Rattle.amcheck.specs.Outcome.{Meets, usage};
-ghost use Rattle.amcheck.specs.Seen.{form_seen, outcome_seen};
-ghost use Rattle.amcheck.specs.Words.{form_of};
+ghost use Rattle.run_outputs.specs.Outcome.{Meets, usage};
+ghost use Rattle.run_words.specs.Seen.{form_seen};
+ghost use Rattle.run_outputs.specs.Seen.{outcome_seen};
+ghost use Rattle.run_words.specs.Words.{form_of};
 
 use crate::all::all_output;
 use crate::copy::copy_output;
-use crate::fault::RunFault;
 use crate::generated::gen_output;
 use crate::heap::heap_output;
 use crate::index::index_output;
 use crate::laws::reports_have_worth;
-use crate::output::Output;
-use crate::pages::pages_output;
 use crate::scan::scan_output;
-use crate::show::show_output;
-use crate::status::{Ending, Status};
-use crate::words::{Command, command_of};
-use crate::write::write_text;
 use outside::{Files, Sink};
+use run_outputs::{Ending, Output, RunFault, Status, pages_output, show_output, write_text};
+use run_words::{Command, command_of};
 use std::alloc::Global;
 
 // The output of a command: its report, its page or its rows, or the refusal that comes first.

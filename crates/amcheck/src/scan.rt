@@ -6,23 +6,22 @@ ghost use Rattle.bt_levels.specs.Files.{BelongsTo, IsFileOf, number_of, refusal_
 ghost use Rattle.bt_levels.specs.Sound.{HoldsTree, specs_of};
 ghost use Rattle.scan_lines.specs.Lines.{in_direction};
 ghost use Rattle.scan_lines.specs.Wanted.{wanted_on};
-ghost use Rattle.amcheck.specs.Bounds.{bounds_in};
+ghost use Rattle.run_words.specs.Bounds.{bounds_in};
 ghost use Rattle.amcheck.specs.Scan.{bounded_scanned, entries_shown, file_scanned, keys_of, lines_shown};
 ghost use Rattle.amcheck.specs.Scan.{scan_outcome, tree_scanned};
-ghost use Rattle.amcheck.specs.Seen.{outcome_seen};
+ghost use Rattle.run_outputs.specs.Seen.{outcome_seen};
 
-use crate::bounds::{ScanWords, Side, read_bound};
-use crate::case::{CaseOpening, open_case, refuse_files};
-use crate::fault::RunFault;
 use crate::index::unknown_index;
 use crate::indexes::judge_alone;
-use crate::output::{Output, bad_bound_output, report_output};
-use crate::status::Answer;
 use bt_levels::{SoundTree, TreeFile};
 use case_file::Case;
 use key_orders::{Scan, ScanFault};
 use outside::{Files, NoMemory};
 use reports::{PageFault, Report};
+use run_outputs::{
+    Answer, CaseOpening, Output, RunFault, bad_bound_output, open_case, refuse_files, report_output,
+};
+use run_words::{ScanWords, Side, read_bound};
 use scan_lines::{ScanDirection, ScanLines, scan_lines};
 use std::alloc::Global;
 

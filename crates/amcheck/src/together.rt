@@ -14,13 +14,13 @@ ghost use Rattle.amcheck.specs.Tables.{IsHeapIn, IsHeapOf, IsTreeOf, case_seen, 
 ghost use Rattle.amcheck.specs.Together.{AreAlone, BelongAlone, found_with, joint_lists, own_report, quiet_numbers};
 ghost use Rattle.amcheck.specs.Together.{tree_number};
 
-use crate::fault::RunFault;
 use crate::indexes::{JudgedTable, judge_alone};
 use bt_levels::{SoundTree, TreeFile};
 use case_file::Case;
 use heap_indexed::{IndexedTable, check_indexes};
 use outside::{Files, NoMemory};
 use reports::{CheckFault, Report};
+use run_outputs::RunFault;
 use std::alloc::Global;
 use std::collections::VecDeque;
 

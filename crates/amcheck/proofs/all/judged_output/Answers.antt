@@ -1,7 +1,7 @@
 use Rattle.std.proofs.Common.{◌∙◌, ap}
 use Rattle.case_file.specs.Record.{CaseRecord}
 use Rattle.reports.specs.Added.{joined}
-use Rattle.amcheck.specs.Outcome.{reported}
+use Rattle.run_outputs.specs.Outcome.{reported}
 use Rattle.amcheck.specs.Tables.{trees_found}
 use Rattle.amcheck.proofs.TreesLaws.{all_of}
 use Rattle.amcheck.proofs.all.judged_output.Goals as goal

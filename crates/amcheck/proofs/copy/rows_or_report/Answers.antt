@@ -2,7 +2,7 @@ use Rattle.std.proofs.Common.{ap}
 use Rattle.std.specs.Option.{option_copied}
 use Rattle.std.proofs.lemmas.Result.{IfOk-weaker}
 use Rattle.amcheck.specs.Copy.{rows_shown}
-use Rattle.amcheck.specs.Seen.{outcome_seen}
+use Rattle.run_outputs.specs.Seen.{outcome_seen}
 use Rattle.amcheck.proofs.CopyLaws.{belongs_there, quiet_there, report_there, rows_there, sound_there}
 use Rattle.amcheck.proofs.copy.rows_or_report.Goals as goal
 

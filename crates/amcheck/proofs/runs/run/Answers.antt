@@ -1,8 +1,9 @@
 use Rattle.std.proofs.Common.{◌≡◌, ◌≢◌, ◌⊎◌, ℕ, inl, inr, ◌∙◌, sym, ap, arith}
-use Rattle.amcheck.specs.Seen.{form_asked, form_seen, outcome_seen}
+use Rattle.run_words.specs.Seen.{form_asked, form_seen}
+use Rattle.run_outputs.specs.Seen.{outcome_seen}
 use Rattle.amcheck.proofs.CopyLaws.{copy_worth, given_up_copy}
 use Rattle.amcheck.proofs.Worth.{gave_up_generated, given_up_worth, worth_by, worth_generated}
-use Rattle.amcheck.specs.Answers.{IsOutcomeCode}
+use Rattle.run_outputs.specs.Answers.{IsOutcomeCode}
 use Rattle.amcheck.proofs.runs.run.Goals as goal
 
 pub returns-in-Ok-clause-report : goal.returns-in-Ok-clause-report

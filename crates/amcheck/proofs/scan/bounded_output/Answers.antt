@@ -1,7 +1,7 @@
 use Rattle.std.proofs.Common.{◌∙◌, Err, ap, rules}
 use Rattle.tree_search.specs.Keys.{Bound}
 use Rattle.key_orders.specs.declared.columns.Value.{Value}
-use Rattle.amcheck.specs.Bounds.{bounds_in}
+use Rattle.run_words.specs.Bounds.{bounds_in}
 use Rattle.amcheck.proofs.ScanLaws.{too_long}
 use Rattle.amcheck.proofs.scan.bounded_output.Goals as goal
 

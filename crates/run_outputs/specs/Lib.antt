@@ -1,0 +1,7 @@
+pub mod Answers
+pub mod Cases
+pub mod Files
+pub mod Outcome
+pub mod Pages
+pub mod Seen
+pub mod Show

@@ -1,0 +1,2 @@
+mod BoundLaws
+mod NumberLaws

@@ -1,0 +1,5 @@
+pub mod Bounds
+pub mod Numbers
+pub mod Read
+pub mod Seen
+pub mod Words
