@@ -1,7 +1,9 @@
 //! The tests of the crates that read and write pages, tuples and items: `page_layout`, `tuple_head`, `heap_tuples`,
-//! `hot_chains`, `vis_map`, `toast_chunks`, `root_set` and `page_write`.
+//! `hot_chains`, `vis_map`, `toast_chunks`, `root_set`, `page_write` and `bt_build`.
 #![tactic(auto)]
 
+#[cfg(test)]
+mod bt_build_tests;
 #[cfg(test)]
 mod checks;
 #[cfg(test)]

@@ -1,11 +1,12 @@
 //! Pages, tuples and bodies against bytes that were laid by hand.
 ghost use Rattle.std.specs.Prelude.{◌≡◌, All, length};
+ghost use Rattle.key_orders.specs.Values.{value_shown};
 ghost use Rattle.page_write.specs.Bodies.{IsShortEnough};
 
 use crate::checks::{holds, same};
 use crate::pages::Piece;
 use bt_meta::{Meta, Opaque};
-use key_orders::{ColType, Octets, Tid, Value};
+use key_orders::{ColType, Tid, ValueRef};
 use outside::NoMemory;
 use page_write::{
     BodyFlags, Kept, PageWriter, body_flags, meta_page, put_heap_tuple, put_index_body,
@@ -197,9 +198,14 @@ const TYPES: [ColType; 4] = [ColType::Bool, ColType::Int2, ColType::Text, ColTyp
 // A body's length, how it begins, and whether a value is null or has variable width.
 type Body = (usize, &'static [u8], bool, bool);
 
-fn expect_body(rt: &impl Abort, alloc: Global, values: &[Value], want: Body) -> Result<(), Fail>
+fn expect_body(
+    rt: &impl Abort,
+    alloc: Global,
+    values: &[ValueRef<'_>],
+    want: Body,
+) -> Result<(), Fail>
     requires four { length values.now ≡ 4 }
-    requires short { All IsShortEnough values.now }
+    requires short { All (λ v. IsShortEnough (value_shown v)) values.now }
 {
     let mut body = Vec::new(alloc);
     put_index_body(&mut body, &TYPES, values)?;
@@ -217,10 +223,10 @@ fn expect_body(rt: &impl Abort, alloc: Global, values: &[Value], want: Body) -> 
 #[test]
 fn a_body_without_nulls(rt: HostRuntime) -> Result<(), Fail> {
     let values = [
-        Value::Bool(true),
-        Value::Int(-2),
-        Value::Bytes(Octets::from_slice(rt.alloc(), b"hi")?),
-        Value::Int(258),
+        ValueRef::Bool(true),
+        ValueRef::Int(-2),
+        ValueRef::Bytes(b"hi"),
+        ValueRef::Int(258),
     ];
     let want = b"\x01\0\xfe\xff\x07hi\0\x02\x01\0\0\0\0\0\0";
     expect_body(&rt, rt.alloc(), &values, (16, want, false, true))
@@ -228,7 +234,12 @@ fn a_body_without_nulls(rt: HostRuntime) -> Result<(), Fail> {
 
 #[test]
 fn a_body_with_nulls(rt: HostRuntime) -> Result<(), Fail> {
-    let values = [Value::Null, Value::Int(3), Value::Null, Value::Int(4)];
+    let values = [
+        ValueRef::Null,
+        ValueRef::Int(3),
+        ValueRef::Null,
+        ValueRef::Int(4),
+    ];
     let want = b"\x0a\0\0\0\0\0\0\0\x03\0\0\0\0\0\0\0\x04\0\0\0\0\0\0\0";
     expect_body(&rt, rt.alloc(), &values, (24, want, true, false))
 }
@@ -236,11 +247,12 @@ fn a_body_with_nulls(rt: HostRuntime) -> Result<(), Fail> {
 // A text that has a header of 4 bytes.
 #[test]
 fn a_long_body(rt: HostRuntime) -> Result<(), Fail> {
+    let text = [7u8; 127];
     let values = [
-        Value::Bool(false),
-        Value::Int(0),
-        Value::Bytes(Octets::from_slice(rt.alloc(), &[7u8; 127])?),
-        Value::Int(0),
+        ValueRef::Bool(false),
+        ValueRef::Int(0),
+        ValueRef::Bytes(&text),
+        ValueRef::Int(0),
     ];
     expect_body(
         &rt,

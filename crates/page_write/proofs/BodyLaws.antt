@@ -1,11 +1,14 @@
 -- Bodies that are laid value by value.
-use Rattle.std.proofs.Common.{◌≡◌, ◌≤◌, ◌<◌, ◌+◌, ◌*◌, ◌^◌, ℕ, suc, List, [], ◌∷◌, ◌++◌, length, take, drop, get_or, Bool, true, false, cond, refl, ap, sym, ◌∙◌, arith, add-one, drop-cons}
+use Rattle.std.proofs.Common.{◌≡◌, ◌≤◌, ◌<◌, ◌+◌, ◌*◌, ◌^◌, ℕ, suc, List, [], ◌∷◌, ◌++◌, length, map, take, drop, get_or, Bool, true, false, ◌||◌, cond, refl, ap, sym, ◌∙◌, arith, add-one, drop-cons}
 use Rattle.std.proofs.Math.Nat.{pow-suc}
 use Rattle.std.proofs.Math.Seq.{take-suc}
-use Rattle.std.proofs.lemmas.List.{length-take}
+use Rattle.std.proofs.lemmas.List.{get_or-map, length-map, length-take}
 use Rattle.key_orders.specs.declared.columns.ColType.{ColType}
 use Rattle.key_orders.specs.declared.columns.Value.{Value}
-use Rattle.page_write.specs.Bodies.{has_varwidth, is_null, is_varwidth, presence_bits, with_value, with_values}
+use Rattle.key_orders.specs.declared.columns.ValueRef.{ValueRef}
+use Rattle.key_orders.specs.declared.columns.ValueRef.TheVariants.{Null}
+use Rattle.key_orders.specs.Values.{value_shown}
+use Rattle.page_write.specs.Bodies.{has_null, has_varwidth, is_null, is_varwidth, presence_bits, with_value, with_values}
 
 -- twice the bit of a value
 twice : (b : Bool) (p q : ℕ) → q ≡ 2 * p → 2 * cond b 0 p ≡ cond b 0 q
@@ -66,3 +69,20 @@ pub varwidth_next : (cs : List ColType) (vs : List Value) (k : ℕ) (c : ColType
 varwidth_next cs vs k c v a b =
     (λ i. has_varwidth (drop-cons cs k c a i) (drop-cons vs k v b i))
     ∙ ap (λ (n : ℕ). cond (is_varwidth (get_or cs k c) (get_or vs k v)) true (has_varwidth (drop n cs) (drop n vs))) (sym (add-one k))
+
+either : (a b : Bool) → (a || b) ≡ cond a true b
+either true b = refl
+either false b = refl
+
+-- a null is there, or is looked for behind
+pub null_next : (vs : List Value) (k : ℕ) (v : Value) → k < length vs
+    → has_null (drop k vs) ≡ cond (is_null (get_or vs k v)) true (has_null (drop (k + 1) vs))
+null_next vs k v lt =
+    ap has_null (drop-cons vs k v lt) ∙ either (is_null (get_or vs k v)) (has_null (drop (suc k) vs)) ∙ ap (λ (n : ℕ). cond (is_null (get_or vs k v)) true (has_null (drop n vs))) (sym (add-one k))
+
+-- what is lent shows the values
+pub shown_at : (refs : List ValueRef) (k : ℕ) → k < length refs → value_shown (get_or refs k Null) ≡ get_or (map value_shown refs) k (value_shown Null)
+shown_at refs k lt = sym (get_or-map value_shown refs k Null (value_shown Null) lt)
+
+pub shown_below : (refs : List ValueRef) (k : ℕ) → k < length refs → k < length (map value_shown refs)
+shown_below refs k lt = let n = length-map refs value_shown in omega (arith, n, lt)

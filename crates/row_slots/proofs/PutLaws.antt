@@ -17,7 +17,7 @@ abbrev as_number : Bool → ℕ
 as_number true = 1
 as_number false = 0
 
-read_there : (arena : List ℕ) (at : ℕ) (lies : LiesAt arena at) → key_read (drop at arena) ≡ lies.key
+pub read_there : (arena : List ℕ) (at : ℕ) (lies : LiesAt arena at) → key_read (drop at arena) ≡ lies.key
 read_there arena at lies =
     (λ i. key_read (drop (sym lies.at_is i) (lies.bytes i)))
     ∙ (ap key_read (drop-append_seam lies.before (stored_key lies.key ++ lies.rest)) ∙ key_back lies.key lies.rest lies.storable)
@@ -29,7 +29,7 @@ key_of_some arena r lies =
     ap (λ b. cond b None (Some (key_read (drop (r + 1 - 1) arena)))) (ne_eqb (r + 1) 0 (λ e. omega arith))
     ∙ (ap (λ k. Some (key_read (drop k arena))) back ∙ ap (λ k. Some k) (read_there arena r lies))
 
-abbrev lies_more : (arena more : List ℕ) (at : ℕ) → LiesAt arena at → LiesAt (arena ++ more) at
+abbrev pub lies_more : (arena more : List ℕ) (at : ℕ) → LiesAt arena at → LiesAt (arena ++ more) at
 lies_more arena more at lies = record {
   before = lies.before;
   key = lies.key;
@@ -42,7 +42,7 @@ lies_more arena more at lies = record {
       ∙ ap (λ w. lies.before ++ w) (append_assoc (stored_key lies.key) lies.rest more));
 }
 
-abbrev lies_last : (arena : List ℕ) (key : List Value) → All IsStorable key → LiesAt (arena ++ stored_key key) (length arena)
+abbrev pub lies_last : (arena : List ℕ) (key : List Value) → All IsStorable key → LiesAt (arena ++ stored_key key) (length arena)
 lies_last arena key storable = record {
   before = arena;
   key = key;

@@ -1,6 +1,7 @@
-use Rattle.std.proofs.Common.{◌≡◌, take}
+use Rattle.std.proofs.Common.{◌≡◌, map, take}
+use Rattle.key_orders.specs.Values.{value_shown}
 use Rattle.page_write.specs.Bodies.{with_values}
 use Rattle.page_write.proofs.bodies.push_values.Given as goal
 
 abbrev pub invariant-loop-k : goal.invariant-loop-k
-invariant-loop-k l = l.out.items ≡ with_values (take l.k l.types) (take l.k l.values) l.initial.out.items
+invariant-loop-k l = l.out.items ≡ with_values (take l.k l.types) (take l.k (map value_shown l.values)) l.initial.out.items

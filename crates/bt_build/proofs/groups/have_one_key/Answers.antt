@@ -1,0 +1,13 @@
+use Rattle.std.proofs.Common.{◌∙◌, ap}
+use Rattle.std.specs.Ordering.{is_eq}
+use Rattle.tree_search.specs.Keys.{compare_values}
+use Rattle.key_orders.specs.Keys.{columns_of}
+use Rattle.bt_build.proofs.SortedLaws.{first_is}
+use Rattle.bt_build.proofs.groups.have_one_key.Goals as goal
+
+pub returns : goal.returns
+returns c =
+    let s = c.args.source in
+    let a = first_is s.specs.now s.more.now s.arena.now c.args.a c.requires.a in
+    let b = first_is s.specs.now s.more.now s.arena.now c.args.b c.requires.b in
+    c.is_eq.ensures ∙ ap is_eq c.compare_keys.ensures ∙ (λ i. is_eq (compare_values (columns_of s.specs.now) 0 (a i) (b i)))

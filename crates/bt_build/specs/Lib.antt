@@ -1,0 +1,11 @@
+pub mod Listed
+pub mod Kept
+pub mod Places
+pub mod Order
+pub mod Source
+pub mod Groups
+pub mod Pages
+pub mod Separators
+pub mod Levels
+pub mod Laid
+pub mod Outcome

@@ -1,0 +1,24 @@
+-- The order of places: that of the keys that lie there, and of TIDs where keys are equal.
+use Rattle.std.specs.Prelude.{◌+◌, ℕ, Bool, List, length, drop}
+use Rattle.std.specs.Ordering.{is_lt, ordering_then}
+use Rattle.std.specs.declared.cmp.Ordering.{Ordering}
+use Rattle.tree_search.specs.Keys.{compare_values}
+use Rattle.key_orders.specs.declared.columns.KeySpec.{KeySpec}
+use Rattle.key_orders.specs.declared.columns.Value.{Value}
+use Rattle.key_orders.specs.Keys.{columns_of, tid_order}
+use Rattle.stored_keys.specs.Stored.{values_read}
+use Rattle.bt_build.specs.declared.entries.Place.{Place}
+
+-- the first values at a place, behind the byte that counts them
+abbrev pub first_values : (columns : ℕ) → (arena : List ℕ) → (at : ℕ) → List Value
+first_values n arena at = values_read n (drop (at + 1) arena)
+
+abbrev pub key_order_at : List KeySpec → (arena : List ℕ) → (a b : ℕ) → Ordering
+key_order_at specs arena a b =
+    compare_values (columns_of specs) 0 (first_values (length specs) arena a) (first_values (length specs) arena b)
+
+abbrev pub place_order : List KeySpec → (arena : List ℕ) → Place → Place → Ordering
+place_order specs arena p q = ordering_then (key_order_at specs arena p.at q.at) (tid_order p.tid q.tid)
+
+abbrev pub is_below : List KeySpec → (arena : List ℕ) → Place → Place → Bool
+is_below specs arena p q = is_lt (place_order specs arena p q)

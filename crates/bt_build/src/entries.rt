@@ -1,0 +1,172 @@
+//! The entries of an index that is to be built.
+ghost use Rattle.std.specs.Prelude.{◌≡◌, ◌≢◌, ◌<◌, [], ◌∷◌, ◌++◌, All, IfOk, OnErr, OnOk, false, map, vec_capacity};
+ghost use Rattle.std.specs.Prelude.{vec_len};
+ghost use Rattle.std.specs.Bool.{OnTrue};
+ghost use Rattle.key_orders.specs.Values.{value_shown};
+ghost use Rattle.varlena_attrs.specs.Keyed.{key_types, more_types};
+ghost use Rattle.page_write.specs.Bodies.{IsShortEnough};
+ghost use Rattle.tree_image.specs.Image.{leaf_entry};
+ghost use Rattle.bt_build.specs.Listed.{AreColumns, AreValues, IsNewTid, with_entry};
+ghost use Rattle.bt_build.specs.Outcome.{IsAnswer};
+
+use crate::build::{BuiltTree, build_kept};
+use crate::fault::IndexFault;
+use crate::source::Source;
+use key_orders::{ColType, KeySpec, MoreSpec, Tid, ValueRef};
+use outside::NoMemory;
+use std::alloc::Global;
+use std::marker::Model;
+use stored_keys::{RowValues, write_key};
+
+// A value of an index has fewer bytes than these (varatt.h).
+const MOST_BYTES: usize = 1073741820;
+
+// Where the values of an entry lie in the arena, and its TID.
+#[derive(Clone, Copy, Debug, PartialEq, Eq)]
+pub(crate) struct Place {
+    pub(crate) at: u32,
+    pub(crate) tid: Tid,
+}
+
+/// The entries of an index that is to be built, in the order in which they were added. Contracts see the columns of the
+/// index and the list of the entries (`Listed`).
+#[derive(Drop)]
+pub struct EntryList {
+    specs: Vec<KeySpec>,
+    more: Vec<MoreSpec>,
+    types: Vec<ColType>,
+    arena: Vec<u8>,
+    places: Vec<Place>,
+}
+
+impl Model for EntryList {
+    ghost use Rattle.bt_build.specs.Kept.{AreKept, listed_in};
+    ghost use Rattle.bt_build.specs.Listed.{Listed};
+
+    ghost Value = { Listed };
+
+    ghost view = { λ l. listed_in l.specs.items l.more.items l.arena.items l.places.items };
+
+    ghost invariant = { λ l. AreKept l.specs.items l.more.items l.types.items l.arena.items l.places.items };
+}
+
+// Whether a value has fewer bytes than a varlena's header can state.
+fn is_short(value: ValueRef<'_>) -> bool
+    ensures { OnTrue result (IsShortEnough (value_shown value.entry)) }
+{
+    match value {
+        ValueRef::Null | ValueRef::Bool(_) | ValueRef::Int(_) => true,
+        ValueRef::Bytes(bytes) => bytes.len() < MOST_BYTES,
+    }
+}
+
+fn are_short(values: &[ValueRef<'_>]) -> bool
+    ensures { OnTrue result (All (λ v. IsShortEnough (value_shown v)) values.now) }
+{
+    for i in 0..values.len() {
+        if !is_short(values[i]) {
+            return false;
+        }
+    }
+    true
+}
+
+fn key_types(alloc: Global, specs: &[KeySpec]) -> Result<Vec<ColType>, NoMemory>
+    ensures { IfOk result (λ types. types.items ≡ key_types specs.now) }
+{
+    let types = specs.iter().map(|k| k.ctype).collect(alloc)?;
+    Ok(types)
+}
+
+// Adds the types of included columns.
+fn add_more_types(types: &mut Vec<ColType>, more: &[MoreSpec]) -> Result<(), NoMemory>
+    ensures { OnOk result (types.new.items ≡ types.old.items ++ more_types more.now) }
+{
+    for i in 0..more.len() {
+        types.push(more[i].ctype)?;
+    }
+    Ok(())
+}
+
+fn own_specs(alloc: Global, specs: &[KeySpec]) -> Result<Vec<KeySpec>, NoMemory>
+    ensures { IfOk result (λ own. own.items ≡ specs.now) }
+{
+    let own = specs.to_vec(alloc)?;
+    Ok(own)
+}
+
+fn own_more(alloc: Global, more: &[MoreSpec]) -> Result<Vec<MoreSpec>, NoMemory>
+    ensures { IfOk result (λ own. own.items ≡ more.now) }
+{
+    let own = more.to_vec(alloc)?;
+    Ok(own)
+}
+
+pub(crate) fn own_places(alloc: Global, places: &[Place]) -> Result<Vec<Place>, NoMemory>
+    ensures { IfOk result (λ own. own.items ≡ places.now) }
+{
+    let own = places.to_vec(alloc)?;
+    Ok(own)
+}
+
+// Adds a place where there is room, which takes no memory.
+fn push_in_room(places: &mut Vec<Place>, place: Place)
+    requires { vec_len places.old < vec_capacity places.old }
+    ensures { places.new.items ≡ places.old.items ++ place ∷ [] }
+{
+    let _ = places.push(place);
+}
+
+impl EntryList {
+    /// No entries of an index of these columns: from 1 to 8 of its key, and at most 24 that it includes, each with an
+    /// alignment of 1, 2, 4 or 8.
+    pub fn new(alloc: Global, specs: &[KeySpec], more: &[MoreSpec]) -> Result<EntryList, NoMemory>
+        requires { AreColumns specs.now more.now }
+        ensures { IfOk result (λ l. l ≡ record { specs = specs.now; more = more.now; entries = [] }) }
+    {
+        let mut types = key_types(alloc, specs)?;
+        add_more_types(&mut types, more)?;
+        let specs = own_specs(alloc, specs)?;
+        let more = own_more(alloc, more)?;
+        Ok(EntryList {
+            specs,
+            more,
+            types,
+            arena: Vec::new(alloc),
+            places: Vec::new(alloc),
+        })
+    }
+
+    /// Adds the entry of a row at the end: its values, one for each column, and its TID, which no entry has yet. After
+    /// `NoMemory` nothing changed; it comes too where values would have more than 4 GiB together, or one of them a GiB.
+    pub fn add(&mut self, values: RowValues<'_>, tid: Tid) -> Result<(), NoMemory>
+        requires values { AreValues self.old (map value_shown values.key.now) (map value_shown values.more.now) }
+        requires item { tid.item ≢ 0 }
+        requires fresh { IsNewTid self.old tid }
+        ensures ok { OnOk result (self.new ≡ with_entry self.old
+            (leaf_entry (map value_shown values.entry.key.now) (map value_shown values.entry.more.now) tid false)) }
+        ensures err { OnErr result (self.new ≡ self.old) }
+    {
+        if !are_short(values.key) || !are_short(values.more) {
+            return Err(NoMemory);
+        }
+        let at = self.arena.len();
+        self.places.reserve(1)?;
+        write_key(&mut self.arena, values)?;
+        push_in_room(&mut self.places, Place { at: at as u32, tid });
+        Ok(())
+    }
+
+    // The index of the entries.
+    pub(crate) fn build(&self, alloc: Global) -> Result<BuiltTree, IndexFault>
+        ensures { IsAnswer self.now result }
+    {
+        let source = Source {
+            specs: &self.specs,
+            more: &self.more,
+            types: &self.types,
+            arena: &self.arena,
+        };
+        build_kept(alloc, source, &self.places)
+    }
+}

@@ -1,0 +1,4 @@
+mod ColumnLaws
+mod RootLaws
+mod GatherLaws
+mod HeapRoots

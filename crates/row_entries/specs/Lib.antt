@@ -1,0 +1,4 @@
+pub mod Roots
+pub mod Entries
+pub mod Reading
+pub mod Gathering
