@@ -1,4 +1,5 @@
-//! The tests of the crates of values, attributes and keys: `key_orders` and `varlena_attrs`.
+//! The tests of the crates of values, attributes and keys: `key_orders` and `varlena_attrs`; and of
+//! the line of an entry, of `back_scan`.
 #![tactic(auto)]
 
 #[cfg(test)]
@@ -7,6 +8,8 @@ mod checks;
 mod key_attrs_tests;
 #[cfg(test)]
 mod keys_tests;
+#[cfg(test)]
+mod line_tests;
 #[cfg(test)]
 mod values_tests;
 #[cfg(test)]
