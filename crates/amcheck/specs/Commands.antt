@@ -18,9 +18,11 @@ use Rattle.amcheck.specs.Index.{BreaksIndex, DoubtsIndex, HasTrueIndex, index_ju
 use Rattle.amcheck.specs.Numbered.{IsBehind}
 use Rattle.run_outputs.specs.Outcome.{Judged, Meets, Outcome, owed_under, reported_under, usage}
 use Rattle.run_outputs.specs.Pages.{BreaksFile, pages_judged}
+use Rattle.amcheck.specs.Reindex.{reindex_outcome}
 use Rattle.amcheck.specs.Scan.{scan_outcome}
 use Rattle.run_outputs.specs.Show.{show_outcome}
-use Rattle.run_words.specs.Words.{All as Every, Check, Copy, Form, Generated, Heap, Index, Judge, Pages, Scan, Show}
+use Rattle.run_words.specs.Words.{All as Every, Check, Copy, Form, Generated, Heap, Index, Judge, Pages, Reindex}
+use Rattle.run_words.specs.Words.{Scan, Show}
 use Rattle.run_words.specs.Words.{form_of}
 
 -- what a command that judges finds
@@ -43,6 +45,7 @@ heading_of (Generated seed rows) = counts_of seed rows
 abbrev pub outcome_of : Form → Names → Outcome
 outcome_of (Judge check) names = owed_under (heading_of check) (judged_by check names)
 outcome_of (Copy case) names = copy_outcome case names
+outcome_of (Reindex case name) names = reindex_outcome case name names
 outcome_of (Show kind name block) names = show_outcome kind name block (names name (Segment 0))
 outcome_of (Scan case name bounds direction) names = scan_outcome case name bounds direction names
 

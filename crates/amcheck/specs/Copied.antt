@@ -9,9 +9,9 @@ use Rattle.heap_check.specs.Rows.{rows_of}
 use Rattle.copy_out.specs.Live.{unread_values}
 use Rattle.run_outputs.specs.Cases.{case_in}
 use Rattle.amcheck.specs.Commands.{IsComplete, IsSound}
-use Rattle.amcheck.specs.Copy.{rows_shown, rows_unless}
+use Rattle.amcheck.specs.Copy.{rows_shown}
 use Rattle.amcheck.specs.Heap.{heap_judged}
-use Rattle.run_outputs.specs.Outcome.{Meets}
+use Rattle.run_outputs.specs.Outcome.{Meets, report_or}
 use Rattle.run_words.specs.Words.{Copy, Heap, form_of}
 
 -- what it is worth, where this is the case and what `heap` finds of it
@@ -20,7 +20,7 @@ pub record IsCopy
     : Type 0 where
   -- the rows are written and answered, or the report where something is found or in doubt, but for faults and want of
   -- memory
-  pub written : Meets (rows_unless lists (rows_shown names case)) old new code
+  pub written : Meets (report_or lists (rows_shown names case)) old new code
   -- the report finds only what is broken or in doubt, and names each place where something is
   pub sound : IsSound (Heap file) names lists
   pub complete : IsComplete (Heap file) names lists

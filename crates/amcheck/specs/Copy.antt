@@ -2,13 +2,11 @@
 use Rattle.std.specs.Prelude.{ℕ, ◌==◌, if◌then◌else◌, List, Ok, Err}
 use Rattle.outside.specs.Outside.{Names}
 use Rattle.case_file.specs.Record.{CaseRecord}
-use Rattle.reports.specs.Lists.{Lists}
-use Rattle.bt_levels.specs.Lists.{is_quiet}
 use Rattle.copy_out.specs.Live.{copied_text, unread_values}
 use Rattle.run_outputs.specs.Answers.{answer_code}
 use Rattle.run_outputs.specs.Cases.{CaseRead, case_in}
 use Rattle.amcheck.specs.Heap.{case_judged}
-use Rattle.run_outputs.specs.Outcome.{Judged, Outcome, reported}
+use Rattle.run_outputs.specs.Outcome.{Outcome, judged_or}
 use Rattle.run_outputs.specs.declared.status.Answer.{Answer}
 use Rattle.run_outputs.specs.declared.status.Answer.TheVariants.{Clean, Unread}
 
@@ -23,17 +21,9 @@ rows_shown names case = record {
   code = answer_code (answer_unread (unread_values case names));
 }
 
--- a report where something is found or in doubt, and else the rows
-abbrev pub rows_unless : Lists → (rows : Outcome) → Outcome
-rows_unless lists rows = if is_quiet lists then rows else reported lists
-
-abbrev pub rows_after : Judged → (rows : Outcome) → Outcome
-rows_after (Ok lists) rows = rows_unless lists rows
-rows_after (Err refusal) rows = refusal
-
 -- the rows of a case, judged as `heap` judges it
 abbrev pub case_copied : Names → CaseRecord → Outcome
-case_copied names case = rows_after (case_judged names case) (rows_shown names case)
+case_copied names case = judged_or (case_judged names case) (rows_shown names case)
 
 abbrev pub read_copied : Names → CaseRead → Outcome
 read_copied names (Ok case) = case_copied names case

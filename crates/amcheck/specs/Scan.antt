@@ -12,7 +12,6 @@ use Rattle.case_file.specs.Record.{CaseRecord, index_named}
 use Rattle.reports.specs.declared.fault.CheckFault.{CheckFault}
 use Rattle.bt_levels.specs.Files.{refusal_of}
 use Rattle.bt_levels.specs.Index.{index_of, tree_lists}
-use Rattle.bt_levels.specs.Lists.{is_quiet}
 use Rattle.bt_steps.specs.Pages.{is_killed}
 use Rattle.scan_lines.specs.Lines.{in_direction, lines_of}
 use Rattle.scan_lines.specs.Wanted.{wanted_entries}
@@ -21,7 +20,7 @@ use Rattle.run_outputs.specs.Answers.{answer_code}
 use Rattle.run_outputs.specs.Cases.{CaseRead, case_in, files_refused}
 use Rattle.amcheck.specs.Headline.{pages_of}
 use Rattle.amcheck.specs.Index.{unknown_index}
-use Rattle.run_outputs.specs.Outcome.{Outcome, bad_bound, reported}
+use Rattle.run_outputs.specs.Outcome.{Outcome, bad_bound, report_or}
 use Rattle.run_outputs.specs.declared.status.Answer.TheVariants.{Clean}
 
 -- the columns of the key of index n
@@ -50,8 +49,7 @@ entries_shown es = lines_shown (lines_of es) (length es)
 -- the entries of an index of which nothing is found, else the report on it
 unfoldable pub tree_scanned : CaseRecord → Names → ℕ → Bounds → ScanDirection → Outcome
 tree_scanned case names n bounds direction =
-    if is_quiet (tree_lists case names n) then entries_shown (in_direction direction (wanted_in case names n bounds))
-    else reported (tree_lists case names n)
+    report_or (tree_lists case names n) (entries_shown (in_direction direction (wanted_in case names n bounds)))
 
 -- unless the index's file is refused
 abbrev pub file_scanned : Option CheckFault → CaseRecord → Outcome → Outcome

@@ -5,7 +5,8 @@ ghost use Rattle.outside.specs.Outside.{Asked, IfTold, Tells};
 ghost use Rattle.heap_files.specs.Files.{AreFilesOf, BelongTo, IsSoundHeapOf, files_of};
 ghost use Rattle.heap_files.specs.Found.{IsQuiet, case_found};
 ghost use Rattle.copy_out.specs.Live.{copied_text, unread_values};
-ghost use Rattle.amcheck.specs.Copy.{answer_unread, case_copied, copy_outcome, rows_shown, rows_unless};
+ghost use Rattle.amcheck.specs.Copy.{answer_unread, case_copied, copy_outcome, rows_shown};
+ghost use Rattle.run_outputs.specs.Outcome.{report_or};
 ghost use Rattle.run_outputs.specs.Seen.{outcome_seen};
 ghost use Rattle.amcheck.specs.Tables.{IsHeapIn, IsHeapOf};
 
@@ -81,7 +82,7 @@ fn rows_or_report<F: Files>(
     requires belong { IsHeapIn case.now (option_copied heap) }
     requires found { IfTold F.seen files.old (λ names. report.now ≡ case_found case.now names) }
     ensures output { Tells F.seen files.old result (λ o names.
-        outcome_seen o ≡ rows_unless (case_found case.now names) (rows_shown names case.now)) }
+        outcome_seen o ≡ report_or (case_found case.now names) (rows_shown names case.now)) }
     ensures asked { Asked F.seen files.old files.new result RunFault.ReadFault }
 {
     match heap {
@@ -100,7 +101,7 @@ fn judged_output<F: Files>(
     requires told { IfTold F.seen files.old (λ names. AreFilesOf case.now names at) }
     requires belong { BelongTo case.now at }
     ensures output { Tells F.seen files.old result (λ o names.
-        outcome_seen o ≡ rows_unless (case_found case.now names) (rows_shown names case.now)) }
+        outcome_seen o ≡ report_or (case_found case.now names) (rows_shown names case.now)) }
     ensures asked { Asked F.seen files.old files.new result RunFault.ReadFault }
 {
     let mut report = Report::new(alloc);

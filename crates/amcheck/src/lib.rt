@@ -9,9 +9,11 @@ mod heap;
 mod index;
 mod indexes;
 mod laws;
+mod reindex;
 mod runs;
 mod scan;
 mod together;
 
+pub use laws::remade_indexes_are_called_clean;
 pub use run_outputs::Status;
 pub use runs::run;

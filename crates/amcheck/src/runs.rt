@@ -4,6 +4,8 @@ ghost use Rattle.outside.specs.Outside.{Asked, IfTold, Names, Rose, Tells};
 ghost use Rattle.amcheck.specs.Commands.{ForGenerated, ForReport, IsGenerated, IsWorth, outcome, outcome_of};
 ghost use Rattle.amcheck.specs.Copied.{ForCopy, IsCopy};
 ghost use Rattle.amcheck.specs.Generated.{generated_owed};
+ghost use Rattle.amcheck.specs.Reindex.{ForNamed, MayBeRemade};
+ghost use Rattle.amcheck.specs.Reindexed.{ForReindex, IsReindex};
 ghost use Rattle.run_outputs.specs.Outcome.{Meets, usage};
 ghost use Rattle.run_words.specs.Seen.{form_seen};
 ghost use Rattle.run_outputs.specs.Seen.{outcome_seen};
@@ -15,13 +17,14 @@ use crate::generated::gen_output;
 use crate::heap::heap_output;
 use crate::index::index_output;
 use crate::laws::reports_have_worth;
+use crate::reindex::reindex_output;
 use crate::scan::scan_output;
 use outside::{Files, Sink};
 use run_outputs::{Ending, Output, RunFault, Status, pages_output, show_output, write_text};
 use run_words::{Command, command_of};
 use std::alloc::Global;
 
-// The output of a command: its report, its page or its rows, or the refusal that comes first.
+// The output of a command: its report, its page, its rows or its index, or the refusal that comes first.
 fn output_of<F: Files>(
     alloc: Global,
     command: Command<'_>,
@@ -32,6 +35,8 @@ fn output_of<F: Files>(
     ensures generated { ForGenerated (Some (form_seen command.entry)) (λ seed rows.
         IfOk result (λ o. outcome_seen o ≡ generated_owed seed rows)) }
     ensures unread { ForGenerated (Some (form_seen command.entry)) (λ seed rows. result ≢ Err RunFault.ReadFault) }
+    ensures made { Tells F.seen files.old result (λ o names. ForNamed (Some (form_seen command.entry)) (λ file name.
+        (outcome_seen o).code ≡ 0 → MayBeRemade file name names)) }
     ensures asked { Asked F.seen files.old files.new result RunFault.ReadFault }
 {
     match command {
@@ -40,6 +45,7 @@ fn output_of<F: Files>(
         Command::Index { case, name } => index_output(alloc, files, case, name),
         Command::All(case) => all_output(alloc, files, case),
         Command::Copy(case) => copy_output(alloc, files, case),
+        Command::Reindex { case, name } => reindex_output(alloc, files, case, name),
         Command::Show { of, file, block } => show_output(alloc, files, of, file, block),
         Command::Gen { seed, rows } => gen_output(alloc, seed, rows),
         Command::Scan(words) => scan_output(alloc, files, words),
@@ -68,6 +74,9 @@ pub fn run<F: Files, S: Sink>(
     // What `copy` is worth: see specs/Copied.
     ensures copied { IfTold F.seen files.old (λ names. ForCopy (map string_bytes words.now) names (λ file case lists.
         IsCopy file case names lists (S.written sink.old) (S.written sink.new) result.code)) }
+    // What `reindex` is worth: see specs/Reindexed.
+    ensures reindexed { IfTold F.seen files.old (λ names. ForReindex (map string_bytes words.now) names
+        (λ file case n lists. IsReindex file case names n lists (S.written sink.old) (S.written sink.new) result.code)) }
     // Words without a form are refused whatever the files hold, and no other words are.
     ensures refused { form_of (map string_bytes words.now) ≡ None →
         Meets usage (S.written sink.old) (S.written sink.new) result.code
@@ -80,7 +89,7 @@ pub fn run<F: Files, S: Sink>(
     ensures read_fault { result.code ≡ 7 → Rose (F.seen files.old).faults (F.seen files.new).faults
         × ((F.seen files.new).refused ≡ false) }
     ensures write_fault { result.code ≡ 8 → Rose (S.faults sink.old) (S.faults sink.new) }
-    ensures codes { result.code ≤ 11 }
+    ensures codes { result.code ≤ 12 }
 {
     reports_have_worth();
     let Some(command) = command_of(words) else {

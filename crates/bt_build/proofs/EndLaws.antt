@@ -88,15 +88,16 @@ module _ (specs : List KeySpec) (ms : List MoreSpec) where
   -- The answer
 
   pub answer_is : (arena : List ℕ) (places sorted : List Place) (r : Result BuiltTree IndexFault) → entries_at specs arena sorted ≡ in_order specs (entries_at specs arena places)
-      → large_among specs ms (entries_at specs arena places) ≡ None → IsTreeAnswer specs ms (entries_at specs arena sorted) r → IsAnswer (listed_in specs ms arena places) r
-  answer_is arena places sorted (Ok tree) is none answer =
+      → large_among specs ms (entries_at specs arena places) ≡ None → AreIndexable specs ms (entries_at specs arena sorted) → IsTreeAnswer specs ms (entries_at specs arena sorted) r
+      → IsAnswer (listed_in specs ms arena places) r
+  answer_is arena places sorted (Ok tree) is none may answer =
       let here = subst (λ (es : List LeafEntry). IsTreeAnswer specs ms es (Ok tree)) is answer in
-      record { small = none; few = here.few; blocks = here.blocks; bytes = here.bytes }
-  answer_is arena places sorted (Err (KeyTooLarge tid)) is none answer = absurd answer
-  answer_is arena places sorted (Err (TooManyBlocks blocks)) is none answer =
+      record { small = none; indexable = subst (AreIndexable specs ms) is may; few = here.few; blocks = here.blocks; bytes = here.bytes }
+  answer_is arena places sorted (Err (KeyTooLarge tid)) is none may answer = absurd answer
+  answer_is arena places sorted (Err (TooManyBlocks blocks)) is none may answer =
       let here = subst (λ (es : List LeafEntry). IsTreeAnswer specs ms es (Err (TooManyBlocks blocks))) is answer in
       record { small = none; count = here.0; many = here.1 }
-  answer_is arena places sorted (Err NoMemory) is none answer = tt
+  answer_is arena places sorted (Err NoMemory) is none may answer = tt
 
 -- There are no more levels than blocks
 

@@ -11,7 +11,7 @@ use Rattle.key_orders.specs.Keys.{tid_order}
 use Rattle.bt_meta.specs.declared.records.Meta.{Meta}
 use Rattle.tree_image.specs.Image.{LeafEntry}
 use Rattle.built_pages.specs.Items.{plain_item, tids_of}
-use Rattle.built_pages.specs.Sizes.{index_tree}
+use Rattle.built_pages.specs.Sizes.{AreIndexable, index_tree}
 use Rattle.built_pages.specs.Trees.{ItemTree, built_block}
 use Rattle.bt_build.specs.declared.build.BuiltTree.{BuiltTree}
 use Rattle.bt_build.specs.declared.fault.IndexFault.{IndexFault}
@@ -53,6 +53,14 @@ abbrev pub blocks_below : List KeySpec → List MoreSpec → ItemTree → (n : �
 blocks_below specs more x zero = []
 blocks_below specs more x (suc n) = blocks_below specs more x n ++ built_block specs more x n
 
+-- its bytes
+abbrev pub index_bytes : Listed → List ℕ
+index_bytes l = blocks_below l.specs l.more (tree_for l) (tree_for l).blocks
+
+-- entries that in order may be indexed, so that the laws of built_pages hold of their tree
+abbrev pub MayBeIndexed : Listed → Type 0
+MayBeIndexed l = AreIndexable l.specs l.more (in_order l.specs l.entries)
+
 -- the number of blocks of a tree that was built, and their bytes
 abbrev pub blocks_in : BuiltTree → ℕ
 blocks_in tree = tree.blocks
@@ -86,12 +94,13 @@ IsTreeAnswer specs more es (Err (TooManyBlocks blocks)) =
     (blocks ≡ (index_tree specs more es).blocks) × (65536 < blocks)
 IsTreeAnswer specs more es (Err NoMemory) = Unit {0}
 
--- no key is too large, there are at most 65536 blocks, and these are they
+-- no key is too large, the entries in order may be indexed, there are at most 65536 blocks, and these are they
 pub record IsBuilt (l : Listed) (tree : BuiltTree) : Type 0 where
   pub small : large_tid l ≡ None
+  pub indexable : MayBeIndexed l
   pub few : (tree_for l).blocks ≤ 65536
   pub blocks : blocks_in tree ≡ (tree_for l).blocks
-  pub bytes : bytes_in tree ≡ blocks_below l.specs l.more (tree_for l) (tree_for l).blocks
+  pub bytes : bytes_in tree ≡ index_bytes l
 
 -- no key is too large, and there are so many blocks, which are more
 pub record HasTooMany (l : Listed) (blocks : ℕ) : Type 0 where

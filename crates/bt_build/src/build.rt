@@ -21,7 +21,7 @@ use crate::paging::{lay_above, lay_leaves};
 use crate::source::{Sorted, Source, large_tid};
 use bt_meta::Meta;
 use built_pages::index_trees_may_be_laid;
-use key_orders::{Tid, key_orders_are_total, keys_are_searchable};
+use key_orders::{Octets, Tid, key_orders_are_total, keys_are_searchable};
 use outside::NoMemory;
 use page_write::{meta_page, push_bytes};
 use std::alloc::Global;
@@ -62,6 +62,13 @@ impl BuiltTree {
         ensures { result.now ≡ bytes_in self.now }
     {
         &self.bytes
+    }
+
+    /// The same bytes, given away.
+    pub fn into_octets(self) -> Octets
+        ensures { result ≡ bytes_in self }
+    {
+        Octets::from_vec(self.bytes)
     }
 }
 

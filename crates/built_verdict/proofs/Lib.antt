@@ -1,1 +1,3 @@
 mod Quiet
+mod Segments
+mod Bytes

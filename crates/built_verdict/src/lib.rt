@@ -1,10 +1,10 @@
 //! What the check of an index finds in one that was built: nothing.
 //!
-//! The crate has no code. Its function does nothing; its contract is the theorem, and a caller has it by
+//! The crate has no code. Its functions do nothing; their contracts are the theorems, and a caller has them by
 //! calling.
 #![tactic(auto)]
 
-ghost use Rattle.std.specs.Prelude.{◌≡◌, ◌<◌, ℕ, List, None};
+ghost use Rattle.std.specs.Prelude.{◌≡◌, ◌≤◌, ◌<◌, ℕ, List, None};
 ghost use Rattle.outside.specs.Outside.{Names};
 ghost use Rattle.rel_files.specs.Blocks.{long_segment_of};
 ghost use Rattle.case_file.specs.Record.{CaseRecord};
@@ -12,8 +12,10 @@ ghost use Rattle.tree_image.specs.Image.{LeafEntry};
 ghost use Rattle.attach_files.specs.Refusals.{index_limit};
 ghost use Rattle.bt_pages.specs.Broken.{AreEmpty};
 ghost use Rattle.bt_levels.specs.Index.{index_of, tree_lists, tree_of};
-ghost use Rattle.built_pages.specs.Files.{AreBlocksOf};
+ghost use Rattle.bt_build.specs.Order.{in_order};
+ghost use Rattle.built_pages.specs.Files.{AreBlocksOf, IsFileOf};
 ghost use Rattle.built_pages.specs.Sizes.{AreIndexable, index_tree};
+ghost use Rattle.built_verdict.specs.Written.{IsWritten};
 
 use bt_levels::indexes_are_judged;
 use built_pages::{built_files_are_sound, built_files_keep_the_rules, index_trees_may_be_laid};
@@ -35,4 +37,20 @@ pub fn built_indexes_are_quiet()
     built_files_are_sound();
     built_files_keep_the_rules();
     indexes_are_judged();
+}
+
+/// What holds of an index of a case whose files hold the bytes that are built of given entries (`IsWritten`).
+///
+/// - `quiet`: nothing is found of it, and nothing is in doubt.
+/// - `file`: it is a sound index of exactly these entries, in order, each once (`IsFileOf`).
+pub fn written_indexes_are_sound()
+    ensures quiet { (case : CaseRecord) (names : Names) (n : ℕ) (es : List LeafEntry) → 1 ≤ case.segment_blocks
+        → IsWritten case names n es → AreEmpty (tree_lists case names n) }
+    ensures file { (case : CaseRecord) (names : Names) (n : ℕ) (es : List LeafEntry) → 1 ≤ case.segment_blocks
+        → IsWritten case names n es → IsFileOf (index_of case n).keys (index_of case n).more
+        (tree_of case names n).blocks (tree_of case names n).block (in_order (index_of case n).keys es) }
+{
+    index_trees_may_be_laid();
+    built_files_are_sound();
+    built_indexes_are_quiet();
 }

@@ -1,6 +1,8 @@
-//! Tests of rows as text: runs of `copy`, rows by themselves, and texts that are read back.
+//! Tests of what is made of rows: runs of `copy` and of `reindex`, rows by themselves, and texts that are read back.
 #![tactic(auto)]
 
+#[cfg(test)]
+mod indexes;
 #[cfg(test)]
 mod random;
 #[cfg(test)]

@@ -1,5 +1,4 @@
-//! The tests of the crates of values, attributes and keys: `key_orders` and `varlena_attrs`; and of
-//! the line of an entry, of `back_scan`.
+//! The tests of the crates of values, attributes and keys: `key_orders` and `varlena_attrs`.
 #![tactic(auto)]
 
 #[cfg(test)]
@@ -8,8 +7,6 @@ mod checks;
 mod key_attrs_tests;
 #[cfg(test)]
 mod keys_tests;
-#[cfg(test)]
-mod line_tests;
 #[cfg(test)]
 mod values_tests;
 #[cfg(test)]

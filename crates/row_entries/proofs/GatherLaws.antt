@@ -77,11 +77,11 @@ module _ (case : CaseRecord) (n : ℕ) where
   whole-by row (Some key) None e is = absurd cc
   whole-by row None more e is = absurd cc
 
-  packed : (row : LiveRow) → entry_of case n row ≡ None → lists_of row ≡ doubt_at (Tuple n row.tid) (Some U6)
+  pub packed : (row : LiveRow) → entry_of case n row ≡ None → lists_of row ≡ doubt_at (Tuple n row.tid) (Some U6)
   unfolding row_lists
   packed row is = packed-by row (key_of case n row) (more_of case n row) is
 
-  whole : (row : LiveRow) (e : LeafEntry) → entry_of case n row ≡ Some e → lists_of row ≡ nothing
+  pub whole : (row : LiveRow) (e : LeafEntry) → entry_of case n row ≡ Some e → lists_of row ≡ nothing
   unfolding row_lists
   whole row e is = whole-by row (key_of case n row) (more_of case n row) e is
 

@@ -46,7 +46,7 @@ item-is : (items : List ItemState) (r : ℕ) → (r ≡ 0 → ⊥) → item_at i
 unfolding item_at
 item-is items r some = ap (λ (b : Bool). if b then Unused else get_or items (r - 1) Unused) (ne_eqb r 0 some)
 
-root-inside : (items : List ItemState) (r : ℕ) → is_root (item_at items r) ≡ true → (r ≢ 0) × (r ≤ length items)
+pub root-inside : (items : List ItemState) (r : ℕ) → is_root (item_at items r) ≡ true → (r ≢ 0) × (r ≤ length items)
 root-inside items r is = elim (cases_eq r 0) [
   | inl none ↦ absurd (no-item items r none is)
   | inr some ↦ (some, (let lt = inside items (r - 1) (ap is_root (sym (item-is items r some)) ∙ is) in omega (arith, lt, some)))
@@ -71,7 +71,7 @@ live-state table page i _ passes (dead e) live = absurd (false≢true (sym (ap i
 live-state table page i _ passes (redirect e) live = absurd (false≢true (sym (ap is_normal e) ∙ live.item.normal))
 
 module _ (case : CaseRecord) (names : Names) (quiet : IsQuiet case names) (whole : AreLiveTuples case names (rows_of case names)) where
-  each-of : (block : ℕ) → block < heap_blocks case names → EachPasses (table_of case names) (heap_page case names block)
+  pub each-of : (block : ℕ) → block < heap_blocks case names → EachPasses (table_of case names) (heap_page case names block)
   each-of block below = each_passes (table_of case names) block (heap_page case names block) (page_passes case names quiet block below)
 
   live-item : (tid : Tid) → IsLiveAt case names tid → IsLiveItem (states_at case names tid.block) tid.item
@@ -90,7 +90,7 @@ module _ (case : CaseRecord) (names : Names) (quiet : IsQuiet case names) (whole
       let few = few-items page (page_passes case names quiet block below).header in
       omega (arith, count, few)
 
-  of-row : (row : LiveRow) → Contains (rows_of case names) row → IsWholeRow case names row
+  pub of-row : (row : LiveRow) → Contains (rows_of case names) row → IsWholeRow case names row
   of-row row among = All-contains (IsWholeRow case names) (rows_of case names) row whole.each among
 
   root-item : (row : LiveRow) → Contains (rows_of case names) row → is_item row.root ≡ true

@@ -1,4 +1,5 @@
 mod ColumnLaws
 mod RootLaws
 mod GatherLaws
-mod HeapRoots
+pub mod HeapRoots
+pub mod ListedLaws

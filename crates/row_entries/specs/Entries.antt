@@ -1,5 +1,6 @@
 -- The entries that the live rows of a heap have in an index of its case, and which rows are in doubt.
-use Rattle.std.specs.Prelude.{◌≡◌, ◌<◌, ℕ, true, false, List, length, map, Option, Some, None}
+use Rattle.std.specs.Prelude.{◌≡◌, ◌<◌, ℕ, true, false, List, [], ◌∷◌, length, map, Option, Some, None}
+use Rattle.std.specs.List.{flat_map}
 use Rattle.outside.specs.Outside.{Names}
 use Rattle.key_orders.specs.declared.columns.Value.{Value}
 use Rattle.key_orders.specs.declared.Tid.{Tid}
@@ -25,6 +26,22 @@ entry_by None more root = None
 -- the entry that a row has in index n of a case: its own values, and the TID of its root
 abbrev pub entry_of : CaseRecord → ℕ → LiveRow → Option LeafEntry
 entry_of case n row = entry_by (key_of case n row) (more_of case n row) row.root
+
+-- the entries of these rows, of each of which all values can be read
+abbrev pub if_read : Option LeafEntry → List LeafEntry
+if_read None = []
+if_read (Some e) = e ∷ []
+
+abbrev pub entries_of_rows : CaseRecord → ℕ → List LiveRow → List LeafEntry
+entries_of_rows case n rows = flat_map (λ row. if_read (entry_of case n row)) rows
+
+-- those of the live rows of a case's heap, with the columns of the index
+abbrev pub rows_listed : CaseRecord → Names → ℕ → Entries
+rows_listed case names n = record {
+  specs = (index_of case n).keys;
+  more = (index_of case n).more;
+  entries = entries_of_rows case n (rows_of case names);
+}
 
 -- the rows of which a value in index n is compressed (U6): what is listed of an index that has every entry
 abbrev pub doubts_in : CaseRecord → ℕ → List LiveRow → Lists

@@ -3,7 +3,7 @@ use Rattle.std.proofs.Common.{◌≢◌, inl, inr, refl, arith}
 use Rattle.run_outputs.specs.Answers.{IsOutcomeCode, answer_code}
 use Rattle.run_outputs.specs.declared.status.Answer.{Answer}
 use Rattle.run_outputs.specs.declared.status.Answer.TheVariants.{Clean, Findings, Unjudged, CaseRefused, NoFile, TooLarge}
-use Rattle.run_outputs.specs.declared.status.Answer.TheVariants.{BadBound, NoBlock, Unread}
+use Rattle.run_outputs.specs.declared.status.Answer.TheVariants.{BadBound, KeyTooLarge, NoBlock, Unread}
 
 pub answers_are_known : (answer : Answer) → IsOutcomeCode (answer_code answer)
 answers_are_known Clean = inl (omega arith)
@@ -14,7 +14,8 @@ answers_are_known CaseRefused = inl (omega arith)
 answers_are_known NoFile = inl (omega arith)
 answers_are_known TooLarge = inl (omega arith)
 answers_are_known NoBlock = inr (inl refl)
-answers_are_known BadBound = inr (inr refl)
+answers_are_known BadBound = inr (inr (inl refl))
+answers_are_known KeyTooLarge = inr (inr (inr refl))
 
 -- no command answers that words have no form
 pub no_answer_is_usage : (answer : Answer) → answer_code answer ≢ 3
@@ -27,3 +28,4 @@ no_answer_is_usage NoFile e = absurd (omega (arith, e))
 no_answer_is_usage TooLarge e = absurd (omega (arith, e))
 no_answer_is_usage NoBlock e = absurd (omega (arith, e))
 no_answer_is_usage BadBound e = absurd (omega (arith, e))
+no_answer_is_usage KeyTooLarge e = absurd (omega (arith, e))

@@ -4,7 +4,7 @@ use Rattle.reports.specs.declared.places.Verdict.{Verdict}
 use Rattle.reports.specs.declared.places.Verdict.TheVariants as verdict
 use Rattle.run_outputs.specs.declared.status.Answer.{Answer}
 use Rattle.run_outputs.specs.declared.status.Answer.TheVariants.{Clean, Findings, Unjudged, Unread, CaseRefused}
-use Rattle.run_outputs.specs.declared.status.Answer.TheVariants.{NoFile, TooLarge, NoBlock, BadBound}
+use Rattle.run_outputs.specs.declared.status.Answer.TheVariants.{NoFile, TooLarge, NoBlock, BadBound, KeyTooLarge}
 use Rattle.run_outputs.specs.declared.status.Ending.{Ending}
 use Rattle.run_outputs.specs.declared.status.Ending.TheVariants.{Answered, Usage, ReadFault, WriteFault, NoMemory}
 
@@ -19,6 +19,7 @@ answer_code NoFile = 5
 answer_code TooLarge = 6
 answer_code NoBlock = 10
 answer_code BadBound = 11
+answer_code KeyTooLarge = 12
 
 -- how a run ends
 abbrev pub ending_code : Ending → ℕ
@@ -35,7 +36,7 @@ answer_by verdict.Unjudged = Unjudged
 
 -- the codes of outcomes; the others tell that a run gave up
 abbrev pub IsOutcomeCode : ℕ → Type 0
-IsOutcomeCode code = (code ≤ 6) ⊎ ((code ≡ 10) ⊎ (code ≡ 11))
+IsOutcomeCode code = (code ≤ 6) ⊎ ((code ≡ 10) ⊎ ((code ≡ 11) ⊎ (code ≡ 12)))
 
 -- a file couldn't be read, the output couldn't be written, or memory ran out
 abbrev pub GaveUp : ℕ → Type 0

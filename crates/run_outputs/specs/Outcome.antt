@@ -1,14 +1,18 @@
 -- What a run writes and answers: a refusal, a report or a page.
-use Rattle.std.specs.Prelude.{◌≡◌, ◌≢◌, ℕ, List, [], ◌++◌, take, codes, decimal, Option, Some, None, Result, Ok, Err}
+use Rattle.std.specs.Prelude.{◌≡◌, ◌≢◌, ℕ, if◌then◌else◌, List, [], ◌++◌, take, codes, decimal, Option, Some, None}
+use Rattle.std.specs.Prelude.{Result, Ok, Err}
 use Rattle.outside.specs.Outside.{appended}
+use Rattle.key_orders.specs.declared.Tid.{Tid}
 use Rattle.case_file.specs.Rules.{rule_code}
 use Rattle.case_file.specs.declared.fault.CaseRule.{CaseRule}
 use Rattle.reports.specs.Lists.{Lists}
 use Rattle.reports.specs.Texts.{report_text, verdict_of}
+use Rattle.bt_levels.specs.Lists.{is_quiet}
 use Rattle.run_outputs.specs.Answers.{answer_by, answer_code}
 use Rattle.run_outputs.specs.declared.output.Unit.{Unit}
 use Rattle.run_outputs.specs.declared.output.Unit.TheVariants.{Blocks, Bytes, Rows}
-use Rattle.run_outputs.specs.declared.status.Answer.TheVariants.{BadBound, CaseRefused, NoFile, TooLarge, NoBlock}
+use Rattle.run_outputs.specs.declared.status.Answer.TheVariants.{BadBound, CaseRefused, KeyTooLarge, NoFile, TooLarge}
+use Rattle.run_outputs.specs.declared.status.Answer.TheVariants.{NoBlock}
 
 -- the bytes and the code that a run owes
 pub record Outcome : Type 0 where
@@ -55,6 +59,13 @@ no_block block blocks = record {
 abbrev pub bad_bound : Outcome
 bad_bound = record { bytes = codes "refused bound\n"; code = answer_code BadBound }
 
+-- a key of the index that is to be built is too large, at this lowest TID
+abbrev pub key_too_large : Tid → Outcome
+key_too_large tid = record {
+  bytes = codes "refused key too large " ++ decimal tid.block ++ codes " " ++ decimal tid.item ++ codes "\n";
+  code = answer_code KeyTooLarge;
+}
+
 -- a refusal, or else what is owed without one
 abbrev pub refused_or : Option Outcome → Outcome → Outcome
 refused_or (Some refusal) owed = refusal
@@ -72,6 +83,10 @@ reported_under heading lists = record {
 abbrev pub reported : Lists → Outcome
 reported = reported_under []
 
+-- a report where something is found or in doubt, and else what is owed without one
+abbrev pub report_or : Lists → (owed : Outcome) → Outcome
+report_or lists owed = if is_quiet lists then owed else reported lists
+
 -- what a command finds: its report, or the refusal that comes first
 abbrev pub Judged : Type 0
 Judged = Result Lists Outcome
@@ -82,6 +97,11 @@ owed_under heading (Err refusal) = refusal
 
 abbrev pub owed_by : Judged → Outcome
 owed_by = owed_under []
+
+-- where nothing is found or in doubt, what is owed without a report
+abbrev pub judged_or : Judged → (owed : Outcome) → Outcome
+judged_or (Ok lists) owed = report_or lists owed
+judged_or (Err refusal) owed = refusal
 
 -- The end of a run
 

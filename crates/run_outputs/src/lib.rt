@@ -15,7 +15,8 @@ mod write;
 pub use case::{CaseOpening, open_case, refuse_files};
 pub use fault::RunFault;
 pub use output::{
-    Output, Unit, bad_bound_output, case_refused_output, report_output, too_large_output,
+    Output, Unit, bad_bound_output, case_refused_output, key_too_large_output, report_output,
+    too_large_output,
 };
 pub use pages::pages_output;
 pub use show::show_output;

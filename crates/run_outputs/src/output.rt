@@ -1,11 +1,12 @@
 //! What a command is to write, and what it answers.
 ghost use Rattle.std.specs.Prelude.{◌≡◌, IfOk};
-ghost use Rattle.run_outputs.specs.Outcome.{bad_bound, case_refused, no_block, no_file, reported, too_large};
+ghost use Rattle.run_outputs.specs.Outcome.{bad_bound, case_refused, key_too_large, no_block, no_file, reported};
+ghost use Rattle.run_outputs.specs.Outcome.{too_large};
 ghost use Rattle.run_outputs.specs.Seen.{outcome_seen};
 
 use crate::status::Answer;
 use case_file::CaseRule;
-use key_orders::Octets;
+use key_orders::{Octets, Tid};
 use outside::NoMemory;
 use reports::Report;
 use std::alloc::Global;
@@ -127,6 +128,22 @@ pub fn bad_bound_output(alloc: Global) -> Result<Output, NoMemory>
     Ok(Output {
         text,
         answer: Answer::BadBound,
+    })
+}
+
+/// The refusal of an index of which a key is too large, with the lowest TID of such a key.
+pub fn key_too_large_output(alloc: Global, tid: Tid) -> Result<Output, NoMemory>
+    ensures { IfOk result (λ o. outcome_seen o ≡ key_too_large tid) }
+{
+    let mut text = Octets::new(alloc);
+    text.push_slice(b"refused key too large ")?;
+    text.push_decimal(tid.block as u64)?;
+    text.push_slice(b" ")?;
+    text.push_decimal(tid.item as u64)?;
+    text.push_slice(b"\n")?;
+    Ok(Output {
+        text,
+        answer: Answer::KeyTooLarge,
     })
 }
 

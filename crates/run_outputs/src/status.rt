@@ -7,7 +7,7 @@ use reports::Verdict;
 /// What a command answers.
 #[derive(Clone, Copy, Debug, PartialEq, Eq)]
 pub enum Answer {
-    /// No rule is broken, and everything could be judged; or the page, the rows or the entries are shown.
+    /// No rule is broken, and everything could be judged; or the page, the rows, the entries or the index are shown.
     Clean,
     /// A rule is broken.
     Findings,
@@ -25,6 +25,8 @@ pub enum Answer {
     NoBlock,
     /// A bound of a scan doesn't fit the key of the index.
     BadBound,
+    /// A key of the index that is to be built is too large.
+    KeyTooLarge,
 }
 
 /// How a run ends.
@@ -42,10 +44,10 @@ pub enum Ending {
     NoMemory,
 }
 
-/// The answer of a run to its caller: 0 clean, or the page, the rows or the entries are shown, 1 findings, 2 unjudged,
-/// or a value of the rows that are shown is unread, 3 usage, 4 the case is refused, 5 no such file, 6 a file is too
-/// large, 7 a file could not be read, 8 the output could not be written, 9 out of memory, 10 no such block, 11 a bound
-/// doesn't fit the key.
+/// The answer of a run to its caller: 0 clean, or the page, the rows, the entries or the index are shown, 1 findings, 2
+/// unjudged, or a value of the rows that are shown is unread, 3 usage, 4 the case is refused, 5 no such file, 6 a file
+/// is too large, 7 a file could not be read, 8 the output could not be written, 9 out of memory, 10 no such block, 11 a
+/// bound doesn't fit the key, 12 a key is too large for the index.
 #[derive(Clone, Copy, Debug, PartialEq, Eq)]
 pub struct Status {
     /// The number that the program exits with.
@@ -77,6 +79,7 @@ impl Answer {
             Answer::TooLarge => 6,
             Answer::NoBlock => 10,
             Answer::BadBound => 11,
+            Answer::KeyTooLarge => 12,
         }
     }
 }

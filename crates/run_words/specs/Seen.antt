@@ -2,12 +2,12 @@
 use Rattle.std.specs.Prelude.{Option}
 use Rattle.std.specs.Option.{option_map}
 use Rattle.run_words.specs.Bounds.{bounds_in}
-use Rattle.run_words.specs.Words.{All, Copy, Form, Generated, Heap, Index, Judge, Pages, Scan, Show}
+use Rattle.run_words.specs.Words.{All, Copy, Form, Generated, Heap, Index, Judge, Pages, Reindex, Scan, Show}
 use Rattle.run_words.specs.declared.bounds.ScanWords.{ScanWords}
 use Rattle.run_words.specs.declared.words.Command.{Command}
 use Rattle.run_words.specs.declared.words.Command.TheVariants.{Pages as pages_command, Heap as heap_command}
 use Rattle.run_words.specs.declared.words.Command.TheVariants.{Index as index_command, All as all_command}
-use Rattle.run_words.specs.declared.words.Command.TheVariants.{Copy as copy_command}
+use Rattle.run_words.specs.declared.words.Command.TheVariants.{Copy as copy_command, Reindex as reindex_command}
 use Rattle.run_words.specs.declared.words.Command.TheVariants.{Show as show_command, Gen as gen_command}
 use Rattle.run_words.specs.declared.words.Command.TheVariants.{Scan as scan_command}
 
@@ -22,6 +22,7 @@ form_seen (heap_command case) = Judge (Heap case.now)
 form_seen (index_command case name) = Judge (Index case.now name.now)
 form_seen (all_command case) = Judge (All case.now)
 form_seen (copy_command case) = Copy case.now
+form_seen (reindex_command case name) = Reindex case.now name.now
 form_seen (show_command kind file block) = Show kind file.now block
 form_seen (gen_command seed rows) = Judge (Generated seed rows)
 form_seen (scan_command words) = scan_seen words

@@ -30,6 +30,8 @@ pub data Form : Type 0 where
   Judge : Check → Form
   -- copy CASE
   Copy : List ℕ → Form
+  -- reindex CASE NAME
+  Reindex : (case name : List ℕ) → Form
   -- show heap FILE BLOCK, show tree FILE BLOCK
   Show : Shown → List ℕ → ℕ → Form
   -- scan CASE NAME LOW HIGH DIR
@@ -43,17 +45,17 @@ name_alone ((x ∷ xs) ∷ []) = Some (x ∷ xs)
 name_alone ((x ∷ xs) ∷ word ∷ words) = None
 
 -- a case and a name, unless one is empty
-abbrev pub index_by : (case name : List ℕ) → Option Form
-index_by [] name = None
-index_by (x ∷ xs) [] = None
-index_by (x ∷ xs) (y ∷ ys) = Some (Judge (Index (x ∷ xs) (y ∷ ys)))
+abbrev pub named_by : (case name : List ℕ) → Option (List ℕ × List ℕ)
+named_by [] name = None
+named_by (x ∷ xs) [] = None
+named_by (x ∷ xs) (y ∷ ys) = Some (x ∷ xs, y ∷ ys)
 
 -- two words, neither of which is empty
-unfoldable pub index_form : List (List ℕ) → Option Form
-index_form [] = None
-index_form (case ∷ []) = None
-index_form (case ∷ name ∷ []) = index_by case name
-index_form (case ∷ name ∷ word ∷ words) = None
+unfoldable pub case_and_name : List (List ℕ) → Option (List ℕ × List ℕ)
+case_and_name [] = None
+case_and_name (case ∷ []) = None
+case_and_name (case ∷ name ∷ []) = named_by case name
+case_and_name (case ∷ name ∷ word ∷ words) = None
 
 -- what the page that a word names is a page of
 unfoldable pub shown_by : List ℕ → Option Shown
@@ -114,7 +116,8 @@ unfoldable pub command_form : List ℕ → List (List ℕ) → Option Form
 command_form command words =
     if bytes_eq command (codes "pages") then option_map (λ file. Judge (Pages file)) (name_alone words)
     else if bytes_eq command (codes "heap") then option_map (λ case. Judge (Heap case)) (name_alone words)
-    else if bytes_eq command (codes "index") then index_form words
+    else if bytes_eq command (codes "index") then option_map (λ w. Judge (Index w.0 w.1)) (case_and_name words)
+    else if bytes_eq command (codes "reindex") then option_map (λ w. Reindex w.0 w.1) (case_and_name words)
     else if bytes_eq command (codes "all") then option_map (λ case. Judge (All case)) (name_alone words)
     else if bytes_eq command (codes "copy") then option_map (λ case. Copy case) (name_alone words)
     else if bytes_eq command (codes "show") then show_form words

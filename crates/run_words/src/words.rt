@@ -1,10 +1,10 @@
 //! The forms of a command line.
 ghost use Rattle.std.specs.Prelude.{◌≡◌, map, string_bytes};
-ghost use Rattle.std.specs.Option.{option_copied};
+ghost use Rattle.std.specs.Option.{option_copied, option_map};
 ghost use Rattle.run_words.specs.Numbers.{u32_written, u64_written};
 ghost use Rattle.run_words.specs.Seen.{form_asked};
-ghost use Rattle.run_words.specs.Words.{command_form, form_of, generated_by, generated_form, index_by, index_form};
-ghost use Rattle.run_words.specs.Words.{name_alone, page_by, scan_form, show_form, shown_by};
+ghost use Rattle.run_words.specs.Words.{case_and_name, command_form, form_of, generated_by, generated_form, name_alone};
+ghost use Rattle.run_words.specs.Words.{named_by, page_by, scan_form, show_form, shown_by};
 
 use crate::bounds::{ScanWords, scan_words};
 use crate::numbers::{u32_written, u64_written};
@@ -36,6 +36,13 @@ pub enum Command<'w> {
     All(&'w str),
     /// `copy CASE`: judge the heap of a case, and write its live rows.
     Copy(&'w str),
+    /// `reindex CASE NAME`: judge the heap of a case, and build its index of this name anew.
+    Reindex {
+        /// The case's file.
+        case: &'w str,
+        /// The index's name.
+        name: &'w str,
+    },
     /// `show heap FILE BLOCK`, `show tree FILE BLOCK`: print one page of a file.
     Show {
         /// What the page is a page of.
@@ -67,23 +74,23 @@ fn name_alone(words: &[String]) -> Option<&str>
     }
 }
 
-// An index of a case, unless the case or the name is empty.
-fn index_by<'w>(case: &'w str, name: &'w str) -> Option<Command<'w>>
-    ensures { form_asked result ≡ index_by case.now name.now }
+// A case and a name, unless one is empty.
+fn named_by<'w>(case: &'w str, name: &'w str) -> Option<(&'w str, &'w str)>
+    ensures { option_map (λ w. (w.0.now, w.1.now)) result ≡ named_by case.now name.now }
 {
     if case.is_empty() || name.is_empty() {
         return None;
     }
-    Some(Command::Index { case, name })
+    Some((case, name))
 }
 
 // A case and a name, neither of which is empty.
-#[tactic(auto, unfolding(crate::specs::Words::index_form))]
-fn index_command(words: &[String]) -> Option<Command<'_>>
-    ensures { form_asked result ≡ index_form (map string_bytes words.now) }
+#[tactic(auto, unfolding(crate::specs::Words::case_and_name))]
+fn case_and_name(words: &[String]) -> Option<(&str, &str)>
+    ensures { option_map (λ w. (w.0.now, w.1.now)) result ≡ case_and_name (map string_bytes words.now) }
 {
     match words {
-        [case, name] => index_by(case.as_str(), name.as_str()),
+        [case, name] => named_by(case.as_str(), name.as_str()),
         _ => None,
     }
 }
@@ -179,7 +186,12 @@ fn named_command<'w>(command: &str, words: &'w [String]) -> Option<Command<'w>>
         return Some(Command::Heap(name_alone(words)?));
     }
     if command == "index" {
-        return index_command(words);
+        let (case, name) = case_and_name(words)?;
+        return Some(Command::Index { case, name });
+    }
+    if command == "reindex" {
+        let (case, name) = case_and_name(words)?;
+        return Some(Command::Reindex { case, name });
     }
     if command == "all" {
         return Some(Command::All(name_alone(words)?));

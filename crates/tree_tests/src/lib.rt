@@ -14,6 +14,8 @@ mod laws;
 #[cfg(test)]
 mod levels;
 #[cfg(test)]
+mod lines;
+#[cfg(test)]
 mod look_ups;
 #[cfg(test)]
 mod metapages;

@@ -3,7 +3,7 @@ use Rattle.std.specs.Option.{option_copied}
 use Rattle.std.proofs.lemmas.Result.{IfOk-weaker}
 use Rattle.amcheck.specs.Copy.{rows_shown}
 use Rattle.run_outputs.specs.Seen.{outcome_seen}
-use Rattle.amcheck.proofs.CopyLaws.{belongs_there, quiet_there, report_there, rows_there, sound_there}
+use Rattle.amcheck.proofs.ReportLaws.{belongs_there, owed_there, quiet_there, report_there, sound_there}
 use Rattle.amcheck.proofs.copy.rows_or_report.Goals as goal
 
 pub rows_output-requires-clause-belong : goal.rows_output-requires-clause-belong
@@ -22,7 +22,7 @@ pub returns-in-Some-clause-output : goal.returns-in-Some-clause-output
 returns-in-Some-clause-output g c =
     IfOk-weaker c.rows_output.result _ _
     (λ o is names told.
-    rows_there c.args.case.now names (option_copied c.args.heap) (c.requires.heap names told) c.in-Some.heap.now (outcome_seen o) (rows_shown names c.args.case.now) (ap (λ h. option_copied h) c.in-Some.is) (is names told))
+    owed_there c.args.case.now names (option_copied c.args.heap) (c.requires.heap names told) c.in-Some.heap.now (outcome_seen o) (rows_shown names c.args.case.now) (ap (λ h. option_copied h) c.in-Some.is) (is names told))
     c.rows_output.ensures.output
 
 pub returns-in_ok-report_output-in-None-clause-output : goal.returns-in_ok-report_output-in-None-clause-output

@@ -2,6 +2,7 @@ use Rattle.std.proofs.Common.{◌≡◌, ◌≢◌, ◌⊎◌, ℕ, inl, inr, �
 use Rattle.run_words.specs.Seen.{form_asked, form_seen}
 use Rattle.run_outputs.specs.Seen.{outcome_seen}
 use Rattle.amcheck.proofs.CopyLaws.{copy_worth, given_up_copy}
+use Rattle.amcheck.proofs.ReindexLaws.{given_up_reindex, reindex_worth}
 use Rattle.amcheck.proofs.Worth.{gave_up_generated, given_up_worth, worth_by, worth_generated}
 use Rattle.run_outputs.specs.Answers.{IsOutcomeCode}
 use Rattle.amcheck.proofs.runs.run.Goals as goal
@@ -26,7 +27,8 @@ returns-else-refused_memory-clause-report g c names told check lists asked e =
 not_seven : (code : ℕ) → IsOutcomeCode code ⊎ (code ≡ 8) → code ≢ 7
 not_seven code (inl (inl small)) seven = absurd (omega (arith, small, seven))
 not_seven code (inl (inr (inl ten))) seven = absurd (omega (arith, ten, seven))
-not_seven code (inl (inr (inr eleven))) seven = absurd (omega (arith, eleven, seven))
+not_seven code (inl (inr (inr (inl eleven)))) seven = absurd (omega (arith, eleven, seven))
+not_seven code (inl (inr (inr (inr twelve)))) seven = absurd (omega (arith, twelve, seven))
 not_seven code (inr eight) seven = absurd (omega (arith, eight, seven))
 
 pub returns-in-Ok-clause-generated : goal.returns-in-Ok-clause-generated
@@ -59,3 +61,21 @@ returns-then-refused_memory-clause-copied g c names told file case lists asked m
 pub returns-else-refused_memory-clause-copied : goal.returns-else-refused_memory-clause-copied
 returns-else-refused_memory-clause-copied g c names told file case lists asked meant e =
     given_up_copy c.reports_have_worth.ensures file case names lists meant e _ _ _ (inl c.status-else-refused_memory.ensures)
+
+pub returns-in-Ok-clause-reindexed : goal.returns-in-Ok-clause-reindexed
+returns-in-Ok-clause-reindexed g c names told file name case n lists asked meant numbered e =
+    let form = ap form_asked (sym c.in-Some.is) ∙ c.command_of.ensures ∙ asked in
+    reindex_worth c.reports_have_worth.ensures file name case names n lists meant numbered e (form_seen c.in-Some.command) (outcome_seen c.in-Ok.output) form (c.in-Ok.ensures.output names told)
+    (c.in-Ok.ensures.made names told file name form) _ _ _ (rw c.as_slice.ensures at c.write_text-in-Ok.ensures.meets)
+
+pub returns-in-Err-NoMemory-clause-reindexed : goal.returns-in-Err-NoMemory-clause-reindexed
+returns-in-Err-NoMemory-clause-reindexed g c names told file name case n lists asked meant numbered e =
+    given_up_reindex c.reports_have_worth.ensures file name case names n lists meant numbered e _ _ _ (inr c.status.ensures)
+
+pub returns-then-refused_memory-clause-reindexed : goal.returns-then-refused_memory-clause-reindexed
+returns-then-refused_memory-clause-reindexed g c names told file name case n lists asked meant numbered e =
+    given_up_reindex c.reports_have_worth.ensures file name case names n lists meant numbered e _ _ _ (inr c.status-then-refused_memory.ensures)
+
+pub returns-else-refused_memory-clause-reindexed : goal.returns-else-refused_memory-clause-reindexed
+returns-else-refused_memory-clause-reindexed g c names told file name case n lists asked meant numbered e =
+    given_up_reindex c.reports_have_worth.ensures file name case names n lists meant numbered e _ _ _ (inl c.status-else-refused_memory.ensures)

@@ -46,4 +46,5 @@ returns c =
     (λ i. ((c.deref_mut.ensures.value ∙ c.in_ok-in_order.ensures) i, sym back i)) c.sort_places.ensures.permutation in
     let up : IsSortedBy (is_below s.specs.now s.arena.now) c.deref.result.now = subst (IsSortedBy (is_below s.specs.now s.arena.now)) (sym back) c.sort_places.ensures.sorted in
     let is = sorted_in_order c.key_orders_are_total.ensures.keys c.key_orders_are_total.ensures.same_key s.specs.now (c.keys_are_searchable.ensures.order s.specs.now) s.more.now s.arena.now places c.deref.result.now moved up c.requires.each c.requires.apart in
-    answer_is s.specs.now s.more.now s.arena.now places c.deref.result.now c.build_sorted.result is none c.build_sorted.ensures
+    let may = indexable s.specs.now s.more.now c.key_orders_are_total.ensures.keys c.key_orders_are_total.ensures.same_key (c.keys_are_searchable.ensures.order s.specs.now) s.arena.now places c.deref.result.now moved up c.requires.each c.requires.apart c.requires.columns.some none in
+    answer_is s.specs.now s.more.now s.arena.now places c.deref.result.now c.build_sorted.result is none may c.build_sorted.ensures

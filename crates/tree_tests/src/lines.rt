@@ -1,5 +1,4 @@
 //! The line that prints an entry of an index.
-use crate::checks::holds;
 use back_scan::entry_line;
 use key_orders::{KeyRefs, Tid, ValueRef};
 use std::test::Fail;
@@ -17,6 +16,6 @@ fn a_line_of_each_kind_of_value(rt: HostRuntime) -> Result<(), Fail> {
     };
     let line = entry_line(rt.alloc(), &key, tid)?;
     let want = b"entry -5,null,true,x00fe tid 70000 3\n";
-    holds(&rt, line.as_slice() == want.as_slice(), 0);
+    assert!(rt; line.as_slice() == want.as_slice());
     Ok(())
 }
