@@ -25,8 +25,8 @@ pub fn reports_have_worth()
     key_orders_are_total();
 }
 
-/// Where the files of an index of a case hold what `reindex` writes of the case's table (`IsRemade`), and no two live rows
-/// have one key in a unique index, `index` finds nothing, and nothing is in doubt. It does nothing.
+/// Where the files of an index of a case hold what `reindex` writes of the case's table (`IsRemade`), and no two live
+/// rows have one key in a unique index, `index` finds nothing, and nothing is in doubt. It does nothing.
 pub fn remade_indexes_are_called_clean()
     ensures { (case : CaseRecord) (names : Names) (n : ℕ) → IsRemade case names n → AreUnique case names n
         → is_quiet (index_found case names n) ≡ true }

@@ -164,8 +164,8 @@ fn numbered_output<F: Files>(
 
 /// The output of `reindex`: the file of the index of a name, built of the live rows of the heap of the case in a file,
 /// where nothing is found of the heap and each value in the index's columns can be read; or else the report; or the
-/// refusal that comes first: of the file, of its text, of the name, of the heap, of the TOAST table, of a key that is too
-/// large, or of an index of too many blocks. The index's own file isn't asked for.
+/// refusal that comes first: of the file, of its text, of the name, of the heap, of the TOAST table, of a key that is
+/// too large, or of an index of too many blocks. The index's own file isn't asked for.
 pub fn reindex_output<F: Files>(
     alloc: Global,
     files: &mut F,

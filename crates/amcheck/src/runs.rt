@@ -76,7 +76,8 @@ pub fn run<F: Files, S: Sink>(
         IsCopy file case names lists (S.written sink.old) (S.written sink.new) result.code)) }
     // What `reindex` is worth: see specs/Reindexed.
     ensures reindexed { IfTold F.seen files.old (λ names. ForReindex (map string_bytes words.now) names
-        (λ file case n lists. IsReindex file case names n lists (S.written sink.old) (S.written sink.new) result.code)) }
+        (λ file case n lists.
+        IsReindex file case names n lists (S.written sink.old) (S.written sink.new) result.code)) }
     // Words without a form are refused whatever the files hold, and no other words are.
     ensures refused { form_of (map string_bytes words.now) ≡ None →
         Meets usage (S.written sink.old) (S.written sink.new) result.code

@@ -1,5 +1,5 @@
 -- An entry that is put behind the others.
-use Rattle.std.proofs.Common.{◌≡◌, ◌≢◌, ◌∙◌, false, ℕ, List, [], ◌∷◌, ◌++◌, length, drop, refl, sym, ap, subst}
+use Rattle.std.proofs.Common.{◌≡◌, ◌≢◌, ◌<◌, ◌∙◌, Less, true, false, ℕ, List, [], ◌∷◌, ◌++◌, length, drop, refl, sym, ap, subst}
 use Rattle.std.specs.Prelude.{All}
 use Rattle.std.proofs.lemmas.List.{map-append}
 use Rattle.std.proofs.lemmas.List.Elements.{All-append, All-cons, All-head, All-nil, All-tail}
@@ -8,17 +8,32 @@ use Rattle.key_orders.specs.declared.columns.KeySpec.{KeySpec}
 use Rattle.key_orders.specs.declared.columns.Value.{Value}
 use Rattle.key_orders.specs.declared.more.MoreSpec.{MoreSpec}
 use Rattle.key_orders.specs.declared.columns.ColType.{ColType}
+use Rattle.tree_search.specs.Keys.{compare_values}
+use Rattle.key_orders.specs.Keys.{columns_of, fits_columns}
+use Rattle.key_orders.specs.Prefixes.{IsPrefix}
 use Rattle.stored_keys.specs.Stored.{IsStorable, key_read, stored_key}
 use Rattle.row_slots.specs.Slots.{LiesAt}
 use Rattle.row_slots.proofs.PutLaws.{lies_last, lies_more, read_there}
-use Rattle.tree_image.specs.Image.{leaf_entry}
+use Rattle.tree_image.specs.Image.{LeafEntry, leaf_entry}
 use Rattle.page_write.specs.Bodies.{IsShortEnough}
 use Rattle.page_write.specs.Fields.{IsTid}
 use Rattle.built_pages.specs.Items.{MayBeLaid, entry_types}
 use Rattle.bt_build.specs.declared.entries.Place.{Place}
-use Rattle.bt_build.specs.Kept.{AreKept, IsKept, entries_at, entry_at, entry_with, listed_in}
+use Rattle.bt_build.specs.Kept.{AreKept, HasPrefix, IsKept, entries_at, entry_at, entry_with, listed_in}
 use Rattle.bt_build.specs.Listed.{AreApart, AreColumns, AreValues, IsNewTid}
 use Rattle.bt_build.proofs.MayLaws.{may_be_laid}
+
+-- the number of a key, for columns that were lent
+pub has_prefix : (lent specs : List KeySpec) (key : List Value) (number : ℕ) → lent ≡ specs → fits_columns specs key ≡ true → IsPrefix lent key number
+    → ((other : List Value) (higher : ℕ) → IsPrefix lent other higher → number < higher → fits_columns lent key ≡ true → fits_columns lent other ≡ true
+    → compare_values (columns_of lent) 0 key other ≡ Less) → HasPrefix specs key number
+has_prefix lent specs key number same fits is below =
+    let fits_lent = subst (λ (ks : List KeySpec). fits_columns ks key ≡ true) (sym same) fits in
+    subst (λ (ks : List KeySpec). HasPrefix ks key number) same (record {
+      fits = fits_lent;
+      is = is;
+      below = λ other higher given above fits_too. below other higher given above fits_lent fits_too;
+    })
 
 -- what lies is read as before
 pub same_entry : (specs : List KeySpec) (arena more : List ℕ) (p : Place) → LiesAt arena p.at → entry_at specs (arena ++ more) p ≡ entry_at specs arena p
@@ -35,6 +50,7 @@ same_entries specs ms arena more (p ∷ places) kept =
 kept_still : (specs : List KeySpec) (ms : List MoreSpec) (arena more : List ℕ) (p : Place) → IsKept specs ms arena p → IsKept specs ms (arena ++ more) p
 kept_still specs ms arena more p kept = record {
   lies = lies_more arena more p.at kept.lies;
+  prefix = subst (λ (e : LeafEntry). HasPrefix specs e.entry.values p.prefix) (sym (same_entry specs arena more p kept.lies)) kept.prefix;
   laid = subst (MayBeLaid specs ms) (sym (same_entry specs arena more p kept.lies)) kept.laid;
 }
 
@@ -76,28 +92,29 @@ module _ (specs : List KeySpec) (ms : List MoreSpec) (arena : List ℕ) (places 
       map-append (entry_at specs after) places (p ∷ [])
       ∙ (λ i. same_entries specs ms arena (stored_key (key ++ more)) places kept i ++ new_entry specs arena key more p at whole storable i ∷ [])
 
-  kept_last : MayBeLaid specs ms (leaf_entry key more p.tid false) → IsKept specs ms after p
-  kept_last may = record {
+  kept_last : HasPrefix specs key p.prefix → MayBeLaid specs ms (leaf_entry key more p.tid false) → IsKept specs ms after p
+  kept_last prefix may = record {
     lies = subst (LiesAt after) (sym at) (lies_last arena (key ++ more) storable);
+    prefix = subst (λ (e : LeafEntry). HasPrefix specs e.entry.values p.prefix) (sym (new_entry specs arena key more p at whole storable)) prefix;
     laid = subst (MayBeLaid specs ms) (sym (new_entry specs arena key more p at whole storable)) may;
   }
 
-  pub all_kept : MayBeLaid specs ms (leaf_entry key more p.tid false) → All (IsKept specs ms after) (places ++ p ∷ [])
-  all_kept may =
+  pub all_kept : HasPrefix specs key p.prefix → MayBeLaid specs ms (leaf_entry key more p.tid false) → All (IsKept specs ms after) (places ++ p ∷ [])
+  all_kept prefix may =
       All-append (IsKept specs ms after) places (p ∷ []) (all_still specs ms arena (stored_key (key ++ more)) places kept)
-      (All-cons (IsKept specs ms after) p [] (kept_last may) (All-nil (IsKept specs ms after)))
+      (All-cons (IsKept specs ms after) p [] (kept_last prefix may) (All-nil (IsKept specs ms after)))
 
 pub kept_more : (specs : List KeySpec) (ms : List MoreSpec) (types : List ColType) (arena : List ℕ) (places : List Place) (key more : List Value) (p : Place)
     → AreKept specs ms types arena places → AreValues (listed_in specs ms arena places) key more → All IsShortEnough key → All IsShortEnough more
-    → IsTid p.tid → p.tid.item ≢ 0 → IsNewTid (listed_in specs ms arena places) p.tid → All IsStorable (key ++ more) → p.at ≡ length arena
+    → IsTid p.tid → p.tid.item ≢ 0 → IsNewTid (listed_in specs ms arena places) p.tid → All IsStorable (key ++ more) → p.at ≡ length arena → HasPrefix specs key p.prefix
     → AreKept specs ms types (arena ++ stored_key (key ++ more)) (places ++ p ∷ [])
-kept_more specs ms types arena places key more p kept values short short_more fits some fresh storable at =
+kept_more specs ms types arena places key more p kept values short short_more fits some fresh storable at prefix =
     let whole = values.key_fits.whole in
     let may = may_be_laid (listed_in specs ms arena places) key more p.tid kept.columns values short short_more fits some in
     record {
       columns = kept.columns;
       types_are = kept.types_are;
-      each = all_kept specs ms arena places key more p kept.each at whole storable may;
+      each = all_kept specs ms arena places key more p kept.each at whole storable prefix may;
       apart =
           subst AreApart (sym (entries_more specs ms arena places key more p kept.each at whole storable))
           (AreApart.more (entries_at specs arena places) (leaf_entry key more p.tid false) kept.apart fresh);

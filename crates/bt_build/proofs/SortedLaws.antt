@@ -1,8 +1,9 @@
 -- Places that are sorted hold the entries in order.
-use Rattle.std.proofs.Common.{◌≡◌, ◌≤◌, ◌+◌, ◌-◌, ◌∙◌, ℕ, suc, Bool, true, false, List, [], ◌∷◌, ◌++◌, length, take, drop, get_or, refl, sym, ap, subst, arith, append_assoc}
+use Rattle.std.proofs.Common.{◌≡◌, ◌≤◌, ◌<◌, Ordering, Less, Equal, Greater, ◌+◌, ◌-◌, ◌∙◌, ℕ, suc, Bool, true, false, List, [], ◌∷◌, ◌++◌, length, take, drop, get_or, refl, sym, ap, subst, arith, append_assoc}
 use Rattle.std.specs.Prelude.{All, IsPermutation, IsSortedBy}
 use Rattle.std.specs.List.{flat_map, sum_by}
-use Rattle.std.specs.Ordering.{is_lt, ordering_then}
+use Rattle.std.specs.Cmp.{ranks}
+use Rattle.std.specs.Ordering.{MatchOrdering, is_lt, nat_cmp, ordering_then}
 use Rattle.std.proofs.lemmas.List.Elements.{All-from_recursion, All-head, All-tail, recursion_from_All}
 use Rattle.std.proofs.lemmas.List.Sorted.{All-permutation, IsPermutation-map, IsPermutation-sym, sum_by-IsPermutation}
 use Rattle.std.proofs.lemmas.List.{length-append, length-take}
@@ -24,7 +25,7 @@ use Rattle.bt_build.specs.declared.entries.Place.{Place}
 use Rattle.bt_build.specs.Kept.{IsKept, entries_at, entry_at}
 use Rattle.bt_build.specs.Listed.{AreApart}
 use Rattle.bt_build.specs.Order.{in_order, is_before}
-use Rattle.bt_build.specs.Places.{first_values, is_below}
+use Rattle.bt_build.specs.Places.{first_values, is_below, key_order_at}
 use Rattle.bt_build.proofs.ApartLaws.{KeysSame, KeysTotal, all_differ, at_most_one, has_tid}
 use Rattle.bt_build.proofs.RisingLaws.{AllDiffer, Differ, Has, Rise, has_all, is_in_order, over_all}
 
@@ -59,10 +60,42 @@ first_is specs ms arena p kept =
     ∙ front_read (length specs) key (flat_map stored_value key ++ lies.rest) le (values_back key lies.rest lies.storable)
     ∙ ap (take (length specs)) (sym read)
 
-below_is : (specs : List KeySpec) (ms : List MoreSpec) (arena : List ℕ) (p q : Place) → IsKept specs ms arena p → IsKept specs ms arena q
+is_less : (m n : ℕ) → nat_cmp m n ≡ Less → m < n
+is_less m n is = subst (λ (o : Ordering). MatchOrdering o (m < n) (m ≡ n) (n < m)) is (ranks m n)
+
+is_greater : (m n : ℕ) → nat_cmp m n ≡ Greater → n < m
+is_greater m n is = subst (λ (o : Ordering). MatchOrdering o (m < n) (m ≡ n) (n < m)) is (ranks m n)
+
+not_both : (specs : List KeySpec) → IsOrder (order_of specs) → (d e : LeafEntry) (t : Bool) → is_before specs d e ≡ t → is_before specs e d ≡ true → is_before specs d e ≡ false
+not_both specs order d e true is back = let itself = order.chained d.entry e.entry d.entry is back in let never = order.strict d.entry in absurd cc
+not_both specs order d e false is back = is
+
+-- the numbers of keys, and then the keys, order places as their entries are ordered
+below_is : (specs : List KeySpec) → IsOrder (order_of specs) → (ms : List MoreSpec) (arena : List ℕ) (p q : Place) → IsKept specs ms arena p → IsKept specs ms arena q
     → is_below specs arena p q ≡ is_before specs (entry_at specs arena p) (entry_at specs arena q)
-below_is specs ms arena p q a b =
-    λ i. is_lt (ordering_then (compare_values (columns_of specs) 0 (first_is specs ms arena p a i) (first_is specs ms arena q b i)) (tid_order p.tid q.tid))
+below_is specs order ms arena p q a b = go (nat_cmp p.prefix q.prefix) refl
+  where
+    keys : Ordering
+    keys = compare_values (columns_of specs) 0 (entry_at specs arena p).entry.values (entry_at specs arena q).entry.values
+
+    here : ordering_then (key_order_at specs arena p.at q.at) (tid_order p.tid q.tid) ≡ ordering_then keys (tid_order p.tid q.tid)
+    here = λ i. ordering_then (compare_values (columns_of specs) 0 (first_is specs ms arena p a i) (first_is specs ms arena q b i)) (tid_order p.tid q.tid)
+
+    by_prefix : (o : Ordering) → nat_cmp p.prefix q.prefix ≡ o → is_below specs arena p q ≡ is_lt (ordering_then o (ordering_then (key_order_at specs arena p.at q.at) (tid_order p.tid q.tid)))
+    by_prefix o is = ap (λ (r : Ordering). is_lt (ordering_then r (ordering_then (key_order_at specs arena p.at q.at) (tid_order p.tid q.tid)))) is
+
+    by_keys : (o : Ordering) → keys ≡ o → is_before specs (entry_at specs arena p) (entry_at specs arena q) ≡ is_lt (ordering_then o (tid_order p.tid q.tid))
+    by_keys o is = ap (λ (r : Ordering). is_lt (ordering_then r (tid_order p.tid q.tid))) is
+
+    go : (o : Ordering) → nat_cmp p.prefix q.prefix ≡ o → is_below specs arena p q ≡ is_before specs (entry_at specs arena p) (entry_at specs arena q)
+    go Equal is = by_prefix Equal is ∙ ap is_lt here
+    go Less is =
+        let less = a.prefix.below (entry_at specs arena q).entry.values q.prefix b.prefix.is (is_less p.prefix q.prefix is) b.prefix.fits in
+        by_prefix Less is ∙ sym (by_keys Less less)
+    go Greater is =
+        let less = b.prefix.below (entry_at specs arena p).entry.values p.prefix a.prefix.is (is_greater p.prefix q.prefix is) a.prefix.fits in
+        let after : is_before specs (entry_at specs arena q) (entry_at specs arena p) ≡ true = ap (λ (r : Ordering). is_lt (ordering_then r (tid_order q.tid p.tid))) less in
+        by_prefix Greater is ∙ sym (not_both specs order (entry_at specs arena p) (entry_at specs arena q) _ refl after)
 
 tail_sorted : (lt : Place → Place → Bool) (p : Place) (ps : List Place) → IsSortedBy lt (p ∷ ps) → IsSortedBy lt ps
 tail_sorted lt p ps up k d low high =
@@ -84,7 +117,7 @@ module _ (total : KeysTotal) (same : KeysSame) (specs : List KeySpec) (order : I
       let next = All-head (IsKept specs ms arena) q ps later in
       let rest = rises (q ∷ ps) later (tail_sorted (is_below specs arena) p (q ∷ ps) up) differ.1 in
       let not_above : is_before specs (entry_at specs arena q) (entry_at specs arena p) ≡ false =
-      sym (below_is specs ms arena q p next here) ∙ up 0 p (omega arith) (omega arith) in
+      sym (below_is specs order ms arena q p next here) ∙ up 0 p (omega arith) (omega arith) in
       let under = under_by specs (entry_at specs arena p) (entry_at specs arena q) _ refl differ.0.0 not_above in
       ((under, over_all specs order (entry_at specs arena p) (entry_at specs arena q) (entries_at specs arena ps) under rest.0), rest)
 

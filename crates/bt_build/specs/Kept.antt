@@ -1,10 +1,14 @@
 -- How the entries are kept: the values of each lie in an arena, and a place says where.
-use Rattle.std.specs.Prelude.{◌≡◌, false, ℕ, List, length, map, take, drop, All}
+use Rattle.std.specs.Prelude.{◌≡◌, ◌<◌, true, false, ℕ, List, length, map, take, drop, All}
+use Rattle.std.specs.declared.cmp.Ordering.TheVariants.{Less}
+use Rattle.tree_search.specs.Keys.{compare_values}
 use Rattle.key_orders.specs.declared.columns.ColType.{ColType}
 use Rattle.key_orders.specs.declared.columns.KeySpec.{KeySpec}
 use Rattle.key_orders.specs.declared.columns.Value.{Value}
 use Rattle.key_orders.specs.declared.more.MoreSpec.{MoreSpec}
 use Rattle.key_orders.specs.declared.Tid.{Tid}
+use Rattle.key_orders.specs.Keys.{columns_of, fits_columns}
+use Rattle.key_orders.specs.Prefixes.{IsPrefix}
 use Rattle.stored_keys.specs.Stored.{key_read}
 use Rattle.row_slots.specs.Slots.{LiesAt}
 use Rattle.tree_image.specs.Image.{LeafEntry, leaf_entry}
@@ -26,9 +30,17 @@ abbrev pub listed_in : List KeySpec → List MoreSpec → (arena : List ℕ) →
 listed_in specs more arena places =
     record { specs = specs; more = more; entries = entries_at specs arena places }
 
--- the entry of a place lies there and may be laid
+-- the number of a key that fits its columns: where that of another is greater, so is the key
+pub record HasPrefix (specs : List KeySpec) (key : List Value) (number : ℕ) : Type 0 where
+  pub fits : fits_columns specs key ≡ true
+  pub is : IsPrefix specs key number
+  pub below : (other : List Value) (higher : ℕ) → IsPrefix specs other higher → number < higher
+      → fits_columns specs other ≡ true → compare_values (columns_of specs) 0 key other ≡ Less
+
+-- the entry of a place lies there, has its number, and may be laid
 pub record IsKept (specs : List KeySpec) (more : List MoreSpec) (arena : List ℕ) (p : Place) : Type 0 where
   pub lies : LiesAt arena p.at
+  pub prefix : HasPrefix specs (entry_at specs arena p).entry.values p.prefix
   pub laid : MayBeLaid specs more (entry_at specs arena p)
 
 pub record AreKept (specs : List KeySpec) (more : List MoreSpec) (types : List ColType) (arena : List ℕ)

@@ -1,6 +1,7 @@
--- The order of places: that of the keys that lie there, and of TIDs where keys are equal.
+-- The order of places: that of the keys that lie there, and of TIDs where keys are equal. The numbers of keys tell most
+-- of them apart.
 use Rattle.std.specs.Prelude.{◌+◌, ℕ, Bool, List, length, drop}
-use Rattle.std.specs.Ordering.{is_lt, ordering_then}
+use Rattle.std.specs.Ordering.{is_lt, nat_cmp, ordering_then}
 use Rattle.std.specs.declared.cmp.Ordering.{Ordering}
 use Rattle.tree_search.specs.Keys.{compare_values}
 use Rattle.key_orders.specs.declared.columns.KeySpec.{KeySpec}
@@ -18,7 +19,9 @@ key_order_at specs arena a b =
     compare_values (columns_of specs) 0 (first_values (length specs) arena a) (first_values (length specs) arena b)
 
 abbrev pub place_order : List KeySpec → (arena : List ℕ) → Place → Place → Ordering
-place_order specs arena p q = ordering_then (key_order_at specs arena p.at q.at) (tid_order p.tid q.tid)
+place_order specs arena p q =
+    ordering_then (nat_cmp p.prefix q.prefix)
+    (ordering_then (key_order_at specs arena p.at q.at) (tid_order p.tid q.tid))
 
 abbrev pub is_below : List KeySpec → (arena : List ℕ) → Place → Place → Bool
 is_below specs arena p q = is_lt (place_order specs arena p q)

@@ -12,7 +12,7 @@ ghost use Rattle.bt_build.specs.Outcome.{IsAnswer};
 use crate::build::{BuiltTree, build_kept};
 use crate::fault::IndexFault;
 use crate::source::Source;
-use key_orders::{ColType, KeySpec, MoreSpec, Tid, ValueRef};
+use key_orders::{ColType, KeySpec, MoreSpec, Tid, ValueRef, key_prefix};
 use outside::NoMemory;
 use std::alloc::Global;
 use std::marker::Model;
@@ -21,9 +21,10 @@ use stored_keys::{RowValues, write_key};
 // A value of an index has fewer bytes than these (varatt.h).
 const MOST_BYTES: usize = 1073741820;
 
-// Where the values of an entry lie in the arena, and its TID.
+// Where the values of an entry lie in the arena, a number of its key that rises with keys, and its TID.
 #[derive(Clone, Copy, Debug, PartialEq, Eq)]
 pub(crate) struct Place {
+    pub(crate) prefix: u64,
     pub(crate) at: u32,
     pub(crate) tid: Tid,
 }
@@ -151,9 +152,15 @@ impl EntryList {
             return Err(NoMemory);
         }
         let at = self.arena.len();
+        let prefix = key_prefix(&self.specs, values.key);
         self.places.reserve(1)?;
         write_key(&mut self.arena, values)?;
-        push_in_room(&mut self.places, Place { at: at as u32, tid });
+        let place = Place {
+            prefix,
+            at: at as u32,
+            tid,
+        };
+        push_in_room(&mut self.places, place);
         Ok(())
     }
 

@@ -102,6 +102,10 @@ pub(crate) fn compare_tids(a: Tid, b: Tid) -> Ordering
 fn compare_places(specs: &[KeySpec], arena: &[u8], a: Place, b: Place) -> Ordering
     ensures { result ≡ place_order specs.now arena.now a b }
 {
+    let prefixes = a.prefix.cmp(&b.prefix);
+    if prefixes.is_ne() {
+        return prefixes;
+    }
     let keys = compare_keys(specs, arena, a.at, b.at);
     if keys.is_ne() {
         return keys;

@@ -122,8 +122,8 @@ fn read_item<'p>(
     }
 }
 
-/// Reads the items of a leaf from a spot on, to the next entry that the scan wants, and moves the spot behind it; `keys`
-/// then has its key.
+/// Reads the items of a leaf from a spot on, to the next entry that the scan wants, and moves the spot behind it;
+/// `keys` then has its key.
 ///
 /// The spot stands at the scan, and `page` is its leaf. The entry is the first of what was left, and what is left
 /// afterwards are the others; at the end nothing was left; and what is left on the way to the right is what was left.

@@ -1,6 +1,7 @@
 use Rattle.std.proofs.Common.{rules, ◌≡◌}
 use Rattle.std.specs.Prelude.{Some, length}
 use Rattle.std.specs.Ordering.{is_lt}
+use Rattle.std.specs.Cmp.{nat_cmp_total, on_total, then_total}
 use Rattle.std.proofs.lemmas.Fn.{always_returns_same}
 use Rattle.std.proofs.lemmas.List.Sorted.{ranks_by}
 use Rattle.tree_search.specs.Keys.{Separator}
@@ -15,5 +16,6 @@ returns-clause-sorted c =
     let specs = c.args.specs.now in
     let arena = c.args.arena.now in
     let key : Place → Separator Value Tid = λ p. record { kept = first_values (length specs) arena p.at; tid = Some p.tid } in
-    c.sort_unstable_by.ensures.sorted (is_below specs arena) (ranks_by (c.key_orders_are_total.ensures.keys specs) key)
+    let total = then_total (on_total (λ (p : Place). p.prefix) nat_cmp_total) (on_total key (c.key_orders_are_total.ensures.keys specs)) in
+    c.sort_unstable_by.ensures.sorted (is_below specs arena) (ranks_by total (λ (p : Place). p))
     (always_returns_same _ (λ a r. is_lt r ≡ is_below specs arena a.0.now a.1.0.now) _ (λ a r q k. search rules))
