@@ -19,7 +19,7 @@ use Rattle.built_pages.specs.Items.{entry_types, leaf_item, tids_of}
 use Rattle.built_pages.specs.Sizes.{grouping_of, items_for}
 use Rattle.bt_build.specs.declared.entries.Place.{Place}
 use Rattle.bt_build.specs.declared.groups.Item.{Item}
-use Rattle.bt_build.specs.Kept.{entries_at, entry_at}
+use Rattle.bt_build.specs.Kept.{IsKept, entries_at, entry_at}
 use Rattle.bt_build.specs.Outcome.{is_too_large}
 use Rattle.bt_build.proofs.LargeLaws.{too_large}
 use Rattle.bt_build.specs.Groups.{AreItems, Follow, IsItem, IsNextItem, entries_in, size_with}
@@ -117,6 +117,16 @@ short_body specs ms e body is small =
     let low = ltb-false 2704 (index_size (length body)) (too_large specs ms e body is ∙ small) in
     omega (arith, low)
 
+-- what a place tells of the body of an entry that isn't too large
+pub short_told : (specs : List KeySpec) (ms : List MoreSpec) (arena : List ℕ) (p : Place) → IsKept specs ms arena p → is_too_large specs ms (entry_at specs arena p) ≡ false
+    → (p.body_length ≡ length (index_body (entry_types specs ms) ((entry_at specs arena p).entry.values ++ (entry_at specs arena p).more))) × (p.body_length ≤ 2696)
+short_told specs ms arena p kept small =
+    let e = entry_at specs arena p in
+    let body : List ℕ = index_body (entry_types specs ms) (e.entry.values ++ e.more) in
+    let short = short_body specs ms e body refl small in
+    let told = kept.length_is in
+    (omega (arith, told, short), omega (arith, told, short))
+
 pub most_few : (len : ℕ) (b : Bool) (most : ℕ) → most ≡ greatest (λ n. nat_le (posting_size len (suc n)) 2704) (if b then 0 else 63) → most ≤ 63
 most_few len true most is = omega (arith, is)
 most_few len false most is = let m = most_is len 63 in omega (arith, is, m)
@@ -127,7 +137,7 @@ includes_is (m ∷ ms) = ap not (ne_eqb (length (m ∷ ms)) 0 (λ h. omega (arit
 
 -- what a read past the end of a list of places would give
 abbrev pub nowhere : Place
-nowhere = record { prefix = 0; at = 0; tid = record { block = 0; item = 0 } }
+nowhere = record { prefix = 0; at = 0; tid = record { block = 0; item = 0 }; body_length = 0 }
 
 pub drop_entries : (specs : List KeySpec) (arena : List ℕ) (ps : List Place) (n : ℕ) → entries_at specs arena (drop n ps) ≡ drop n (entries_at specs arena ps)
 drop_entries specs arena ps zero = refl

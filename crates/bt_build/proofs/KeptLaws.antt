@@ -19,7 +19,7 @@ use Rattle.page_write.specs.Bodies.{IsShortEnough}
 use Rattle.page_write.specs.Fields.{IsTid}
 use Rattle.built_pages.specs.Items.{MayBeLaid, entry_types}
 use Rattle.bt_build.specs.declared.entries.Place.{Place}
-use Rattle.bt_build.specs.Kept.{AreKept, HasPrefix, IsKept, entries_at, entry_at, entry_with, listed_in}
+use Rattle.bt_build.specs.Kept.{AreKept, HasPrefix, IsKept, entries_at, entry_at, entry_with, listed_in, told_length}
 use Rattle.bt_build.specs.Listed.{AreApart, AreColumns, AreValues, IsNewTid}
 use Rattle.bt_build.proofs.MayLaws.{may_be_laid}
 
@@ -51,6 +51,7 @@ kept_still : (specs : List KeySpec) (ms : List MoreSpec) (arena more : List ℕ)
 kept_still specs ms arena more p kept = record {
   lies = lies_more arena more p.at kept.lies;
   prefix = subst (λ (e : LeafEntry). HasPrefix specs e.entry.values p.prefix) (sym (same_entry specs arena more p kept.lies)) kept.prefix;
+  length_is = kept.length_is ∙ ap (told_length specs ms) (sym (same_entry specs arena more p kept.lies));
   laid = subst (MayBeLaid specs ms) (sym (same_entry specs arena more p kept.lies)) kept.laid;
 }
 
@@ -92,29 +93,32 @@ module _ (specs : List KeySpec) (ms : List MoreSpec) (arena : List ℕ) (places 
       map-append (entry_at specs after) places (p ∷ [])
       ∙ (λ i. same_entries specs ms arena (stored_key (key ++ more)) places kept i ++ new_entry specs arena key more p at whole storable i ∷ [])
 
-  kept_last : HasPrefix specs key p.prefix → MayBeLaid specs ms (leaf_entry key more p.tid false) → IsKept specs ms after p
-  kept_last prefix may = record {
+  kept_last : HasPrefix specs key p.prefix → p.body_length ≡ told_length specs ms (leaf_entry key more p.tid false) → MayBeLaid specs ms (leaf_entry key more p.tid false)
+      → IsKept specs ms after p
+  kept_last prefix long may = record {
     lies = subst (LiesAt after) (sym at) (lies_last arena (key ++ more) storable);
     prefix = subst (λ (e : LeafEntry). HasPrefix specs e.entry.values p.prefix) (sym (new_entry specs arena key more p at whole storable)) prefix;
+    length_is = long ∙ ap (told_length specs ms) (sym (new_entry specs arena key more p at whole storable));
     laid = subst (MayBeLaid specs ms) (sym (new_entry specs arena key more p at whole storable)) may;
   }
 
-  pub all_kept : HasPrefix specs key p.prefix → MayBeLaid specs ms (leaf_entry key more p.tid false) → All (IsKept specs ms after) (places ++ p ∷ [])
-  all_kept prefix may =
+  pub all_kept : HasPrefix specs key p.prefix → p.body_length ≡ told_length specs ms (leaf_entry key more p.tid false) → MayBeLaid specs ms (leaf_entry key more p.tid false)
+      → All (IsKept specs ms after) (places ++ p ∷ [])
+  all_kept prefix long may =
       All-append (IsKept specs ms after) places (p ∷ []) (all_still specs ms arena (stored_key (key ++ more)) places kept)
-      (All-cons (IsKept specs ms after) p [] (kept_last prefix may) (All-nil (IsKept specs ms after)))
+      (All-cons (IsKept specs ms after) p [] (kept_last prefix long may) (All-nil (IsKept specs ms after)))
 
 pub kept_more : (specs : List KeySpec) (ms : List MoreSpec) (types : List ColType) (arena : List ℕ) (places : List Place) (key more : List Value) (p : Place)
     → AreKept specs ms types arena places → AreValues (listed_in specs ms arena places) key more → All IsShortEnough key → All IsShortEnough more
     → IsTid p.tid → p.tid.item ≢ 0 → IsNewTid (listed_in specs ms arena places) p.tid → All IsStorable (key ++ more) → p.at ≡ length arena → HasPrefix specs key p.prefix
-    → AreKept specs ms types (arena ++ stored_key (key ++ more)) (places ++ p ∷ [])
-kept_more specs ms types arena places key more p kept values short short_more fits some fresh storable at prefix =
+    → p.body_length ≡ told_length specs ms (leaf_entry key more p.tid false) → AreKept specs ms types (arena ++ stored_key (key ++ more)) (places ++ p ∷ [])
+kept_more specs ms types arena places key more p kept values short short_more fits some fresh storable at prefix long =
     let whole = values.key_fits.whole in
     let may = may_be_laid (listed_in specs ms arena places) key more p.tid kept.columns values short short_more fits some in
     record {
       columns = kept.columns;
       types_are = kept.types_are;
-      each = all_kept specs ms arena places key more p kept.each at whole storable prefix may;
+      each = all_kept specs ms arena places key more p kept.each at whole storable prefix long may;
       apart =
           subst AreApart (sym (entries_more specs ms arena places key more p kept.each at whole storable))
           (AreApart.more (entries_at specs arena places) (leaf_entry key more p.tid false) kept.apart fresh);

@@ -1,5 +1,5 @@
 -- How the entries are kept: the values of each lie in an arena, and a place says where.
-use Rattle.std.specs.Prelude.{◌≡◌, ◌<◌, true, false, ℕ, List, length, map, take, drop, All}
+use Rattle.std.specs.Prelude.{◌≡◌, ◌<◌, true, false, ℕ, List, ◌++◌, length, map, take, drop, min, All}
 use Rattle.std.specs.declared.cmp.Ordering.TheVariants.{Less}
 use Rattle.tree_search.specs.Keys.{compare_values}
 use Rattle.key_orders.specs.declared.columns.ColType.{ColType}
@@ -11,6 +11,7 @@ use Rattle.key_orders.specs.Keys.{columns_of, fits_columns}
 use Rattle.key_orders.specs.Prefixes.{IsPrefix}
 use Rattle.stored_keys.specs.Stored.{key_read}
 use Rattle.row_slots.specs.Slots.{LiesAt}
+use Rattle.page_write.specs.Bodies.{index_body}
 use Rattle.tree_image.specs.Image.{LeafEntry, leaf_entry}
 use Rattle.built_pages.specs.Items.{MayBeLaid, entry_types}
 use Rattle.bt_build.specs.declared.entries.Place.{Place}
@@ -37,10 +38,15 @@ pub record HasPrefix (specs : List KeySpec) (key : List Value) (number : ℕ) : 
   pub below : (other : List Value) (higher : ℕ) → IsPrefix specs other higher → number < higher
       → fits_columns specs other ≡ true → compare_values (columns_of specs) 0 key other ≡ Less
 
--- the entry of a place lies there, has its number, and may be laid
+-- how many bytes the body of an entry has, or 65535 where it has more
+abbrev pub told_length : List KeySpec → List MoreSpec → LeafEntry → ℕ
+told_length specs more e = min 65535 (length (index_body (entry_types specs more) (e.entry.values ++ e.more)))
+
+-- the entry of a place lies there, has its number and its length, and may be laid
 pub record IsKept (specs : List KeySpec) (more : List MoreSpec) (arena : List ℕ) (p : Place) : Type 0 where
   pub lies : LiesAt arena p.at
   pub prefix : HasPrefix specs (entry_at specs arena p).entry.values p.prefix
+  pub length_is : p.body_length ≡ told_length specs more (entry_at specs arena p)
   pub laid : MayBeLaid specs more (entry_at specs arena p)
 
 pub record AreKept (specs : List KeySpec) (more : List MoreSpec) (types : List ColType) (arena : List ℕ)

@@ -1,12 +1,15 @@
 -- The order of places: that of the keys that lie there, and of TIDs where keys are equal. The numbers of keys tell most
--- of them apart.
-use Rattle.std.specs.Prelude.{◌+◌, ℕ, Bool, List, length, drop}
+-- of them apart. And the places of entries that are too large.
+use Rattle.std.specs.Prelude.{◌+◌, ℕ, Bool, List, length, map, drop, nat_lt}
+use Rattle.std.specs.List.{filter}
 use Rattle.std.specs.Ordering.{is_lt, nat_cmp, ordering_then}
 use Rattle.std.specs.declared.cmp.Ordering.{Ordering}
 use Rattle.tree_search.specs.Keys.{compare_values}
 use Rattle.key_orders.specs.declared.columns.KeySpec.{KeySpec}
 use Rattle.key_orders.specs.declared.columns.Value.{Value}
+use Rattle.key_orders.specs.declared.Tid.{Tid}
 use Rattle.key_orders.specs.Keys.{columns_of, tid_order}
+use Rattle.page_write.specs.Tuples.{index_size}
 use Rattle.stored_keys.specs.Stored.{values_read}
 use Rattle.bt_build.specs.declared.entries.Place.{Place}
 
@@ -25,3 +28,10 @@ place_order specs arena p q =
 
 abbrev pub is_below : List KeySpec → (arena : List ℕ) → Place → Place → Bool
 is_below specs arena p q = is_lt (place_order specs arena p q)
+
+-- as an item of its own the entry of a place would have more than 2704 bytes (BTMaxItemSize)
+abbrev pub is_large : Place → Bool
+is_large p = nat_lt 2704 (index_size p.body_length)
+
+abbrev pub large_tids : List Place → List Tid
+large_tids places = map (λ p. p.tid) (filter is_large places)

@@ -1,5 +1,5 @@
 //! The index of listed entries.
-ghost use Rattle.std.specs.Prelude.{◌≡◌, ◌≤◌, ◌++◌, All, IfOk, OnOk};
+ghost use Rattle.std.specs.Prelude.{◌≡◌, ◌≤◌, ◌++◌, IfOk, OnOk};
 ghost use Rattle.std.specs.List.{AllByRecursion};
 ghost use Rattle.page_write.specs.Pages.{meta_page};
 ghost use Rattle.tree_built.specs.Built.{lay_levels};
@@ -8,8 +8,8 @@ ghost use Rattle.bt_build.specs.Groups.{AreItems};
 ghost use Rattle.bt_build.specs.Kept.{AreKept, listed_in};
 ghost use Rattle.bt_build.specs.Laid.{levels_bytes};
 ghost use Rattle.bt_build.specs.Levels.{AreLevels, sheets_of};
-ghost use Rattle.bt_build.specs.Outcome.{IsAnswer, IsTreeAnswer, large_among, meta_for};
-ghost use Rattle.bt_build.specs.Source.{AreSorted, IsPlaceOf, IsSource, entries_of, entries_sorted};
+ghost use Rattle.bt_build.specs.Outcome.{IsAnswer, IsTreeAnswer, meta_for};
+ghost use Rattle.bt_build.specs.Source.{AreSorted, entries_sorted};
 
 use crate::entries::{EntryList, Place, own_places};
 use crate::fault::IndexFault;
@@ -21,7 +21,7 @@ use crate::paging::{lay_above, lay_leaves};
 use crate::source::{Sorted, Source, large_tid};
 use bt_meta::Meta;
 use built_pages::index_trees_may_be_laid;
-use key_orders::{Octets, Tid, key_orders_are_total, keys_are_searchable};
+use key_orders::{Octets, key_orders_are_total, keys_are_searchable};
 use outside::NoMemory;
 use page_write::{meta_page, push_bytes};
 use std::alloc::Global;
@@ -143,13 +143,7 @@ fn build_sorted<'a>(
         result }
 {
     index_trees_may_be_laid();
-    let items = cut_items(
-        alloc,
-        sorted.source,
-        sorted.places,
-        &mut buffers.values,
-        &mut buffers.body,
-    )?;
+    let items = cut_items(alloc, sorted.source, sorted.places)?;
     if MOST_ITEMS < items.len() {
         return Err(IndexFault::NoMemory);
     }
@@ -161,20 +155,6 @@ fn build_sorted<'a>(
     let mut bytes = begin_file(alloc, blocks, all.levels.len() as u32)?;
     lay_levels(sorted, &items, &all, buffers, &mut bytes)?;
     Ok(BuiltTree { bytes, blocks })
-}
-
-// The lowest TID of the entries that are too large.
-fn large_among<'a>(
-    source: Source<'a>,
-    places: &[Place],
-    buffers: &mut Buffers<'a>,
-) -> Result<Option<Tid>, NoMemory>
-    requires source { IsSource source }
-    requires kept { All (IsPlaceOf source) places.now }
-    ensures { IfOk result (λ tid. tid ≡ large_among source.entry.specs.now source.entry.more.now
-        (entries_of source.entry places.now)) }
-{
-    large_tid(source, places, &mut buffers.values, &mut buffers.body)
 }
 
 // The index of entries that lie at these places.
@@ -189,16 +169,16 @@ pub(crate) fn build_kept(
 {
     key_orders_are_total();
     keys_are_searchable();
-    let mut in_order = own_places(alloc, places)?;
-    sort_places(source.specs, source.arena, &mut in_order);
-    let mut buffers = Buffers::new(alloc);
-    if let Some(tid) = large_among(source, places, &mut buffers)? {
+    if let Some(tid) = large_tid(places) {
         return Err(IndexFault::KeyTooLarge { tid });
     }
+    let mut in_order = own_places(alloc, places)?;
+    sort_places(source.specs, source.arena, &mut in_order);
     let sorted = Sorted {
         source,
         places: &in_order,
     };
+    let mut buffers = Buffers::new(alloc);
     build_sorted(alloc, sorted, &mut buffers)
 }
 

@@ -14,6 +14,7 @@ use crate::fault::IndexFault;
 use crate::source::Source;
 use key_orders::{ColType, KeySpec, MoreSpec, Tid, ValueRef, key_prefix};
 use outside::NoMemory;
+use page_write::index_body_length;
 use std::alloc::Global;
 use std::marker::Model;
 use stored_keys::{RowValues, write_key};
@@ -21,12 +22,17 @@ use stored_keys::{RowValues, write_key};
 // A value of an index has fewer bytes than these (varatt.h).
 const MOST_BYTES: usize = 1073741820;
 
-// Where the values of an entry lie in the arena, a number of its key that rises with keys, and its TID.
+// The most bytes of a body that a place can tell: more are told as so many.
+const MOST_LENGTH: usize = 65535;
+
+// Where the values of an entry lie in the arena, a number of its key that rises with keys, its TID, and how many bytes
+// the body of its item has, or 65535 where it has more.
 #[derive(Clone, Copy, Debug, PartialEq, Eq)]
 pub(crate) struct Place {
     pub(crate) prefix: u64,
     pub(crate) at: u32,
     pub(crate) tid: Tid,
+    pub(crate) body_length: u16,
 }
 
 /// The entries of an index that is to be built, in the order in which they were added. Contracts see the columns of the
@@ -153,12 +159,14 @@ impl EntryList {
         }
         let at = self.arena.len();
         let prefix = key_prefix(&self.specs, values.key);
+        let whole = index_body_length(&self.types, values.key, values.more);
         self.places.reserve(1)?;
         write_key(&mut self.arena, values)?;
         let place = Place {
             prefix,
             at: at as u32,
             tid,
+            body_length: whole.min(MOST_LENGTH) as u16,
         };
         push_in_room(&mut self.places, place);
         Ok(())

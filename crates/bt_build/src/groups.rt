@@ -4,12 +4,11 @@ ghost use Rattle.tree_built.specs.Groups.{greatest, run_length};
 ghost use Rattle.page_write.specs.Posting.{posting_size};
 ghost use Rattle.built_pages.specs.Sizes.{grouping_of};
 ghost use Rattle.bt_build.specs.Groups.{AreItems, IsNextItem, size_with};
-ghost use Rattle.bt_build.specs.Source.{IsPlaceOf, IsSmallOf, IsSource, entries_of, entry_of};
+ghost use Rattle.bt_build.specs.Source.{IsPlaceOf, IsSmallOf, entries_of, entry_of};
 
 use crate::entries::Place;
 use crate::order::compare_keys;
-use crate::source::{Source, put_entry_body};
-use key_orders::ValueRef;
+use crate::source::Source;
 use outside::NoMemory;
 use page_layout::max_align;
 use std::alloc::Global;
@@ -34,6 +33,10 @@ fn have_one_key(source: Source<'_>, a: Place, b: Place) -> bool
     ensures { result ≡ (grouping_of source.entry.specs.now source.entry.more.now).same_key
         (entry_of source.entry a) (entry_of source.entry b) }
 {
+    // The lower of two numbers is that of the lower key.
+    if a.prefix < b.prefix {
+        return false;
+    }
     compare_keys(source.specs, source.arena, a.at, b.at).is_eq()
 }
 
@@ -79,43 +82,32 @@ fn item_size(len: usize, more: usize) -> u16
 }
 
 // The item that begins with an entry.
-fn next_item<'a>(
-    source: Source<'a>,
-    places: &[Place],
-    first: usize,
-    values: &mut Vec<ValueRef<'a>>,
-    body: &mut Vec<u8>,
-) -> Result<Item, NoMemory>
-    requires source { IsSource source }
+fn next_item(source: Source<'_>, places: &[Place], first: usize) -> Item
     requires kept { All (IsPlaceOf source) places.now }
     requires small { All (IsSmallOf source) places.now }
     requires first { first < length places.now }
-    ensures { IfOk result (λ item. IsNextItem source.entry.specs.now source.entry.more.now first
-        (entries_of source.entry (drop first places.now)) item) }
+    ensures { IsNextItem source.entry.specs.now source.entry.more.now first
+        (entries_of source.entry (drop first places.now)) result }
 {
     let place = places[first];
-    put_entry_body(source, place, values, body)?;
-    let len = body.len();
+    let len = place.body_length as usize;
     let most = most_more(!source.more.is_empty(), len);
     let (_, later) = places.split_at(first + 1);
     let more = run_of(source, place, later, most);
     let size = item_size(len, more);
-    Ok(Item {
+    Item {
         first,
         count: more as u16 + 1,
         size,
-    })
+    }
 }
 
 // The sorted entries in items, from the first on.
-pub(crate) fn cut_items<'a>(
+pub(crate) fn cut_items(
     alloc: Global,
-    source: Source<'a>,
+    source: Source<'_>,
     places: &[Place],
-    values: &mut Vec<ValueRef<'a>>,
-    body: &mut Vec<u8>,
 ) -> Result<Vec<Item>, NoMemory>
-    requires source { IsSource source }
     requires kept { All (IsPlaceOf source) places.now }
     requires small { All (IsSmallOf source) places.now }
     ensures { IfOk result (λ items. AreItems source.entry.specs.now source.entry.more.now
@@ -124,7 +116,7 @@ pub(crate) fn cut_items<'a>(
     let mut items = Vec::new(alloc);
     let mut first = 0;
     while first < places.len() {
-        let item = next_item(source, places, first, values, body)?;
+        let item = next_item(source, places, first);
         items.push(item)?;
         first += item.count as usize;
     }

@@ -1,10 +1,11 @@
 //! What entries are laid from: the columns of the index, and the values that lie in the arena.
-ghost use Rattle.std.specs.Prelude.{◌≡◌, ◌++◌, All, IfOk, OnOk, nat_lt};
+ghost use Rattle.std.specs.Prelude.{◌≡◌, ◌++◌, IfOk, OnOk, nat_lt};
 ghost use Rattle.page_write.specs.Bodies.{body_flags, index_body};
 ghost use Rattle.page_write.specs.Tuples.{index_size};
 ghost use Rattle.built_pages.specs.Items.{entry_types};
-ghost use Rattle.bt_build.specs.Outcome.{large_among, lower_tid};
-ghost use Rattle.bt_build.specs.Source.{IsPlaceOf, IsSource, entries_of, entry_of};
+ghost use Rattle.bt_build.specs.Outcome.{lower_tid, lowest_tid};
+ghost use Rattle.bt_build.specs.Places.{large_tids};
+ghost use Rattle.bt_build.specs.Source.{IsPlaceOf, IsSource, entry_of};
 
 use crate::bodies::{put_body, read_values};
 use crate::entries::Place;
@@ -14,7 +15,7 @@ use outside::NoMemory;
 use page_write::BodyFlags;
 
 // The most bytes of a body whose plain item isn't too large: with a head of 8 bytes it has 2704 (BTMaxItemSize).
-const MOST_BODY: usize = 2696;
+const MOST_BODY: u16 = 2696;
 
 #[derive(Clone, Copy)]
 pub(crate) struct Source<'a> {
@@ -56,10 +57,10 @@ pub(crate) fn put_entry_body<'a>(
 }
 
 // Whether the plain item of a body of so many bytes is too large.
-fn is_too_long(len: usize) -> bool
-    ensures { result ≡ nat_lt 2704 (index_size len) }
+fn is_too_long(body_length: u16) -> bool
+    ensures { result ≡ nat_lt 2704 (index_size body_length) }
 {
-    MOST_BODY < len
+    MOST_BODY < body_length
 }
 
 fn lower_tid(tid: Tid, other: Option<Tid>) -> Tid
@@ -78,26 +79,17 @@ fn lower_tid(tid: Tid, other: Option<Tid>) -> Tid
 }
 
 // The lowest TID of the entries whose plain items are too large.
-pub(crate) fn large_tid<'a>(
-    source: Source<'a>,
-    places: &[Place],
-    values: &mut Vec<ValueRef<'a>>,
-    body: &mut Vec<u8>,
-) -> Result<Option<Tid>, NoMemory>
-    requires source { IsSource source }
-    requires kept { All (IsPlaceOf source) places.now }
-    ensures { IfOk result (λ tid. tid ≡ large_among source.entry.specs.now source.entry.more.now
-        (entries_of source.entry places.now)) }
+pub(crate) fn large_tid(places: &[Place]) -> Option<Tid>
+    ensures { result ≡ lowest_tid (large_tids places.now) }
 {
     let mut lowest = None;
     let mut left = places.len();
     while 0 < left {
         left -= 1;
         let place = places[left];
-        put_entry_body(source, place, values, body)?;
-        if is_too_long(body.len()) {
+        if is_too_long(place.body_length) {
             lowest = Some(lower_tid(place.tid, lowest));
         }
     }
-    Ok(lowest)
+    lowest
 }

@@ -5,3 +5,4 @@ pub mod TupleReading
 pub mod PostingReading
 pub mod BodyLaws
 pub mod BodyReading
+pub mod LengthLaws

@@ -13,7 +13,7 @@ use key_orders::{ColType, ValueRef};
 use outside::NoMemory;
 
 // A varlena of more bytes than these has a header of 4 bytes (varatt.h, VARATT_SHORT_MAX).
-const SHORT_MAX: usize = 126;
+pub(crate) const SHORT_MAX: usize = 126;
 
 // Adds one byte.
 fn push_byte(out: &mut Vec<u8>, byte: u8) -> Result<(), NoMemory>
@@ -89,7 +89,7 @@ fn is_aligned_value(ctype: ColType, value: ValueRef<'_>) -> bool
 
 // How many bytes stand between a place and a value that comes next.
 #[tactic(auto, unfolding(crate::specs::Bodies::padding_before))]
-fn padding_before(ctype: ColType, value: ValueRef<'_>, place: usize) -> u16
+pub(crate) fn padding_before(ctype: ColType, value: ValueRef<'_>, place: usize) -> u16
     requires aligned { HasAlignment ctype }
     requires place { place + 8 < 2 ^ 64 }
     ensures { result ≡ padding_before ctype (value_shown value.entry) place }
@@ -119,7 +119,8 @@ fn is_null(value: ValueRef<'_>) -> bool
     matches!(value, ValueRef::Null)
 }
 
-fn has_null(values: &[ValueRef<'_>]) -> bool
+// Whether a value is null.
+pub(crate) fn has_null(values: &[ValueRef<'_>]) -> bool
     ensures { result ≡ has_null (map value_shown values.now) }
 {
     for value in values {

@@ -5,6 +5,7 @@ mod bodies;
 mod heap_tuples;
 mod index_tuples;
 mod laws;
+mod lengths;
 mod meta;
 mod page;
 mod posting;
@@ -17,6 +18,7 @@ pub use laws::{
     bodies_read_back, heap_tuples_read_back, index_tuples_read_back, laid_pages_read_back,
     metapages_read_back, posting_tuples_read_back,
 };
+pub use lengths::index_body_length;
 pub use meta::meta_page;
 pub use page::PageWriter;
 pub use posting::put_posting_tuple;

@@ -8,6 +8,7 @@ use Rattle.bt_build.specs.Outcome.{large_among}
 use Rattle.bt_build.specs.Places.{is_below}
 use Rattle.bt_build.specs.Source.{entries_of}
 use Rattle.bt_build.proofs.EndLaws.{answer_is, indexable, written_back}
+use Rattle.bt_build.proofs.LargeLaws.{large_is}
 use Rattle.bt_build.proofs.SortedLaws.{sorted_in_order}
 use Rattle.bt_build.proofs.build.build_kept.Goals as goal
 
@@ -15,11 +16,16 @@ none_of : (o : Option Tid) (is : Option Tid) → o ≡ is → ((t : Tid) → o �
 none_of None is same other = sym same
 none_of (Some t) is same other = absurd (other t refl)
 
+pub returns-in-Some : goal.returns-in-Some
+returns-in-Some c =
+    let s = c.args.source in
+    sym (large_is s.specs.now s.more.now s.arena.now c.args.places.now c.requires.each) ∙ sym c.large_tid.ensures ∙ c.in-Some.is
+
 pub build_sorted-requires : goal.build_sorted-requires
 build_sorted-requires c =
     let s = c.args.source in
     let places = c.args.places.now in
-    let none : large_among s.specs.now s.more.now (entries_of s places) ≡ None = none_of c.in_ok-tid.field-0 _ c.in_ok-tid.ensures c.in_default.not-Some in
+    let none : large_among s.specs.now s.more.now (entries_of s places) ≡ None = none_of c.large_tid.result _ (c.large_tid.ensures ∙ large_is s.specs.now s.more.now s.arena.now places c.requires.each) c.in_default.not-Some in
     let new = c.sort_places.new.places in
     let old = c.in_ok-in_order.in_order.items in
     let back : c.deref.result.now ≡ new = c.deref.ensures.value
@@ -37,7 +43,7 @@ pub returns : goal.returns
 returns c =
     let s = c.args.source in
     let places = c.args.places.now in
-    let none : large_among s.specs.now s.more.now (entries_of s places) ≡ None = none_of c.in_ok-tid.field-0 _ c.in_ok-tid.ensures c.in_default.not-Some in
+    let none : large_among s.specs.now s.more.now (entries_of s places) ≡ None = none_of c.large_tid.result _ (c.large_tid.ensures ∙ large_is s.specs.now s.more.now s.arena.now places c.requires.each) c.in_default.not-Some in
     let new = c.sort_places.new.places in
     let old = c.in_ok-in_order.in_order.items in
     let back : c.deref.result.now ≡ new = c.deref.ensures.value
