@@ -1,17 +1,15 @@
 //! Runs of `copy` on small cases: rows of each type, and what is written where there are none.
-use outside::{MemFiles, MemSink, Part};
+use crate::expected::{PACKED, TEXT_COLUMN, expect, files_of};
+use outside::{MemFiles, Part};
 use run_files::{
-    BOOL_AND_TEXT, CLUSTER, EXTERNAL, INT_COLUMN, Item, LIVE, SUCCESSOR, TEXT_IN_TOAST, Tuple,
-    UPDATED, case_files, chunk_page, page_of, run_words,
+    BOOL_AND_TEXT, EXTERNAL, INT_COLUMN, Item, LIVE, SUCCESSOR, TEXT_IN_TOAST, Tuple, UPDATED,
+    chunk_page, page_of,
 };
 use std::alloc::Global;
 use std::process::Abort;
 use std::test::Fail;
 
-// One column, a text.
-const TEXT_COLUMN: &str = "[[column]]\nname = \"a\"\ntype = \"text\"\n";
-
-// Two of them.
+// Two columns of text.
 const TWO_TEXTS: &str =
     "[[column]]\nname = \"a\"\ntype = \"text\"\n[[column]]\nname = \"b\"\ntype = \"text\"\n";
 
@@ -39,123 +37,144 @@ fn expect_text(
     code: u8,
     text: &[u8],
 ) -> Result<(), Fail> {
-    let mut sink = MemSink::new(alloc, 16)?;
-    let answered = run_words(alloc, &["copy", "case.toml"], files, &mut sink)?;
-    assert_eq!(rt; sink.bytes(), text);
-    assert_eq!(rt; answered, code);
-    Ok(())
+    expect(rt, alloc, &["copy", "case.toml"], files, code, text)
 }
 
-// The files of a case with these columns and this heap.
-fn files_of(alloc: Global, columns: &str, heap: &[u8]) -> Result<MemFiles, Fail> {
-    let text = format!(in alloc; "{CLUSTER}{columns}")?;
-    case_files(alloc, text.as_str(), heap)
-}
-
-// The same of a table with one row.
-fn expect_row(
+// The same over a table with these columns and this heap.
+fn expect_of_heap(
     rt: &impl Abort,
     alloc: Global,
     columns: &str,
-    tuple: Tuple<'_>,
+    heap: &[u8],
     code: u8,
     text: &[u8],
 ) -> Result<(), Fail> {
-    let mut files = files_of(alloc, columns, &page_of(0, &[Item::Tuple(tuple)]))?;
+    let mut files = files_of(alloc, columns, "", heap)?;
     expect_text(rt, alloc, &mut files, code, text)
 }
 
-// A tuple of so many attributes with a varlena among them.
-fn varying(infomask2: u16, body: &[u8]) -> Tuple<'_> {
-    Tuple {
+// A page with a row: its words infomask2 and infomask, and its bytes.
+fn row_page((infomask2, infomask, body): (u16, u16, &[u8])) -> [u8; 8192] {
+    let tuple = Tuple {
         infomask2,
-        infomask: 0x0902,
+        infomask,
         body,
         ..LIVE
-    }
+    };
+    page_of(0, &[Item::Tuple(tuple)])
 }
+
+// The columns of a table, its one row, and the status and the text of its copy.
+const ROWS: [(&str, (u16, u16, &[u8]), u8, &[u8]); 4] = [
+    (TEXT_COLUMN, (1, 0x0902, PACKED), 2, b"\\#\n"),
+    (
+        EACH_TYPE,
+        (12, 0x0902, EACH_VALUE),
+        0,
+        b"-1\t1000000\t-9223372036854775808\t-2147483648\t4294967295\t0\t-32768\tt\t\
+00112233-4455-6677-8899-aabbccddeeff\t\\\\x00ab\t\\\\x0102f0\t\\\\x0a\t\\n\n",
+    ),
+    // Where something is found, or is in doubt, there are no rows.
+    (
+        INT_COLUMN,
+        (2, 0x0900, b"\x07\0\0\0"),
+        1,
+        b"finding H4 heap block 0 item 1\nfindings 1 unjudged 0\nverdict findings\n",
+    ),
+    (
+        INT_COLUMN,
+        (1, 0x4900, b"\x07\0\0\0"),
+        2,
+        b"unjudged U1 heap block 0 item 1\nfindings 0 unjudged 1\nverdict unjudged\n",
+    ),
+];
 
 #[test]
 fn rows_are_written(rt: HostRuntime) -> Result<(), Fail> {
-    let alloc = rt.alloc();
-    let first = varying(2, b"\x01\x07hi");
-    let second = Tuple {
+    for (columns, row, code, text) in ROWS {
+        expect_of_heap(&rt, rt.alloc(), columns, &row_page(row), code, text)?;
+    }
+    Ok(())
+}
+
+// Two rows, of which the second keeps the length of its text in four bytes.
+const TWO_ROWS: [Item<'static>; 2] = [
+    Item::Tuple(Tuple {
+        infomask2: 2,
+        infomask: 0x0902,
+        body: b"\x01\x07hi",
+        ..LIVE
+    }),
+    Item::Tuple(Tuple {
         item: 2,
-        ..varying(2, b"\x01\0\0\0\x18\0\0\0hi")
-    };
-    let page = page_of(0, &[Item::Tuple(first), Item::Tuple(second)]);
-    let mut files = files_of(alloc, BOOL_AND_TEXT, &page)?;
-    expect_text(&rt, alloc, &mut files, 0, b"t\thi\nt\thi\n")?;
-    let packed = varying(1, b"\x32\0\0\0\0\0\0\0\0\0\0\0");
-    expect_row(&rt, alloc, TEXT_COLUMN, packed, 2, b"\\#\n")?;
-    let each = varying(12, EACH_VALUE);
-    let line = b"-1\t1000000\t-9223372036854775808\t-2147483648\t4294967295\t0\t-32768\tt\t\
-00112233-4455-6677-8899-aabbccddeeff\t\\\\x00ab\t\\\\x0102f0\t\\\\x0a\t\\n\n";
-    expect_row(&rt, alloc, EACH_TYPE, each, 0, line)
+        infomask2: 2,
+        infomask: 0x0902,
+        body: b"\x01\0\0\0\x18\0\0\0hi",
+        ..LIVE
+    }),
+];
+
+#[test]
+fn rows_are_written_in_turn(rt: HostRuntime) -> Result<(), Fail> {
+    let page = page_of(0, &TWO_ROWS);
+    let text = b"t\thi\nt\thi\n";
+    expect_of_heap(&rt, rt.alloc(), BOOL_AND_TEXT, &page, 0, text)
 }
 
 // A tab and a backslash in a text, and a null.
 #[test]
 fn bytes_are_escaped(rt: HostRuntime) -> Result<(), Fail> {
-    let alloc = rt.alloc();
-    let tuple = Tuple {
-        infomask: 0x0903,
-        ..varying(2, b"\x09a\x09\\")
-    };
-    let mut page = page_of(0, &[Item::Tuple(tuple)]);
+    let mut page = row_page((2, 0x0903, b"\x09a\x09\\"));
     page[8183] = 1;
-    let mut files = files_of(alloc, TWO_TEXTS, &page)?;
-    expect_text(&rt, alloc, &mut files, 0, b"a\\t\\\\\t\\N\n")
+    let text = b"a\\t\\\\\t\\N\n";
+    expect_of_heap(&rt, rt.alloc(), TWO_TEXTS, &page, 0, text)
 }
 
-// The old version of a row isn't written, and a value in the TOAST table is.
+const UPDATED_ROW: [Item<'static>; 2] = [Item::Tuple(UPDATED), Item::Tuple(SUCCESSOR)];
+
+// The old version of a row isn't written. A table without rows is copied, and one without columns isn't.
 #[test]
 fn live_rows_are_written(rt: HostRuntime) -> Result<(), Fail> {
     let alloc = rt.alloc();
-    let page = page_of(0, &[Item::Tuple(UPDATED), Item::Tuple(SUCCESSOR)]);
-    let mut files = files_of(alloc, INT_COLUMN, &page)?;
-    expect_text(&rt, alloc, &mut files, 0, b"7\n")?;
-    let mut files = files_of(alloc, TEXT_IN_TOAST, &page_of(0, &[Item::Tuple(EXTERNAL)]))?;
+    let page = page_of(0, &UPDATED_ROW);
+    expect_of_heap(&rt, alloc, INT_COLUMN, &page, 0, b"7\n")?;
+    expect_of_heap(&rt, alloc, INT_COLUMN, &[], 0, b"")?;
+    expect_of_heap(&rt, alloc, "", &[], 4, b"refused case C2 column\n")
+}
+
+#[test]
+fn a_value_in_the_toast_table_is_written(rt: HostRuntime) -> Result<(), Fail> {
+    let alloc = rt.alloc();
+    let page = page_of(0, &[Item::Tuple(EXTERNAL)]);
+    let mut files = files_of(alloc, TEXT_IN_TOAST, "", &page)?;
     files.add("tt", Part::Segment(0), &chunk_page(0, 1996))?;
     let mut line = [0u8; 1997];
     line[1996] = b'\n';
-    expect_text(&rt, alloc, &mut files, 0, &line)?;
-    let mut files = files_of(alloc, INT_COLUMN, &[])?;
-    expect_text(&rt, alloc, &mut files, 0, b"")
+    expect_text(&rt, alloc, &mut files, 0, &line)
 }
 
 #[test]
-fn where_something_is_found_there_are_no_rows(rt: HostRuntime) -> Result<(), Fail> {
+fn a_table_that_is_not_there(rt: HostRuntime) -> Result<(), Fail> {
     let alloc = rt.alloc();
-    let broken = Tuple {
-        infomask2: 2,
-        ..LIVE
-    };
-    let text = b"finding H4 heap block 0 item 1\nfindings 1 unjudged 0\nverdict findings\n";
-    expect_row(&rt, alloc, INT_COLUMN, broken, 1, text)?;
-    let old = Tuple {
-        infomask: 0x4900,
-        ..LIVE
-    };
-    let text = b"unjudged U1 heap block 0 item 1\nfindings 0 unjudged 1\nverdict unjudged\n";
-    expect_row(&rt, alloc, INT_COLUMN, old, 2, text)?;
-    let mut files = files_of(alloc, INT_COLUMN, &[])?;
+    let mut files = files_of(alloc, INT_COLUMN, "", &[])?;
     assert!(rt; files.forget("t", Part::Segment(0)));
-    expect_text(&rt, alloc, &mut files, 5, b"refused no file t\n")?;
-    let mut files = files_of(alloc, "", &[])?;
-    expect_text(&rt, alloc, &mut files, 4, b"refused case C2 column\n")
+    expect_text(&rt, alloc, &mut files, 5, b"refused no file t\n")
 }
 
 // Each read of a run fails in turn, and nothing is written. The heap is read once to be judged, and once for its rows.
+const READS: [(u64, u8, &[u8]); 4] = [(1, 7, b""), (2, 7, b""), (3, 7, b""), (4, 0, b"7\n")];
+
+fn expect_read(rt: &impl Abort, alloc: Global, n: u64, code: u8, text: &[u8]) -> Result<(), Fail> {
+    let page = page_of(0, &[Item::Tuple(LIVE)]);
+    let mut files = files_of(alloc, INT_COLUMN, "", &page)?;
+    files.fail_read(n)?;
+    expect_text(rt, alloc, &mut files, code, text)
+}
+
 #[test]
 fn reads_that_fail_leave_nothing_written(rt: HostRuntime) -> Result<(), Fail> {
-    let alloc = rt.alloc();
-    for n in 1..4 {
-        let mut files = files_of(alloc, INT_COLUMN, &page_of(0, &[Item::Tuple(LIVE)]))?;
-        files.fail_read(n)?;
-        expect_text(&rt, alloc, &mut files, 7, b"")?;
+    for (n, code, text) in READS {
+        expect_read(&rt, rt.alloc(), n, code, text)?;
     }
-    let mut files = files_of(alloc, INT_COLUMN, &page_of(0, &[Item::Tuple(LIVE)]))?;
-    files.fail_read(4)?;
-    expect_text(&rt, alloc, &mut files, 0, b"7\n")
+    Ok(())
 }

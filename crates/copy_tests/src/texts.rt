@@ -1,6 +1,6 @@
 //! Texts that are read back as rows, and lines that are refused.
 use case_file::Column;
-use copy_out::{LineFault, read_copy, refusals_are_right, texts_tell_rows};
+use copy_out::{CopyRows, LineFault, read_copy, refusals_are_right, texts_tell_rows};
 use heap_check::Cell;
 use key_orders::{ColType, Value};
 use outside::NoMemory;
@@ -15,6 +15,17 @@ fn column(ctype: ColType) -> Column {
     }
 }
 
+// Whether these are one row: this text, and a null.
+fn are_text_and_null(rows: &CopyRows, text: &[u8]) -> bool {
+    if rows.len() != 1 {
+        return false;
+    }
+    match rows.row(0).as_slice() {
+        [Cell::Held(Value::Bytes(bytes)), Cell::Held(Value::Null)] => bytes.as_slice() == text,
+        _ => false,
+    }
+}
+
 #[test]
 fn rows_are_read(rt: HostRuntime) -> Result<(), Fail> {
     let alloc = rt.alloc();
@@ -22,16 +33,9 @@ fn rows_are_read(rt: HostRuntime) -> Result<(), Fail> {
     refusals_are_right();
     let two = [column(ColType::Text), column(ColType::Text)];
     let rows = read_copy(alloc, &two, b"a\\t\\\\\t\\N\n")?;
-    assert_eq!(rt; rows.len(), 1);
-    if rows.len() == 1 {
-        match rows.row(0).as_slice() {
-            [Cell::Held(Value::Bytes(bytes)), Cell::Held(Value::Null)] => {
-                assert_eq!(rt; bytes.as_slice(), b"a\t\\".as_slice());
-            }
-            _ => assert!(rt; false),
-        }
-    }
-    assert_eq!(rt; read_copy(alloc, &two, b"")?.len(), 0);
+    assert!(rt; are_text_and_null(&rows, b"a\t\\"));
+    let none = read_copy(alloc, &two, b"")?;
+    assert_eq!(rt; none.len(), 0);
     Ok(())
 }
 
@@ -44,45 +48,47 @@ fn refused(alloc: Global, ctype: ColType, text: &[u8]) -> Result<u64, NoMemory> 
     }
 }
 
+const FIXED: ColType = ColType::Fixed { len: 2, align: 1 };
+
+// The type of a column, a text, and the line at which it is refused, 0 where it isn't.
+const TEXTS: [(ColType, &[u8], u64); 27] = [
+    (ColType::Text, b"a\tb\n", 1),
+    (ColType::Text, b"a\n\nb\n", 0),
+    (ColType::Text, b"a\nb", 2),
+    (ColType::Text, b"a\n\\q\nb", 2),
+    (ColType::Text, b"\\\n", 1),
+    (ColType::Text, b"\x08\n", 1),
+    (ColType::Text, b"\\.\n", 1),
+    (ColType::Text, b"\\N\n\\#\n\\\\N\n", 0),
+    (ColType::Int2, b"1\n2\n32768\n", 3),
+    (ColType::Int4, b"01\n", 1),
+    (ColType::Int4, b"-0\n", 1),
+    (ColType::Int4, b"+5\n", 1),
+    (ColType::Int4, b"\n", 1),
+    (ColType::Int4, b"\\#\n", 1),
+    (ColType::Int4, b"\\N\n", 0),
+    (
+        ColType::Int8,
+        b"-9223372036854775808\n9223372036854775808\n",
+        2,
+    ),
+    (ColType::Oid, b"-1\n", 1),
+    (ColType::Oid, b"4294967295\n", 0),
+    (ColType::Date, b"-1\n", 0),
+    (ColType::Bool, b"t\nf\ntrue\n", 3),
+    (ColType::Bytea, b"\\\\x0\n", 1),
+    (ColType::Bytea, b"\\\\xAB\n", 1),
+    (ColType::Bytea, b"\\x00\n", 1),
+    (ColType::Bytea, b"\\\\x\n", 0),
+    (FIXED, b"\\\\x0001\n\\\\x00\n", 2),
+    (ColType::Uuid, b"0011-22334455-6677-8899-aabbccddeeff\n", 1),
+    (ColType::Uuid, b"00112233-4455-6677-8899-aabbccddeeff\n", 0),
+];
+
 #[test]
 fn other_texts_are_refused(rt: HostRuntime) -> Result<(), Fail> {
-    let alloc = rt.alloc();
-    let fixed = ColType::Fixed { len: 2, align: 1 };
-    let rows: [(ColType, &[u8], u64); 27] = [
-        (ColType::Text, b"a\tb\n", 1),
-        (ColType::Text, b"a\n\nb\n", 0),
-        (ColType::Text, b"a\nb", 2),
-        (ColType::Text, b"a\n\\q\nb", 2),
-        (ColType::Text, b"\\\n", 1),
-        (ColType::Text, b"\x08\n", 1),
-        (ColType::Text, b"\\.\n", 1),
-        (ColType::Text, b"\\N\n\\#\n\\\\N\n", 0),
-        (ColType::Int2, b"1\n2\n32768\n", 3),
-        (ColType::Int4, b"01\n", 1),
-        (ColType::Int4, b"-0\n", 1),
-        (ColType::Int4, b"+5\n", 1),
-        (ColType::Int4, b"\n", 1),
-        (ColType::Int4, b"\\#\n", 1),
-        (ColType::Int4, b"\\N\n", 0),
-        (
-            ColType::Int8,
-            b"-9223372036854775808\n9223372036854775808\n",
-            2,
-        ),
-        (ColType::Oid, b"-1\n", 1),
-        (ColType::Oid, b"4294967295\n", 0),
-        (ColType::Date, b"-1\n", 0),
-        (ColType::Bool, b"t\nf\ntrue\n", 3),
-        (ColType::Bytea, b"\\\\x0\n", 1),
-        (ColType::Bytea, b"\\\\xAB\n", 1),
-        (ColType::Bytea, b"\\x00\n", 1),
-        (ColType::Bytea, b"\\\\x\n", 0),
-        (fixed, b"\\\\x0001\n\\\\x00\n", 2),
-        (ColType::Uuid, b"0011-22334455-6677-8899-aabbccddeeff\n", 1),
-        (ColType::Uuid, b"00112233-4455-6677-8899-aabbccddeeff\n", 0),
-    ];
-    for (ctype, text, line) in rows {
-        assert_eq!(rt; refused(alloc, ctype, text)?, line);
+    for (ctype, text, line) in TEXTS {
+        assert_eq!(rt; refused(rt.alloc(), ctype, text)?, line);
     }
     Ok(())
 }
