@@ -1,11 +1,33 @@
 //! Runs, and what they should answer and write.
 use outside::{MemFiles, MemSink};
-use run_files::{Want, run_words};
+use run_files::{Want, found, in_doubt, run_words};
 use std::alloc::Global;
 use std::process::Abort;
 use std::test::Fail;
 
-/// Runs the words over the files, and compares what is answered and written.
+/// A run: its words, its status and what it writes.
+pub(crate) type Run = (&'static [&'static str], u8, &'static str);
+
+/// What a report tells: findings, or doubts where the first begins with a U.
+pub(crate) type Lines = &'static [&'static str];
+
+/// Runs the words over the files into a sink, and compares what is answered and written.
+pub(crate) fn expect_in(
+    rt: &impl Abort,
+    alloc: Global,
+    words: &[&str],
+    files: &mut MemFiles,
+    sink: &mut MemSink,
+    code: u8,
+    bytes: &[u8],
+) -> Result<(), Fail> {
+    let answered = run_words(alloc, words, files, sink)?;
+    assert_eq!(rt; sink.bytes(), bytes);
+    assert_eq!(rt; answered, code);
+    Ok(())
+}
+
+/// The same with a sink that takes 16 bytes at a time.
 pub(crate) fn expect(
     rt: &impl Abort,
     alloc: Global,
@@ -14,10 +36,42 @@ pub(crate) fn expect(
     want: (u8, &str),
 ) -> Result<(), Fail> {
     let mut sink = MemSink::new(alloc, 16)?;
-    let code = run_words(alloc, words, files, &mut sink)?;
-    assert_eq!(rt; sink.bytes(), want.1.as_bytes());
-    assert_eq!(rt; code, want.0);
+    let bytes = want.1.as_bytes();
+    expect_in(rt, alloc, words, files, &mut sink, want.0, bytes)
+}
+
+/// The same, where the second 16 bytes can't be written, and the report is a clean one.
+pub(crate) fn expect_first_put(
+    rt: &impl Abort,
+    alloc: Global,
+    words: &[&str],
+    files: &mut MemFiles,
+) -> Result<(), Fail> {
+    let mut sink = MemSink::new(alloc, 16)?;
+    sink.fail_put(2)?;
+    let first = b"findings 0 unjud";
+    expect_in(rt, alloc, words, files, &mut sink, 8, first)
+}
+
+/// Each of these runs over the files.
+pub(crate) fn expect_runs(
+    rt: &impl Abort,
+    alloc: Global,
+    files: &mut MemFiles,
+    runs: &[Run],
+) -> Result<(), Fail> {
+    for (words, code, text) in runs {
+        expect(rt, alloc, *words, files, (*code, *text))?;
+    }
     Ok(())
+}
+
+// A report of these lines.
+fn want_of(lines: Lines) -> Want<'static> {
+    match lines {
+        [first, ..] if matches!(first.as_bytes(), [b'U', ..]) => in_doubt(lines),
+        _ => found(lines),
+    }
 }
 
 /// Runs `heap` over the files of a case, and compares its report.
@@ -25,14 +79,10 @@ pub(crate) fn expect_heap(
     rt: &impl Abort,
     alloc: Global,
     files: &mut MemFiles,
-    want: Want<'_>,
+    lines: Lines,
 ) -> Result<(), Fail> {
+    let want = want_of(lines);
     let text = want.text(alloc)?;
-    expect(
-        rt,
-        alloc,
-        &["heap", "case.toml"],
-        files,
-        (want.code(), text.as_str()),
-    )
+    let words = ["heap", "case.toml"];
+    expect(rt, alloc, &words, files, (want.code(), text.as_str()))
 }

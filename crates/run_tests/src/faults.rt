@@ -1,9 +1,10 @@
 //! Runs in which one call on the files or on the sink fails, each call in turn.
+use crate::expected::{expect_first_put, expect_in};
 use outside::{MemFiles, MemSink, Part};
 use run_files::{
-    CLEAN, CLUSTER, EXTERNAL, INDEX, INT_COLUMN, IndexTuple, Item, NINE, SUCCESSOR, TEXT_IN_TOAST,
-    THREE, THREE_ROWS, TWO_LEVELS, Tuple, UPDATED, case_files, chunk_page, index_file, leaf,
-    page_of, run_words,
+    CLEAN, CLUSTER, EXTERNAL, INDEX, INT_COLUMN, IndexTuple, Item, LONE_LEAF, NINE, SUCCESSOR,
+    TEXT_IN_TOAST, THREE, THREE_ROWS, TWO_LEVELS, TreePage, Tuple, UPDATED, case_files, chunk_page,
+    index_file, indexed_files, page_of, run_words,
 };
 use std::alloc::Global;
 use std::process::Abort;
@@ -47,29 +48,32 @@ fn words_of(scene: Scene) -> &'static [&'static str] {
     }
 }
 
+// The rows of a scene with a multixact.
+const BY_MULTIXACT: [Item<'static>; 2] = [
+    Item::Tuple(Tuple {
+        xmax: 5,
+        infomask: 0x1100,
+        ..UPDATED
+    }),
+    Item::Tuple(Tuple {
+        xmin: 712,
+        infomask: 0x2800,
+        body: &[9, 0, 0, 0],
+        ..SUCCESSOR
+    }),
+];
+
 // The heap of a scene.
 fn heap_of(scene: Scene) -> [u8; 8192] {
     match scene {
         Scene::Pages | Scene::Heap | Scene::Index | Scene::All => page_of(0, &THREE_ROWS),
-        Scene::Multixact | Scene::IndexedMultixact => {
-            let old = Tuple {
-                xmax: 5,
-                infomask: 0x1100,
-                ..UPDATED
-            };
-            let new = Tuple {
-                xmin: 712,
-                infomask: 0x2800,
-                body: &[9, 0, 0, 0],
-                ..SUCCESSOR
-            };
-            page_of(0, &[Item::Tuple(old), Item::Tuple(new)])
-        }
+        Scene::Multixact | Scene::IndexedMultixact => page_of(0, &BY_MULTIXACT),
         Scene::Toast => page_of(0, &[Item::Tuple(EXTERNAL)]),
     }
 }
 
-fn files_of(alloc: Global, scene: Scene) -> Result<MemFiles, Fail> {
+// Its case.
+fn case_of(alloc: Global, scene: Scene) -> Result<String, Fail> {
     let rest = match scene {
         Scene::Toast => TEXT_IN_TOAST,
         _ => INT_COLUMN,
@@ -79,34 +83,68 @@ fn files_of(alloc: Global, scene: Scene) -> Result<MemFiles, Fail> {
         _ => "",
     };
     let text = format!(in alloc; "{CLUSTER}{rest}{index}")?;
+    Ok(text)
+}
+
+// A leaf with the entry of 9 alone, which names the root of its row.
+const NINE_ALONE: TreePage<'static> = TreePage {
+    tuples: &[IndexTuple { item: 1, ..NINE }],
+    ..LONE_LEAF
+};
+
+// The file of its index.
+fn tree_of(alloc: Global, scene: Scene) -> Result<Vec<u8>, Fail> {
+    let pages: &[TreePage<'_>] = match scene {
+        Scene::IndexedMultixact => &[NINE_ALONE],
+        _ => &TWO_LEVELS,
+    };
+    index_file(alloc, pages)
+}
+
+fn files_of(alloc: Global, scene: Scene) -> Result<MemFiles, Fail> {
+    let text = case_of(alloc, scene)?;
+    let tree = tree_of(alloc, scene)?;
     let mut files = case_files(alloc, text.as_str(), &heap_of(scene))?;
     files.add("tt", Part::Segment(0), &chunk_page(0, 1996))?;
-    let tree = match scene {
-        Scene::IndexedMultixact => index_file(alloc, &[leaf(&[IndexTuple { item: 1, ..NINE }])])?,
-        _ => index_file(alloc, &TWO_LEVELS)?,
-    };
     files.add("i", Part::Segment(0), tree.as_slice())?;
     Ok(files)
+}
+
+// The same, with one failing call: a read with a number, or a question for a length.
+fn failing_files(alloc: Global, scene: Scene, in_reads: bool, n: u64) -> Result<MemFiles, Fail> {
+    let mut files = files_of(alloc, scene)?;
+    if in_reads {
+        files.fail_read(n)?;
+    } else {
+        files.fail_length(n)?;
+    }
+    Ok(files)
+}
+
+// The status of a run over these files, which is clean or writes nothing.
+fn status_of(
+    rt: &impl Abort,
+    alloc: Global,
+    scene: Scene,
+    files: &mut MemFiles,
+) -> Result<u8, Fail> {
+    let mut sink = MemSink::new(alloc, 16)?;
+    let code = run_words(alloc, words_of(scene), files, &mut sink)?;
+    let text = if code == 0 { CLEAN } else { "" };
+    assert_eq!(rt; sink.bytes(), text.as_bytes());
+    Ok(code)
 }
 
 // How many runs with one failing call, the first, the second and so on, end with 7 and nothing written
 // before one ends clean.
 fn faults_of(rt: &impl Abort, alloc: Global, scene: Scene, in_reads: bool) -> Result<u64, Fail> {
     for n in 1..100u64 {
-        let mut files = files_of(alloc, scene)?;
-        if in_reads {
-            files.fail_read(n)?;
-        } else {
-            files.fail_length(n)?;
-        }
-        let mut sink = MemSink::new(alloc, 16)?;
-        let code = run_words(alloc, words_of(scene), &mut files, &mut sink)?;
+        let mut files = failing_files(alloc, scene, in_reads, n)?;
+        let code = status_of(rt, alloc, scene, &mut files)?;
         if code == 0 {
-            assert_eq!(rt; sink.bytes(), CLEAN.as_bytes());
             return Ok(n - 1);
         }
         assert_eq!(rt; code, 7);
-        assert!(rt; sink.bytes().is_empty());
     }
     Err(Fail::from("a hundred calls"))
 }
@@ -120,24 +158,29 @@ fn each_call_on_the_files_may_fail(rt: HostRuntime) -> Result<(), Fail> {
     Ok(())
 }
 
-// A sink that takes a byte at a time, and fails at its n-th.
+// A sink that takes a byte at a time, and fails after so many.
+fn failing_sink(alloc: Global, count: usize) -> Result<MemSink, Fail> {
+    let mut sink = MemSink::new(alloc, 1)?;
+    sink.fail_put((count as u64).saturating_add(1))?;
+    Ok(sink)
+}
+
+// A run into this sink: so many bytes are written, and if these are all of the report nothing fails.
+fn expect_first(rt: &impl Abort, alloc: Global, scene: Scene, count: usize) -> Result<(), Fail> {
+    let text = CLEAN.as_bytes();
+    let code = if count < text.len() { 8 } else { 0 };
+    let first = &text[..count.min(text.len())];
+    let mut sink = failing_sink(alloc, count)?;
+    let mut files = files_of(alloc, scene)?;
+    let words = words_of(scene);
+    expect_in(rt, alloc, words, &mut files, &mut sink, code, first)
+}
+
 #[test]
 fn each_put_may_fail(rt: HostRuntime) -> Result<(), Fail> {
-    let alloc = rt.alloc();
-    let text = CLEAN.as_bytes();
     for scene in SCENES {
-        for n in 1..=text.len() + 1 {
-            let mut files = files_of(alloc, scene)?;
-            let mut sink = MemSink::new(alloc, 1)?;
-            sink.fail_put(n as u64)?;
-            let code = run_words(alloc, words_of(scene), &mut files, &mut sink)?;
-            if n <= text.len() {
-                assert_eq!(rt; code, 8);
-                assert_eq!(rt; sink.bytes(), &text[..n - 1]);
-            } else {
-                assert_eq!(rt; code, 0);
-                assert_eq!(rt; sink.bytes(), text);
-            }
+        for count in 0..=CLEAN.len() {
+            expect_first(&rt, rt.alloc(), scene, count)?;
         }
     }
     Ok(())
@@ -147,17 +190,8 @@ fn each_put_may_fail(rt: HostRuntime) -> Result<(), Fail> {
 #[test]
 fn the_second_put_fails(rt: HostRuntime) -> Result<(), Fail> {
     let alloc = rt.alloc();
-    let text = format!(in alloc; "{CLUSTER}{INT_COLUMN}{INDEX}")?;
-    let mut files = case_files(alloc, text.as_str(), &page_of(0, &THREE_ROWS))?;
-    files.add(
-        "i",
-        Part::Segment(0),
-        index_file(alloc, &[THREE])?.as_slice(),
-    )?;
-    let mut sink = MemSink::new(alloc, 16)?;
-    sink.fail_put(2)?;
-    let code = run_words(alloc, words_of(Scene::Index), &mut files, &mut sink)?;
-    assert_eq!(rt; code, 8);
-    assert_eq!(rt; sink.bytes(), b"findings 0 unjud".as_slice());
-    Ok(())
+    let tree = index_file(alloc, &[THREE])?;
+    let heap = page_of(0, &THREE_ROWS);
+    let mut files = indexed_files(alloc, INT_COLUMN, "", &heap, tree.as_slice())?;
+    expect_first_put(&rt, alloc, words_of(Scene::Index), &mut files)
 }

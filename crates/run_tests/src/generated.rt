@@ -2,7 +2,7 @@
 ghost use Rattle.std.specs.Prelude.{◌≤◌, [], IfOk, None, false, length};
 ghost use Rattle.heap_files.specs.Files.{BelongTo, files_of};
 
-use crate::expected::expect;
+use crate::expected::{Run, expect};
 use bt_levels::{TreeFile, check_tree};
 use case_file::Case;
 use heap_files::{HeapFiles, SoundHeap, check_heap};
@@ -29,51 +29,63 @@ fn expect_gen(
     expect(rt, alloc, words, &mut files, want)
 }
 
+// Runs `gen`, which builds so many rows, a heap of so many blocks, and two indexes of so many.
+fn expect_built(
+    rt: &impl Abort,
+    alloc: Global,
+    (seed, rows): (&str, &str),
+    (heap, index): (u8, u8),
+) -> Result<(), Fail> {
+    let of_index = format!(in alloc; "blocks {index} entries {rows}\n")?;
+    let text = format!(in alloc;
+        "rows {rows}\nheap blocks {heap}\nindex 1 {of_index}index 2 {of_index}{CLEAN}"
+    )?;
+    expect_gen(rt, alloc, &["gen", seed, rows], (0, text.as_str()))
+}
+
+// The number to begin with, the number of rows, and how many blocks the heap has, and each index.
+const BUILT: [(&str, &str, u8, u8); 5] = [
+    ("7", "0", 0, 1),
+    ("7", "1000", 6, 6),
+    ("18446744073709551615", "300", 2, 2),
+    // Twice the same bytes.
+    ("1", "20000", 109, 69),
+    ("1", "20000", 109, 69),
+];
+
 #[test]
 fn what_is_built_is_counted_and_clean(rt: HostRuntime) -> Result<(), Fail> {
-    let alloc = rt.alloc();
-    let rows = [
-        ("7", "0", 0, 1),
-        ("7", "1000", 6, 6),
-        ("18446744073709551615", "300", 2, 2),
-        // Twice the same bytes.
-        ("1", "20000", 109, 69),
-        ("1", "20000", 109, 69),
-    ];
-    for (seed, rows, heap, index) in rows {
-        let of_index = format!(in alloc; "blocks {index} entries {rows}\n")?;
-        let text = format!(in alloc;
-            "rows {rows}\nheap blocks {heap}\nindex 1 {of_index}index 2 {of_index}{CLEAN}"
-        )?;
-        expect_gen(&rt, alloc, &["gen", seed, rows], (0, text.as_str()))?;
+    for (seed, rows, heap, index) in BUILT {
+        expect_built(&rt, rt.alloc(), (seed, rows), (heap, index))?;
     }
     Ok(())
 }
 
+const NUMBERS: [Run; 10] = [
+    (
+        &["gen", "7", "20001"],
+        6,
+        "refused too large gen rows 20001 limit 20000\n",
+    ),
+    (
+        &["gen", "7", "4294967295"],
+        6,
+        "refused too large gen rows 4294967295 limit 20000\n",
+    ),
+    (&["gen", "7", "4294967296"], 3, "refused usage\n"),
+    (&["gen", "18446744073709551616", "1"], 3, "refused usage\n"),
+    (&["gen", "07", "1"], 3, "refused usage\n"),
+    (&["gen", "7", "+1"], 3, "refused usage\n"),
+    (&["gen", "", "1"], 3, "refused usage\n"),
+    (&["gen", "7"], 3, "refused usage\n"),
+    (&["gen"], 3, "refused usage\n"),
+    (&["gen", "7", "1", "1"], 3, "refused usage\n"),
+];
+
 #[test]
 fn numbers_are_refused(rt: HostRuntime) -> Result<(), Fail> {
-    let alloc = rt.alloc();
-    let usage = (3, "refused usage\n");
-    let rows: [(&[&str], (u8, &str)); 10] = [
-        (
-            &["gen", "7", "20001"],
-            (6, "refused too large gen rows 20001 limit 20000\n"),
-        ),
-        (
-            &["gen", "7", "4294967295"],
-            (6, "refused too large gen rows 4294967295 limit 20000\n"),
-        ),
-        (&["gen", "7", "4294967296"], usage),
-        (&["gen", "18446744073709551616", "1"], usage),
-        (&["gen", "07", "1"], usage),
-        (&["gen", "7", "+1"], usage),
-        (&["gen", "", "1"], usage),
-        (&["gen", "7"], usage),
-        (&["gen"], usage),
-        (&["gen", "7", "1", "1"], usage),
-    ];
-    for (words, want) in rows {
-        expect_gen(&rt, alloc, words, want)?;
+    for (words, code, text) in NUMBERS {
+        expect_gen(&rt, rt.alloc(), words, (code, text))?;
     }
     Ok(())
 }
@@ -161,22 +173,29 @@ fn judge_index(
     }
 }
 
+// Judges all that was built.
+fn judge(alloc: Global, files: &mut Untold, case: &Case, report: &mut Report) -> Result<(), Fail> {
+    let heap = sound_heap(alloc, files, case, report)?;
+    for before in 0..case.index_count() {
+        judge_index(alloc, files, case, &heap, report, before + 1)?;
+    }
+    Ok(())
+}
+
 #[test]
 fn what_is_built_passes_each_check(rt: HostRuntime) -> Result<(), Fail> {
     let alloc = rt.alloc();
     let built = build_case(alloc, 7, 1000)?;
     let case = built.case;
+    assert_eq!(rt; case.index_count(), 2);
     let mut files = Untold {
         files: built.files,
         reads: 0,
         faults: 0,
     };
     let mut report = Report::new(alloc);
-    let heap = sound_heap(alloc, &mut files, &case, &mut report)?;
-    assert_eq!(rt; case.index_count(), 2);
-    for before in 0..case.index_count() {
-        judge_index(alloc, &mut files, &case, &heap, &mut report, before + 1)?;
-    }
-    assert_eq!(rt; report.counts(), (0, 0));
+    judge(alloc, &mut files, &case, &mut report)?;
+    let (findings, unjudged) = report.counts();
+    assert!(rt; findings == 0 && unjudged == 0);
     Ok(())
 }

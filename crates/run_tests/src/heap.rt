@@ -1,285 +1,188 @@
 //! Runs of `heap` on small cases: each rule of a heap broken and kept, and each reason why a tuple can't be judged.
-use crate::expected::{expect, expect_heap};
-use outside::{MemFiles, MemSink, Part};
+use crate::expected::{Lines, expect, expect_heap};
+use crate::pages::{At, expect_items, expect_page, files_of, page_with};
+use outside::{MemFiles, Part};
 use run_files::{
-    BOOL_AND_TEXT, CLUSTER, DEAD, EXTERNAL, INT_COLUMN, Item, LIVE, NOTHING, POINTER, SUCCESSOR,
-    TEXT_IN_TOAST, THREE_ROWS, Tuple, UNUSED, UPDATED, Want, case_files, chunk_page, found,
-    in_doubt, normal, page_of, redirect, run_words,
+    BOOL_AND_TEXT, CLUSTER, INT_COLUMN, Item, LIVE, POINTER, SUCCESSOR, TEXT_IN_TOAST, THREE_ROWS,
+    Tuple, UPDATED, case_files, chunk_page, page_of,
 };
 use std::alloc::Global;
 use std::process::Abort;
 use std::test::Fail;
 use test_files::put;
 
-// A heap of one page: its flags, its items, and bytes that are put over it; byte 24 of its map, 0 where there is
-// none; and its report.
-#[derive(Clone, Copy)]
-struct Row<'a> {
-    flags: u16,
-    items: &'a [Item<'a>],
-    over: &'a [(u16, &'a [u8])],
-    map: u8,
-    want: Want<'a>,
-}
-
-const EMPTY: Row<'static> = Row {
-    flags: 0,
-    items: &[],
-    over: &[],
-    map: 0,
-    want: NOTHING,
-};
-
-// The page of a map whose first byte of bits is this.
-fn map_page(bits: u8) -> [u8; 8192] {
-    let mut page = page_of(0, &[]);
-    put(&mut page, 24, &[bits]);
-    page
-}
-
-fn files_of(alloc: Global, rest: &str, row: &Row<'_>) -> Result<MemFiles, Fail> {
-    let text = format!(in alloc; "{CLUSTER}{rest}")?;
-    let mut heap = page_of(row.flags, row.items);
-    for (at, bytes) in row.over {
-        put(&mut heap, *at, bytes);
-    }
-    let mut files = case_files(alloc, text.as_str(), &heap)?;
-    if row.map != 0 {
-        files.add("t_vm", Part::Segment(0), &map_page(row.map))?;
-    }
-    Ok(files)
-}
-
-fn expect_row(rt: &impl Abort, alloc: Global, rest: &str, row: &Row<'_>) -> Result<(), Fail> {
-    let mut files = files_of(alloc, rest, row)?;
-    expect_heap(rt, alloc, &mut files, row.want)
-}
-
-// The files of a case with these columns, whose heap is one page with these items.
-fn files_with<'a>(alloc: Global, rest: &str, items: &'a [Item<'a>]) -> Result<MemFiles, Fail> {
-    let row = Row { items, ..EMPTY };
-    files_of(alloc, rest, &row)
-}
-
-// Runs `heap` on a page of a table of one number with these items.
-fn expect_items<'a>(
-    rt: &impl Abort,
-    alloc: Global,
-    items: &'a [Item<'a>],
-    want: Want<'_>,
-) -> Result<(), Fail> {
-    let mut files = files_with(alloc, INT_COLUMN, items)?;
-    expect_heap(rt, alloc, &mut files, want)
-}
+// The flags of a page with a live tuple, the place of bytes that are put over it, these bytes, and its report.
+const PAGES: [(u16, u16, &[u8], Lines); 5] = [
+    (0, 0, b"", &[]),
+    (0, 18, b"\x05", &["P1 heap block 0"]),
+    (8, 0, b"", &["P2 heap block 0"]),
+    (0, 12, b"\x1d", &["P3 heap block 0"]),
+    // A new page that isn't all zeros.
+    (0, 12, b"\0\0\0\0\0\0\0\0", &["P4 heap block 0"]),
+];
 
 #[test]
 fn headers_of_pages(rt: HostRuntime) -> Result<(), Fail> {
-    let live = [Item::Tuple(LIVE)];
-    let page = Row {
-        items: &live,
-        ..EMPTY
-    };
-    let rows = [
-        page,
-        Row {
-            over: &[(18, &[5])],
-            want: found(&["P1 heap block 0"]),
-            ..page
-        },
-        Row {
-            flags: 8,
-            want: found(&["P2 heap block 0"]),
-            ..page
-        },
-        Row {
-            over: &[(12, &[29])],
-            want: found(&["P3 heap block 0"]),
-            ..page
-        },
-        // A new page that isn't all zeros.
-        Row {
-            over: &[(12, &[0, 0, 0, 0, 0, 0, 0, 0])],
-            want: found(&["P4 heap block 0"]),
-            ..page
-        },
-    ];
-    for row in rows {
-        expect_row(&rt, rt.alloc(), INT_COLUMN, &row)?;
+    for (flags, at, over, lines) in PAGES {
+        let mut page = page_of(flags, &[Item::Tuple(LIVE)]);
+        put(&mut page, at, over);
+        expect_page(&rt, rt.alloc(), INT_COLUMN, &page, lines)?;
     }
     Ok(())
 }
 
+// The items of a page, and its report.
+const PLACES: [(&[At], Lines); 6] = [
+    // An offset that is no multiple of 8, storage past the end, and too short for a header.
+    (&[At::Storage(8161, 28)], &["H1 heap block 0 item 1"]),
+    (
+        &[At::Live, At::Storage(8168, 28)],
+        &["H1 heap block 0 item 2"],
+    ),
+    (
+        &[At::Live, At::Storage(8160, 23)],
+        &["H1 heap block 0 item 2"],
+    ),
+    // Item 4 meets items 1 and 2, and item 5 all.
+    (
+        &[
+            At::Live,
+            At::Live,
+            At::Live,
+            At::Storage(8136, 28),
+            At::Storage(8112, 64),
+        ],
+        &["H2 heap block 0 item 4", "H2 heap block 0 item 5"],
+    ),
+    // Item 2 is item 1 again; a misplaced, a dead and an unused one meet nothing.
+    (
+        &[
+            At::Live,
+            At::Storage(8160, 28),
+            At::Storage(8161, 28),
+            At::Dead,
+            At::Unused,
+        ],
+        &["H2 heap block 0 item 2", "H1 heap block 0 item 3"],
+    ),
+    // Each below the one before it, and each ends where that one begins.
+    (
+        &[
+            At::Storage(8160, 32),
+            At::Storage(8128, 32),
+            At::Storage(8096, 32),
+            At::Live,
+        ],
+        &[
+            "H1 heap block 0 item 2",
+            "H1 heap block 0 item 3",
+            "H2 heap block 0 item 4",
+        ],
+    ),
+];
+
 #[test]
 fn places_of_items(rt: HostRuntime) -> Result<(), Fail> {
-    let alloc = rt.alloc();
-    let live = Item::Tuple(LIVE);
-    let first = found(&["H1 heap block 0 item 1"]);
-    let second = found(&["H1 heap block 0 item 2"]);
-    // An offset that is no multiple of 8, storage past the end, and too short for a header.
-    expect_items(&rt, alloc, &[normal(8161, 28)], first)?;
-    expect_items(&rt, alloc, &[live, normal(8168, 28)], second)?;
-    expect_items(&rt, alloc, &[live, normal(8160, 23)], second)?;
-    // Item 4 meets items 1 and 2, and item 5 all.
-    let both = found(&["H2 heap block 0 item 4", "H2 heap block 0 item 5"]);
-    let items = [live, live, live, normal(8136, 28), normal(8112, 64)];
-    expect_items(&rt, alloc, &items, both)?;
-    // Item 2 is item 1 again; a misplaced, a dead and an unused one meet nothing.
-    let mixed = found(&["H2 heap block 0 item 2", "H1 heap block 0 item 3"]);
-    let items = [live, normal(8160, 28), normal(8161, 28), DEAD, UNUSED];
-    expect_items(&rt, alloc, &items, mixed)?;
-    // Each below the one before it, and each ends where that one begins.
-    let close = [normal(8160, 32), normal(8128, 32), normal(8096, 32), live];
-    let want = found(&[
-        "H1 heap block 0 item 2",
-        "H1 heap block 0 item 3",
-        "H2 heap block 0 item 4",
-    ]);
-    expect_items(&rt, alloc, &close, want)
+    expect_items(&rt, rt.alloc(), &PLACES)
 }
 
 // Two line pointers to one tuple.
 #[test]
 fn an_item_that_is_another_again(rt: HostRuntime) -> Result<(), Fail> {
-    let page = page_of(0, &THREE_ROWS);
-    let row = Row {
-        items: &THREE_ROWS,
-        over: &[(28, &page[24..28])],
-        want: found(&["H2 heap block 0 item 2"]),
-        ..EMPTY
-    };
-    expect_row(&rt, rt.alloc(), INT_COLUMN, &row)
+    let first = page_of(0, &THREE_ROWS);
+    let mut page = first;
+    put(&mut page, 28, &first[24..28]);
+    let lines = &["H2 heap block 0 item 2"];
+    expect_page(&rt, rt.alloc(), INT_COLUMN, &page, lines)
 }
 
-// One tuple of one number, and its report.
-type One<'a> = (Tuple<'a>, Want<'a>);
+// A tuple of one number: xmin, xmax, infomask2, infomask and hoff; and the report of its page.
+type Head = (u32, u32, u16, u16, u8, Lines);
 
-fn expect_tuples(rt: &impl Abort, alloc: Global, rows: &[One<'_>]) -> Result<(), Fail> {
-    for (tuple, want) in rows {
-        expect_items(rt, alloc, &[Item::Tuple(*tuple)], *want)?;
+fn expect_heads(rt: &impl Abort, alloc: Global, rows: &[Head]) -> Result<(), Fail> {
+    for (xmin, xmax, infomask2, infomask, hoff, lines) in rows {
+        let tuple = Tuple {
+            xmin: *xmin,
+            xmax: *xmax,
+            infomask2: *infomask2,
+            infomask: *infomask,
+            hoff: *hoff,
+            ..LIVE
+        };
+        let page = page_of(0, &[Item::Tuple(tuple)]);
+        expect_page(rt, alloc, INT_COLUMN, &page, *lines)?;
     }
     Ok(())
 }
 
+const HEADS: [Head; 7] = [
+    (700, 0, 1, 0x0900, 24, &[]),
+    (700, 0, 1, 0x4900, 24, &["U1 heap block 0 item 1"]),
+    (700, 0, 2, 0x0900, 24, &["H4 heap block 0 item 1"]),
+    (700, 0, 1, 0x0900, 32, &["H5 heap block 0 item 1"]),
+    (700, 5, 1, 0x1500, 24, &["H6 heap block 0 item 1"]),
+    (700, 0, 0x4001, 0x0100, 24, &["H7 heap block 0 item 1"]),
+    (700, 0, 0x8001, 0x0900, 24, &["H8 heap block 0 item 1"]),
+];
+
 #[test]
 fn headers_of_tuples(rt: HostRuntime) -> Result<(), Fail> {
-    let multi = Tuple {
-        xmax: 5,
-        infomask: 0x1500,
-        ..LIVE
-    };
-    let rows = [
-        (LIVE, NOTHING),
-        (
-            Tuple {
-                infomask: 0x4900,
-                ..LIVE
-            },
-            in_doubt(&["U1 heap block 0 item 1"]),
-        ),
-        (
-            Tuple {
-                infomask2: 2,
-                ..LIVE
-            },
-            found(&["H4 heap block 0 item 1"]),
-        ),
-        (
-            Tuple { hoff: 32, ..LIVE },
-            found(&["H5 heap block 0 item 1"]),
-        ),
-        (multi, found(&["H6 heap block 0 item 1"])),
-        (
-            Tuple {
-                infomask2: 0x4001,
-                infomask: 0x0100,
-                ..LIVE
-            },
-            found(&["H7 heap block 0 item 1"]),
-        ),
-        (
-            Tuple {
-                infomask2: 0x8001,
-                ..LIVE
-            },
-            found(&["H8 heap block 0 item 1"]),
-        ),
-    ];
-    expect_tuples(&rt, rt.alloc(), &rows)
+    expect_heads(&rt, rt.alloc(), &HEADS)
 }
+
+const LIVES: [Head; 7] = [
+    (1000, 0, 1, 0x0900, 24, &["H9 heap block 0 item 1"]),
+    (999, 0, 1, 0x0900, 24, &[]),
+    (700, 10, 1, 0x1100, 24, &["H10 heap block 0 item 1"]),
+    (700, 1000, 1, 0x0100, 24, &["H11 heap block 0 item 1"]),
+    (700, 7, 1, 0x1100, 24, &["U2 heap block 0 item 1"]),
+    (700, 8, 1, 0x1100, 24, &["U3 heap block 0 item 1"]),
+    (700, 5, 1, 0x1100, 24, &[]),
+];
 
 #[test]
 fn lives_of_tuples(rt: HostRuntime) -> Result<(), Fail> {
-    let multi = Tuple {
-        infomask: 0x1100,
-        ..LIVE
-    };
-    let rows = [
-        (
-            Tuple { xmin: 1000, ..LIVE },
-            found(&["H9 heap block 0 item 1"]),
-        ),
-        (Tuple { xmin: 999, ..LIVE }, NOTHING),
-        (
-            Tuple { xmax: 10, ..multi },
-            found(&["H10 heap block 0 item 1"]),
-        ),
-        (
-            Tuple {
-                xmax: 1000,
-                infomask: 0x0100,
-                ..LIVE
-            },
-            found(&["H11 heap block 0 item 1"]),
-        ),
-        (
-            Tuple { xmax: 7, ..multi },
-            in_doubt(&["U2 heap block 0 item 1"]),
-        ),
-        (
-            Tuple { xmax: 8, ..multi },
-            in_doubt(&["U3 heap block 0 item 1"]),
-        ),
-        (Tuple { xmax: 5, ..multi }, NOTHING),
-    ];
-    expect_tuples(&rt, rt.alloc(), &rows)
+    expect_heads(&rt, rt.alloc(), &LIVES)
 }
 
 // An updated tuple whose updater stands in multixact 5, and its successor, both without hints.
 fn updated_by_multixact(alloc: Global) -> Result<MemFiles, Fail> {
-    let old = Tuple {
-        xmax: 5,
-        infomask: 0x1100,
-        ..UPDATED
-    };
-    let new = Tuple {
-        xmin: 712,
-        infomask: 0x2800,
-        ..SUCCESSOR
-    };
-    let row = Row {
-        items: &[Item::Tuple(old), Item::Tuple(new)],
-        ..EMPTY
-    };
-    files_of(alloc, INT_COLUMN, &row)
+    let old = At::Tuple(700, 5, 2, 0x4001, 0x1100);
+    let new = At::Tuple(712, 0, 2, 0x8001, 0x2800);
+    let heap = page_with(alloc, 0, &[old, new])?;
+    files_of(alloc, INT_COLUMN, &heap)
+}
+
+// A log, how long it is, and the report where it ends there.
+const CUT_LOGS: [(&str, u64, Lines); 6] = [
+    ("xact", 8192, &[]),
+    (
+        "xact",
+        178,
+        &["H12 heap block 0 item 1", "H12 heap block 0 item 2"],
+    ),
+    ("offsets", 24, &["H13 heap block 0 item 1"]),
+    ("offsets", 20, &["H13 heap block 0 item 1"]),
+    ("members", 19, &["H13 heap block 0 item 1"]),
+    ("members", 20, &[]),
+];
+
+fn expect_cut(
+    rt: &impl Abort,
+    alloc: Global,
+    log: &str,
+    len: u64,
+    lines: Lines,
+) -> Result<(), Fail> {
+    let mut files = updated_by_multixact(alloc)?;
+    assert!(rt; files.cut(log, Part::Slru(0), len));
+    expect_heap(rt, alloc, &mut files, lines)
 }
 
 #[test]
 fn logs_that_end_early(rt: HostRuntime) -> Result<(), Fail> {
-    let alloc = rt.alloc();
-    let both = found(&["H12 heap block 0 item 1", "H12 heap block 0 item 2"]);
-    let multixact = found(&["H13 heap block 0 item 1"]);
-    let rows = [
-        ("xact", 8192, NOTHING),
-        ("xact", 178, both),
-        ("offsets", 24, multixact),
-        ("offsets", 20, multixact),
-        ("members", 19, multixact),
-        ("members", 20, NOTHING),
-    ];
-    for (log, len, want) in rows {
-        let mut files = updated_by_multixact(alloc)?;
-        assert!(rt; files.cut(log, Part::Slru(0), len));
-        expect_heap(&rt, alloc, &mut files, want)?;
+    for (log, len, lines) in CUT_LOGS {
+        expect_cut(&rt, rt.alloc(), log, len, lines)?;
     }
     Ok(())
 }
@@ -292,145 +195,133 @@ fn a_multixact_that_goes_round(rt: HostRuntime) -> Result<(), Fail> {
     let mut offsets = [0u8; 8192];
     put(&mut offsets, 20, &[10, 0, 0, 0, 9]);
     files.add("offsets", Part::Slru(0), &offsets)?;
-    let want = in_doubt(&["U3 heap block 0 item 1"]);
-    expect_heap(&rt, alloc, &mut files, want)
+    expect_heap(&rt, alloc, &mut files, &["U3 heap block 0 item 1"])
 }
+
+// A tuple that transaction 701 updated, to item 2, and its successor there, which no index names.
+const OLD: At = At::Tuple(700, 701, 2, 0x4001, 0x0500);
+
+const NEW: At = At::Tuple(701, 0, 2, 0x8001, 0x2900);
+
+// The items of a page, and its report.
+const CHAINS: [(&[At], Lines); 9] = [
+    (&[At::To(2), At::Unused], &["H3 heap block 0 item 1"]),
+    (&[At::To(2), NEW], &[]),
+    (
+        &[At::To(2), At::To(1)],
+        &["H3 heap block 0 item 1", "H3 heap block 0 item 2"],
+    ),
+    (&[OLD, NEW], &[]),
+    // The updater stands in a multixact.
+    (
+        &[
+            At::Tuple(700, 5, 2, 0x4001, 0x1100),
+            At::Tuple(712, 0, 2, 0x8001, 0x2800),
+        ],
+        &[],
+    ),
+    // A successor that an index may name.
+    (
+        &[OLD, At::Tuple(701, 0, 2, 1, 0x2900)],
+        &["H14 heap block 0 item 1"],
+    ),
+    // Two that lead to one.
+    (
+        &[
+            At::Tuple(700, 701, 3, 0x4001, 0x0500),
+            At::Tuple(700, 701, 3, 0x4001, 0x0500),
+            At::Tuple(701, 0, 3, 0x8001, 0x2900),
+        ],
+        &["H15 heap block 0 item 2"],
+    ),
+    // One to which nothing leads.
+    (
+        &[At::Tuple(700, 0, 1, 0x8001, 0x2900)],
+        &["H16 heap block 0 item 1"],
+    ),
+    // Two dead ones that lead to one another, and no root to them.
+    (
+        &[
+            At::Tuple(701, 701, 2, 0xc001, 0x2500),
+            At::Tuple(701, 701, 1, 0xc001, 0x2500),
+        ],
+        &[],
+    ),
+];
 
 #[test]
 fn chains(rt: HostRuntime) -> Result<(), Fail> {
-    let alloc = rt.alloc();
-    let old = Item::Tuple(UPDATED);
-    let new = Item::Tuple(SUCCESSOR);
-    let first = found(&["H3 heap block 0 item 1"]);
-    expect_items(&rt, alloc, &[redirect(2), UNUSED], first)?;
-    expect_items(&rt, alloc, &[redirect(2), new], NOTHING)?;
-    let circle = found(&["H3 heap block 0 item 1", "H3 heap block 0 item 2"]);
-    expect_items(&rt, alloc, &[redirect(2), redirect(1)], circle)?;
-    expect_items(&rt, alloc, &[old, new], NOTHING)?;
-    expect_heap(&rt, alloc, &mut updated_by_multixact(alloc)?, NOTHING)?;
-    // A successor that an index may name.
-    let lone = Item::Tuple(Tuple {
-        infomask2: 1,
-        ..SUCCESSOR
-    });
-    expect_items(
-        &rt,
-        alloc,
-        &[old, lone],
-        found(&["H14 heap block 0 item 1"]),
-    )?;
-    // Two that lead to one.
-    let old = Item::Tuple(Tuple { item: 3, ..UPDATED });
-    let new = Item::Tuple(Tuple {
-        item: 3,
-        ..SUCCESSOR
-    });
-    expect_items(
-        &rt,
-        alloc,
-        &[old, old, new],
-        found(&["H15 heap block 0 item 2"]),
-    )?;
-    // One to which nothing leads.
-    let lost = Item::Tuple(Tuple {
-        xmin: 700,
-        item: 1,
-        ..SUCCESSOR
-    });
-    expect_items(&rt, alloc, &[lost], found(&["H16 heap block 0 item 1"]))?;
-    // Two dead ones that lead to one another, and no root to them.
-    let dead = Tuple {
-        xmin: 701,
-        infomask2: 0xc001,
-        infomask: 0x2500,
-        ..UPDATED
-    };
-    let items = [Item::Tuple(dead), Item::Tuple(Tuple { item: 1, ..dead })];
-    expect_items(&rt, alloc, &items, NOTHING)
+    expect_items(&rt, rt.alloc(), &CHAINS)
+}
+
+// The page of a map whose first byte of bits is this.
+fn map_page(bits: u8) -> [u8; 8192] {
+    let mut page = page_of(0, &[]);
+    put(&mut page, 24, &[bits]);
+    page
+}
+
+// The flags of a page, its items, the first byte of bits of its map, 0 where there is none, and the report.
+const VISIBLE: [(u16, &[At], u8, Lines); 7] = [
+    (4, &[At::Live], 1, &[]),
+    (4, &[At::Live], 2, &["V1 heap block 0"]),
+    (0, &[At::Live], 1, &["V2 heap block 0"]),
+    // A tuple that is deleted, and one that is gone.
+    (
+        4,
+        &[At::Tuple(700, 701, 1, 1, 0x0500)],
+        1,
+        &["V3 heap block 0"],
+    ),
+    (4, &[At::Dead], 0, &["V3 heap block 0"]),
+    (4, &[At::Live], 3, &["V4 heap block 0"]),
+    // A frozen one.
+    (4, &[At::Tuple(700, 0, 1, 1, 0x0b00)], 3, &[]),
+];
+
+fn expect_visible(
+    rt: &impl Abort,
+    alloc: Global,
+    heap: &[u8],
+    map: u8,
+    lines: Lines,
+) -> Result<(), Fail> {
+    let mut files = files_of(alloc, INT_COLUMN, heap)?;
+    if map != 0 {
+        files.add("t_vm", Part::Segment(0), &map_page(map))?;
+    }
+    expect_heap(rt, alloc, &mut files, lines)
 }
 
 #[test]
 fn visibility(rt: HostRuntime) -> Result<(), Fail> {
-    let live = [Item::Tuple(LIVE)];
-    let gone = [Item::Tuple(Tuple {
-        xmax: 701,
-        infomask: 0x0500,
-        ..LIVE
-    })];
-    let frozen = [Item::Tuple(Tuple {
-        infomask: 0x0b00,
-        ..LIVE
-    })];
-    let visible = Row {
-        flags: 4,
-        items: &live,
-        map: 1,
-        ..EMPTY
-    };
-    let rows = [
-        visible,
-        Row {
-            map: 2,
-            want: found(&["V1 heap block 0"]),
-            ..visible
-        },
-        Row {
-            flags: 0,
-            want: found(&["V2 heap block 0"]),
-            ..visible
-        },
-        Row {
-            items: &gone,
-            want: found(&["V3 heap block 0"]),
-            ..visible
-        },
-        Row {
-            items: &[DEAD],
-            map: 0,
-            want: found(&["V3 heap block 0"]),
-            ..visible
-        },
-        Row {
-            map: 3,
-            want: found(&["V4 heap block 0"]),
-            ..visible
-        },
-        Row {
-            items: &frozen,
-            map: 3,
-            ..visible
-        },
-    ];
-    for row in rows {
-        expect_row(&rt, rt.alloc(), INT_COLUMN, &row)?;
+    let alloc = rt.alloc();
+    for (flags, items, map, lines) in VISIBLE {
+        let heap = page_with(alloc, flags, items)?;
+        expect_visible(&rt, alloc, &heap, map, lines)?;
     }
     Ok(())
 }
 
+// The bytes of a flag and a text, and the report of their page.
+const VALUES: [(&[u8], Lines); 4] = [
+    (b"\x01\x07hi", &[]),
+    (b"\x01\0\0\0\x18\0\0\0hi", &[]),
+    (b"\x01\0\0\0\x18\0\0\0h", &["H17 heap block 0 item 1"]),
+    (b"\x01\x01\x07", &["H18 heap block 0 item 1"]),
+];
+
 #[test]
 fn values(rt: HostRuntime) -> Result<(), Fail> {
-    let bodies: [(&[u8], Want<'_>); 4] = [
-        (b"\x01\x07hi", NOTHING),
-        (b"\x01\0\0\0\x18\0\0\0hi", NOTHING),
-        (
-            b"\x01\0\0\0\x18\0\0\0h",
-            found(&["H17 heap block 0 item 1"]),
-        ),
-        (b"\x01\x01\x07", found(&["H18 heap block 0 item 1"])),
-    ];
-    for (body, want) in bodies {
+    for (body, lines) in VALUES {
         let tuple = Tuple {
             infomask2: 2,
             infomask: 0x0902,
             body,
             ..LIVE
         };
-        let row = Row {
-            items: &[Item::Tuple(tuple)],
-            want,
-            ..EMPTY
-        };
-        expect_row(&rt, rt.alloc(), BOOL_AND_TEXT, &row)?;
+        let page = page_of(0, &[Item::Tuple(tuple)]);
+        expect_page(&rt, rt.alloc(), BOOL_AND_TEXT, &page, lines)?;
     }
     Ok(())
 }
@@ -444,131 +335,167 @@ fn pointer_of(raw: u32, stored: u32) -> [u8; 18] {
     pointer
 }
 
-// Runs `heap` on a tuple with these flags, whose value has so many bytes before compression and so many
-// stored ones by its pointer, over a TOAST table with a chunk of 1996 bytes, and then without that table.
-fn expect_external(
-    rt: &impl Abort,
-    alloc: Global,
-    infomask: u16,
-    sizes: (u32, u32),
-    want: Want<'_>,
-) -> Result<(), Fail> {
-    let pointer = pointer_of(sizes.0, sizes.1);
+// A page with a tuple with these flags, whose value this points to.
+fn external_page(infomask: u16, pointer: &[u8]) -> [u8; 8192] {
     let tuple = Tuple {
         infomask,
-        body: &pointer,
+        body: pointer,
         ..LIVE
     };
-    let mut files = files_with(alloc, TEXT_IN_TOAST, &[Item::Tuple(tuple)])?;
+    page_of(0, &[Item::Tuple(tuple)])
+}
+
+// Runs `heap` on it over a TOAST table with a chunk of 1996 bytes, and then without that table.
+fn expect_external(rt: &impl Abort, alloc: Global, heap: &[u8], lines: Lines) -> Result<(), Fail> {
+    let mut files = files_of(alloc, TEXT_IN_TOAST, heap)?;
     files.add("tt", Part::Segment(0), &chunk_page(0, 1996))?;
-    expect_heap(rt, alloc, &mut files, want)?;
+    expect_heap(rt, alloc, &mut files, lines)?;
     assert!(rt; files.forget("tt", Part::Segment(0)));
     let words = ["heap", "case.toml"];
     expect(rt, alloc, &words, &mut files, (5, "refused no file tt\n"))
 }
 
+// The flags of a tuple, how many bytes its value has by its pointer, before compression and stored, and the report.
+const EXTERNALS: [(u16, u32, u32, Lines); 4] = [
+    (0x0906, 2000, 1996, &[]),
+    (0x0906, 2001, 1997, &["H21 heap block 0 item 1 column 1"]),
+    (0x0902, 2000, 1996, &["H19 heap block 0 item 1"]),
+    (0x0906, 3, 1996, &["H20 heap block 0 item 1"]),
+];
+
 #[test]
 fn values_in_the_toast_table(rt: HostRuntime) -> Result<(), Fail> {
-    let alloc = rt.alloc();
-    let flags = EXTERNAL.infomask;
-    let h19 = found(&["H19 heap block 0 item 1"]);
-    let h20 = found(&["H20 heap block 0 item 1"]);
-    let h21 = found(&["H21 heap block 0 item 1 column 1"]);
-    expect_external(&rt, alloc, flags, (2000, 1996), NOTHING)?;
-    expect_external(&rt, alloc, flags, (2001, 1997), h21)?;
-    expect_external(&rt, alloc, 0x0902, (2000, 1996), h19)?;
-    expect_external(&rt, alloc, flags, (3, 1996), h20)
+    for (infomask, raw, stored, lines) in EXTERNALS {
+        let heap = external_page(infomask, &pointer_of(raw, stored));
+        expect_external(&rt, rt.alloc(), &heap, lines)?;
+    }
+    Ok(())
 }
 
 #[test]
 fn toast_tables_are_judged(rt: HostRuntime) -> Result<(), Fail> {
     let alloc = rt.alloc();
-    let mut files = files_of(alloc, TEXT_IN_TOAST, &EMPTY)?;
-    let late = Tuple {
-        xmin: 1000,
-        infomask2: 3,
-        ..LIVE
-    };
-    files.add("tt", Part::Segment(0), &page_of(0, &[Item::Tuple(late)]))?;
-    expect_heap(&rt, alloc, &mut files, found(&["H9 toast block 0 item 1"]))
+    let late = page_with(alloc, 0, &[At::Tuple(1000, 0, 1, 3, 0x0900)])?;
+    let mut files = files_of(alloc, TEXT_IN_TOAST, &page_of(0, &[]))?;
+    files.add("tt", Part::Segment(0), &late)?;
+    expect_heap(&rt, alloc, &mut files, &["H9 toast block 0 item 1"])
 }
 
-// A case with segments of two blocks, and so many pages of one live tuple each in its first segment.
-fn in_segments(alloc: Global, pages: u8, more: &[u8]) -> Result<MemFiles, Fail> {
+// So many pages of one live tuple each, and more bytes behind them.
+fn heap_of(alloc: Global, pages: u16, more: &[u8]) -> Result<Vec<u8>, Fail> {
     let mut heap = Vec::new(alloc);
     for block in 0..pages {
-        let tuple = Tuple {
-            block: u16::from(block),
-            ..LIVE
-        };
+        let tuple = Tuple { block, ..LIVE };
         heap.extend_from_slice(&page_of(0, &[Item::Tuple(tuple)]))?;
     }
     heap.extend_from_slice(more)?;
+    Ok(heap)
+}
+
+// A case with segments of two blocks, whose first one is this.
+fn in_segments(alloc: Global, heap: &[u8]) -> Result<MemFiles, Fail> {
     let text = format!(in alloc; "segment_blocks = 2\n{CLUSTER}{INT_COLUMN}")?;
-    case_files(alloc, text.as_str(), &heap)
+    case_files(alloc, text.as_str(), heap)
+}
+
+// Runs `heap` on a first segment of so many pages and more bytes.
+fn expect_segment(
+    rt: &impl Abort,
+    alloc: Global,
+    pages: u16,
+    more: &[u8],
+    lines: Lines,
+) -> Result<(), Fail> {
+    let heap = heap_of(alloc, pages, more)?;
+    let mut files = in_segments(alloc, heap.as_slice())?;
+    expect_heap(rt, alloc, &mut files, lines)
 }
 
 #[test]
 fn segments(rt: HostRuntime) -> Result<(), Fail> {
     let alloc = rt.alloc();
-    let mut files = in_segments(alloc, 2, &[0; 100])?;
-    expect_heap(&rt, alloc, &mut files, NOTHING)?;
-    let mut files = in_segments(alloc, 3, &[])?;
-    expect_heap(&rt, alloc, &mut files, found(&["S1 heap segment 0"]))?;
-    // A chain in the second segment names that block.
-    let mut files = in_segments(alloc, 2, &[])?;
-    let old = Tuple {
+    expect_segment(&rt, alloc, 2, &[0; 100], &[])?;
+    expect_segment(&rt, alloc, 3, &[], &["S1 heap segment 0"])
+}
+
+// An updated tuple and its successor on block 2.
+const ON_BLOCK_2: [Item<'static>; 2] = [
+    Item::Tuple(Tuple {
         block: 2,
         ..UPDATED
-    };
-    let new = Tuple {
+    }),
+    Item::Tuple(Tuple {
         block: 2,
         ..SUCCESSOR
-    };
-    files.add(
-        "t",
-        Part::Segment(1),
-        &page_of(0, &[Item::Tuple(old), Item::Tuple(new)]),
-    )?;
-    expect_heap(&rt, alloc, &mut files, NOTHING)?;
-    // The first segment is cut in its second block, and then the second segment is none of the heap's.
+    }),
+];
+
+// A first segment of two pages, and one of these tuples as the second.
+fn two_segments(alloc: Global) -> Result<MemFiles, Fail> {
+    let heap = heap_of(alloc, 2, &[])?;
+    let mut files = in_segments(alloc, heap.as_slice())?;
+    files.add("t", Part::Segment(1), &page_of(0, &ON_BLOCK_2))?;
+    Ok(files)
+}
+
+// A chain in the second segment names that block. Where the first one is cut in its second block, the second segment
+// is none of the heap's.
+#[test]
+fn a_chain_in_the_second_segment(rt: HostRuntime) -> Result<(), Fail> {
+    let alloc = rt.alloc();
+    let mut files = two_segments(alloc)?;
+    expect_heap(&rt, alloc, &mut files, &[])?;
     assert!(rt; files.cut("t", Part::Segment(0), 12288));
-    expect_heap(&rt, alloc, &mut files, NOTHING)
+    expect_heap(&rt, alloc, &mut files, &[])
 }
 
 // The long segment is known before the read that fails, and yet nothing is written.
 #[test]
 fn a_read_fails_after_a_finding(rt: HostRuntime) -> Result<(), Fail> {
     let alloc = rt.alloc();
-    let mut files = in_segments(alloc, 3, &[])?;
+    let heap = heap_of(alloc, 3, &[])?;
+    let mut files = in_segments(alloc, heap.as_slice())?;
     files.fail_read(2)?;
-    let mut sink = MemSink::new(alloc, 16)?;
-    let code = run_words(alloc, &["heap", "case.toml"], &mut files, &mut sink)?;
-    assert_eq!(rt; code, 7);
-    assert!(rt; sink.bytes().is_empty());
-    Ok(())
+    expect(&rt, alloc, &["heap", "case.toml"], &mut files, (7, ""))
+}
+
+// The first byte of bits of a map's page, its byte at 18, how many bytes of 1 follow the page, and the report.
+const MAPS: [(u8, u8, usize, Lines); 4] = [
+    (0, 4, 0, &[]),
+    (1, 4, 0, &["V2 heap block 0"]),
+    // The second page has no bits of the heap's blocks, and isn't read.
+    (0, 4, 8192, &[]),
+    // A page that breaks a rule gives no bits.
+    (1, 5, 0, &["P1 map block 0"]),
+];
+
+fn map_of(alloc: Global, bits: u8, size: u8, ones: usize) -> Result<Vec<u8>, Fail> {
+    let mut page = map_page(bits);
+    put(&mut page, 18, &[size]);
+    let mut map = Vec::from_slice(alloc, &page)?;
+    map.extend_from_slice(&[1u8; 8192][..ones.min(8192)])?;
+    Ok(map)
 }
 
 // A table on a new page with a map of these bytes.
-fn expect_map(rt: &impl Abort, alloc: Global, map: &[u8], want: Want<'_>) -> Result<(), Fail> {
-    let text = format!(in alloc; "{CLUSTER}{INT_COLUMN}")?;
-    let mut files = case_files(alloc, text.as_str(), &[0u8; 8192])?;
+fn expect_map(rt: &impl Abort, alloc: Global, map: &[u8], lines: Lines) -> Result<(), Fail> {
+    let mut files = files_of(alloc, INT_COLUMN, &[0u8; 8192])?;
     files.add("t_vm", Part::Segment(0), map)?;
-    expect_heap(rt, alloc, &mut files, want)
+    expect_heap(rt, alloc, &mut files, lines)
 }
 
-// Of a map of two pages the second has no bits of the heap's blocks and isn't read; a part of a page is none. A page
-// that breaks a rule gives no bits.
 #[test]
 fn maps(rt: HostRuntime) -> Result<(), Fail> {
     let alloc = rt.alloc();
-    expect_map(&rt, alloc, &map_page(0), NOTHING)?;
-    expect_map(&rt, alloc, &map_page(1), found(&["V2 heap block 0"]))?;
-    expect_map(&rt, alloc, &[1; 8191], NOTHING)?;
-    let mut two = Vec::from_slice(alloc, &map_page(0))?;
-    two.extend_from_slice(&[1u8; 8192])?;
-    expect_map(&rt, alloc, &two, NOTHING)?;
-    let mut bad = map_page(1);
-    put(&mut bad, 18, &[5]);
-    expect_map(&rt, alloc, &bad, found(&["P1 map block 0"]))
+    for (bits, size, ones, lines) in MAPS {
+        let map = map_of(alloc, bits, size, ones)?;
+        expect_map(&rt, alloc, map.as_slice(), lines)?;
+    }
+    Ok(())
+}
+
+// A part of a page is none.
+#[test]
+fn a_map_of_a_part_of_a_page(rt: HostRuntime) -> Result<(), Fail> {
+    expect_map(&rt, rt.alloc(), &[1; 8191], &[])
 }

@@ -11,4 +11,6 @@ mod generated;
 #[cfg(test)]
 mod heap;
 #[cfg(test)]
+mod pages;
+#[cfg(test)]
 mod usage;
