@@ -1,23 +1,97 @@
 //! Runs, and what they should answer and write.
+use crate::laid::files_of;
 use outside::{MemFiles, MemSink};
-use run_files::{Want, run_words};
+use run_files::run_words;
 use std::alloc::Global;
 use std::process::Abort;
 use std::test::Fail;
 
-/// Runs the words over the files, and compares what is answered and written.
+/// An index on a number, in a case's text.
+pub(crate) const NUMBER: &str = "[[column]]\nname = \"a\"\ntype = \"int4\"\n\
+[[index]]\nname = \"t_a\"\nfile = \"i\"\n[[index.key]]\ncolumn = \"a\"\n";
+
+/// An index on two numbers.
+pub(crate) const TWO_NUMBERS: &str =
+    "[[column]]\nname = \"a\"\ntype = \"int4\"\n[[column]]\nname = \"b\"\ntype = \"int4\"\n\
+[[index]]\nname = \"t_a\"\nfile = \"i\"\n[[index.key]]\ncolumn = \"a\"\n[[index.key]]\ncolumn = \"b\"\n";
+
+/// An index on a text.
+pub(crate) const TEXT: &str = "[[column]]\nname = \"a\"\ntype = \"text\"\n\
+[[index]]\nname = \"t_a\"\nfile = \"i\"\n[[index.key]]\ncolumn = \"a\"\n";
+
+// Runs words, with `|` between them, over the files.
+fn run_line(
+    alloc: Global,
+    line: &str,
+    files: &mut MemFiles,
+    sink: &mut MemSink,
+) -> Result<u8, Fail> {
+    let mut words = Vec::new(alloc);
+    for word in line.split("|") {
+        words.push(word)?;
+    }
+    run_words(alloc, &words, files, sink)
+}
+
+/// Runs words, with `|` between them, over the files, and compares what is answered and written.
 pub(crate) fn expect(
     rt: &impl Abort,
     alloc: Global,
-    words: &[&str],
+    line: &str,
     files: &mut MemFiles,
     want: (u8, &str),
 ) -> Result<(), Fail> {
     let mut sink = MemSink::new(alloc, 16)?;
-    let code = run_words(alloc, words, files, &mut sink)?;
+    let code = run_line(alloc, line, files, &mut sink)?;
     assert_eq!(rt; sink.bytes(), want.1.as_bytes());
     assert_eq!(rt; code, want.0);
     Ok(())
+}
+
+// The status and the verdict of a report with so many findings and doubts.
+fn verdict_of(findings: u32, doubts: u32) -> (u8, &'static str) {
+    if findings != 0 {
+        (1, "findings")
+    } else if doubts != 0 {
+        (2, "unjudged")
+    } else {
+        (0, "clean")
+    }
+}
+
+// The status and the text of a report with these findings and doubts, with `; ` between them. Doubts begin with U.
+fn report_of(alloc: Global, told: &str) -> Result<(u8, String), Fail> {
+    let mut text = String::new(alloc);
+    let mut findings = 0u32;
+    let mut doubts = 0u32;
+    for line in told.split("; ") {
+        if line.is_empty() {
+            continue;
+        }
+        let mut kind = "finding";
+        if line.starts_with("U") {
+            kind = "unjudged";
+            doubts = doubts.wrapping_add(1);
+        } else {
+            findings = findings.wrapping_add(1);
+        }
+        text = format!(in alloc; "{text}{kind} {line}\n")?;
+    }
+    let (code, verdict) = verdict_of(findings, doubts);
+    text = format!(in alloc; "{text}findings {findings} unjudged {doubts}\nverdict {verdict}\n")?;
+    Ok((code, text))
+}
+
+/// Runs words over the files, and compares the report: its findings and doubts, with `; ` between them.
+pub(crate) fn expect_report(
+    rt: &impl Abort,
+    alloc: Global,
+    line: &str,
+    files: &mut MemFiles,
+    told: &str,
+) -> Result<(), Fail> {
+    let (code, text) = report_of(alloc, told)?;
+    expect(rt, alloc, line, files, (code, text.as_str()))
 }
 
 /// Runs `index` over the files of a case, and compares its report.
@@ -25,21 +99,15 @@ pub(crate) fn expect_index(
     rt: &impl Abort,
     alloc: Global,
     files: &mut MemFiles,
-    want: Want<'_>,
+    told: &str,
 ) -> Result<(), Fail> {
-    let text = want.text(alloc)?;
-    let words = ["index", "case.toml", "t_a"];
-    expect(rt, alloc, &words, files, (want.code(), text.as_str()))
+    expect_report(rt, alloc, "index|case.toml|t_a", files, told)
 }
 
-/// Runs `all` over the files of a case, and compares its report.
-pub(crate) fn expect_all(
-    rt: &impl Abort,
-    alloc: Global,
-    files: &mut MemFiles,
-    want: Want<'_>,
-) -> Result<(), Fail> {
-    let text = want.text(alloc)?;
-    let words = ["all", "case.toml"];
-    expect(rt, alloc, &words, files, (want.code(), text.as_str()))
+/// Runs `index` over a case with a heap of one page or none and an index, and compares its report: the text, the heap,
+/// the tree, and what is told.
+pub(crate) fn expect_laid(rt: &impl Abort, alloc: Global, row: [&str; 4]) -> Result<(), Fail> {
+    let [text, heap, tree, told] = row;
+    let mut files = files_of(alloc, [text, heap, tree])?;
+    expect_index(rt, alloc, &mut files, told)
 }

@@ -11,7 +11,7 @@ mod index;
 #[cfg(test)]
 mod indexed;
 #[cfg(test)]
-mod level_trees;
+mod laid;
 #[cfg(test)]
 mod levels;
 #[cfg(test)]

@@ -1,184 +1,127 @@
 //! Runs of `scan`: over the case file and the index's file alone, so that a run that asks for another one is refused.
-use crate::expected::expect;
-use crate::level_trees::{DEAD_FIRST, EQUAL_KEYS, LOST_TID, OF_TWO_NUMBERS};
+use crate::expected::{NUMBER, TWO_NUMBERS, expect};
+use crate::laid::{THREE, add_tree};
+use crate::levels::{DEAD_FIRST, EQUAL_KEYS, LOST_TID, OF_TWO_NUMBERS};
 use outside::{MemFiles, Part};
-use run_files::{CLUSTER, INDEX, INT_COLUMN, Roots, THREE, TreePage, rooted_file};
+use run_files::CLUSTER;
 use std::alloc::Global;
 use std::process::Abort;
 use std::test::Fail;
 
-// The text of a case of two numbers with an index on both.
-const PAIRS: &str =
-    "[[column]]\nname = \"a\"\ntype = \"int4\"\n[[column]]\nname = \"b\"\ntype = \"int4\"\n";
-
-const AND_B: &str = "[[index.key]]\ncolumn = \"b\"\n";
-
-// The columns of a case, what its index has behind the first of them, and the pages of the index.
-#[derive(Clone, Copy)]
-struct Table<'a> {
-    columns: &'a str,
-    behind: &'a str,
-    roots: Roots,
-    pages: &'a [TreePage<'a>],
+// The file of a case with this text.
+fn case_alone(alloc: Global, text: &str) -> Result<MemFiles, Fail> {
+    let text = format!(in alloc; "{CLUSTER}{text}")?;
+    let mut files = MemFiles::new(alloc);
+    files.add("case.toml", Part::Segment(0), text.as_bytes())?;
+    Ok(files)
 }
 
-const NUMBERS: Table<'static> = Table {
-    columns: INT_COLUMN,
-    behind: "",
-    roots: Roots {
-        root: 3,
-        level: 1,
-        fastroot: 3,
-        fastlevel: 1,
-    },
-    pages: DEAD_FIRST,
-};
-
-const TWO_NUMBERS: Table<'static> = Table {
-    columns: PAIRS,
-    behind: AND_B,
-    pages: OF_TWO_NUMBERS,
-    ..NUMBERS
-};
-
-const SEVENS: Table<'static> = Table {
-    pages: EQUAL_KEYS,
-    ..NUMBERS
-};
-
-const ONE_LEAF: Table<'static> = Table {
-    roots: Roots {
-        root: 1,
-        level: 0,
-        fastroot: 1,
-        fastlevel: 0,
-    },
-    pages: &[THREE],
-    ..NUMBERS
-};
-
-// Runs `scan` of the index by two bounds and a direction, and compares what is answered and written.
+// Runs `scan` of an index, and compares what is answered and written: the text of the case, the tree, and two bounds
+// and a direction with `|` between them.
 fn expect_scan(
     rt: &impl Abort,
     alloc: Global,
-    table: Table<'_>,
-    words: [&str; 3],
+    row: [&str; 3],
     want: (u8, &str),
 ) -> Result<(), Fail> {
-    let text = format!(in alloc; "{CLUSTER}{}{INDEX}{}", table.columns, table.behind)?;
-    let mut files = MemFiles::new(alloc);
-    files.add("case.toml", Part::Segment(0), text.as_bytes())?;
-    let index = rooted_file(alloc, table.roots, table.pages)?;
-    files.add("i", Part::Segment(0), index.as_slice())?;
-    let [low, high, direction] = words;
-    let words = ["scan", "case.toml", "t_a", low, high, direction];
-    expect(rt, alloc, &words, &mut files, want)
+    let [text, tree, words] = row;
+    let mut files = case_alone(alloc, text)?;
+    add_tree(alloc, &mut files, "i", tree)?;
+    let line = format!(in alloc; "scan|case.toml|t_a|{words}")?;
+    expect(rt, alloc, line.as_str(), &mut files, want)
 }
+
+// The text of the case, the tree, the bounds and the direction, the status and what is written.
+const SCANS: [([&str; 3], u8, &str); 8] = [
+    (
+        [NUMBER, EQUAL_KEYS, "ge:7|le:7|backward"],
+        0,
+        "entry 7 tid 0 3\nentry 7 tid 0 2\nentry 7 tid 0 1\nentries 3\n",
+    ),
+    (
+        [TWO_NUMBERS, OF_TWO_NUMBERS, "gt:4|-|forward"],
+        0,
+        "entry 5,1 tid 0 3\nentry 5,3 tid 0 4\nentries 2\n",
+    ),
+    (
+        [TWO_NUMBERS, OF_TWO_NUMBERS, "gt:4,1|lt:5,3|backward"],
+        0,
+        "entry 5,1 tid 0 3\nentry 4,2 tid 0 2\nentries 2\n",
+    ),
+    (
+        [NUMBER, DEAD_FIRST, "-|-|backward"],
+        0,
+        "entry 9 tid 0 3\nentry 7 tid 0 2\nentry 5 tid 0 1\nentries 3\n",
+    ),
+    ([NUMBER, DEAD_FIRST, "gt:9|-|forward"], 0, "entries 0\n"),
+    // nulls are last here
+    ([NUMBER, DEAD_FIRST, "ge:null|-|backward"], 0, "entries 0\n"),
+    ([NUMBER, DEAD_FIRST, "-|lt:-9|forward"], 0, "entries 0\n"),
+    // an index that isn't sound
+    (
+        [NUMBER, LOST_TID, "-|-|forward"],
+        1,
+        "finding L5 index 1 block 2\nfindings 1 unjudged 0\nverdict findings\n",
+    ),
+];
 
 #[test]
 fn entries_between_bounds(rt: HostRuntime) -> Result<(), Fail> {
-    let alloc = rt.alloc();
-    let rows = [
-        (
-            SEVENS,
-            ["ge:7", "le:7", "backward"],
-            "entry 7 tid 0 3\nentry 7 tid 0 2\nentry 7 tid 0 1\nentries 3\n",
-        ),
-        (
-            TWO_NUMBERS,
-            ["gt:4", "-", "forward"],
-            "entry 5,1 tid 0 3\nentry 5,3 tid 0 4\nentries 2\n",
-        ),
-        (
-            TWO_NUMBERS,
-            ["gt:4,1", "lt:5,3", "backward"],
-            "entry 5,1 tid 0 3\nentry 4,2 tid 0 2\nentries 2\n",
-        ),
-        (
-            NUMBERS,
-            ["-", "-", "backward"],
-            "entry 9 tid 0 3\nentry 7 tid 0 2\nentry 5 tid 0 1\nentries 3\n",
-        ),
-        (NUMBERS, ["gt:9", "-", "forward"], "entries 0\n"),
-        // nulls are last here
-        (NUMBERS, ["ge:null", "-", "backward"], "entries 0\n"),
-        (NUMBERS, ["-", "lt:-9", "forward"], "entries 0\n"),
-    ];
-    for (table, words, want) in rows {
-        expect_scan(&rt, alloc, table, words, (0, want))?;
+    for (row, code, text) in SCANS {
+        expect_scan(&rt, rt.alloc(), row, (code, text))?;
     }
     Ok(())
 }
 
+// Bounds and a direction, the status and what is written.
+const REFUSED: [(&str, u8, &str); 15] = [
+    // bounds that don't fit
+    ("ge:1,2|-|forward", 11, "refused bound\n"),
+    ("-|lt:true|forward", 11, "refused bound\n"),
+    ("gt:x|-|backward", 11, "refused bound\n"),
+    ("-|le:2147483648|backward", 11, "refused bound\n"),
+    // words of no scan
+    ("ge:|-|forward", 3, "refused usage\n"),
+    ("le:1|-|forward", 3, "refused usage\n"),
+    ("-|ge:1|forward", 3, "refused usage\n"),
+    ("ge:01|-|forward", 3, "refused usage\n"),
+    ("ge:-0|-|forward", 3, "refused usage\n"),
+    ("ge:1,|-|forward", 3, "refused usage\n"),
+    ("-|lt:xA0|forward", 3, "refused usage\n"),
+    ("-|lt:xa|forward", 3, "refused usage\n"),
+    ("-|lt:9223372036854775808|forward", 3, "refused usage\n"),
+    ("-|-|up", 3, "refused usage\n"),
+    ("|-|forward", 3, "refused usage\n"),
+];
+
 #[test]
-fn bounds_that_do_not_fit(rt: HostRuntime) -> Result<(), Fail> {
-    let alloc = rt.alloc();
-    let rows = [
-        ["ge:1,2", "-", "forward"],
-        ["-", "lt:true", "forward"],
-        ["gt:x", "-", "backward"],
-        ["-", "le:2147483648", "backward"],
-    ];
-    for words in rows {
-        expect_scan(&rt, alloc, ONE_LEAF, words, (11, "refused bound\n"))?;
+fn words_that_are_refused(rt: HostRuntime) -> Result<(), Fail> {
+    for (words, code, text) in REFUSED {
+        expect_scan(&rt, rt.alloc(), [NUMBER, THREE, words], (code, text))?;
     }
     Ok(())
 }
 
-#[test]
-fn words_of_no_scan(rt: HostRuntime) -> Result<(), Fail> {
-    let alloc = rt.alloc();
-    let rows = [
-        ["ge:", "-", "forward"],
-        ["le:1", "-", "forward"],
-        ["-", "ge:1", "forward"],
-        ["ge:01", "-", "forward"],
-        ["ge:-0", "-", "forward"],
-        ["ge:1,", "-", "forward"],
-        ["-", "lt:xA0", "forward"],
-        ["-", "lt:xa", "forward"],
-        ["-", "lt:9223372036854775808", "forward"],
-        ["-", "-", "up"],
-        ["", "-", "forward"],
-    ];
-    for words in rows {
-        expect_scan(&rt, alloc, ONE_LEAF, words, (3, "refused usage\n"))?;
-    }
-    Ok(())
-}
+// Words, the status and what is written, where the index's file isn't there: a bound is refused before it.
+const WITHOUT_FILE: [(&str, u8, &str); 3] = [
+    ("scan|case.toml|t_a|ge:1,2|-|forward", 11, "refused bound\n"),
+    (
+        "scan|case.toml|t_a|ge:1|-|forward",
+        5,
+        "refused no file i\n",
+    ),
+    (
+        "scan|case.toml|nosuch|ge:1,2|-|forward",
+        4,
+        "refused case C5 index.name\n",
+    ),
+];
 
 #[test]
-fn indexes_that_are_not_sound(rt: HostRuntime) -> Result<(), Fail> {
-    let alloc = rt.alloc();
-    let lost = Table {
-        pages: LOST_TID,
-        ..NUMBERS
-    };
-    let want = "finding L5 index 1 block 2\nfindings 1 unjudged 0\nverdict findings\n";
-    expect_scan(&rt, alloc, lost, ["-", "-", "forward"], (1, want))?;
-    // a bound is refused before the index's file, which isn't there
-    let mut files = MemFiles::new(alloc);
-    let text = format!(in alloc; "{CLUSTER}{INT_COLUMN}{INDEX}")?;
-    files.add("case.toml", Part::Segment(0), text.as_bytes())?;
-    let rows = [
-        (
-            ["scan", "case.toml", "t_a", "ge:1,2", "-", "forward"],
-            11,
-            "refused bound\n",
-        ),
-        (
-            ["scan", "case.toml", "t_a", "ge:1", "-", "forward"],
-            5,
-            "refused no file i\n",
-        ),
-        (
-            ["scan", "case.toml", "nosuch", "ge:1,2", "-", "forward"],
-            4,
-            "refused case C5 index.name\n",
-        ),
-    ];
-    for (words, code, want) in rows {
-        expect(&rt, alloc, &words, &mut files, (code, want))?;
+fn an_index_without_its_file(rt: HostRuntime) -> Result<(), Fail> {
+    let mut files = case_alone(rt.alloc(), NUMBER)?;
+    for (words, code, text) in WITHOUT_FILE {
+        expect(&rt, rt.alloc(), words, &mut files, (code, text))?;
     }
     Ok(())
 }
