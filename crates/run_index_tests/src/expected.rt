@@ -1,6 +1,6 @@
 //! Runs, and what they should answer and write.
-use crate::laid::files_of;
-use outside::{MemFiles, MemSink};
+use crate::laid::{case_alone, files_of};
+use outside::{MemFiles, MemSink, Part};
 use run_files::run_words;
 use std::alloc::Global;
 use std::process::Abort;
@@ -46,6 +46,49 @@ pub(crate) fn expect(
     assert_eq!(rt; sink.bytes(), want.1.as_bytes());
     assert_eq!(rt; code, want.0);
     Ok(())
+}
+
+/// Runs each of these words over the files: the words, and the status and what is written.
+pub(crate) fn expect_each(
+    rt: &impl Abort,
+    alloc: Global,
+    files: &mut MemFiles,
+    rows: &[(&str, u8, &str)],
+) -> Result<(), Fail> {
+    for (line, code, text) in rows {
+        expect(rt, alloc, line, files, (*code, text))?;
+    }
+    Ok(())
+}
+
+// Runs words over files of which one isn't there, and then adds it, without bytes.
+fn expect_absent(
+    rt: &impl Abort,
+    alloc: Global,
+    line: &str,
+    files: &mut MemFiles,
+    name: &str,
+) -> Result<(), Fail> {
+    let refusal = format!(in alloc; "refused no file {name}\n")?;
+    expect(rt, alloc, line, files, (5, refusal.as_str()))?;
+    files.add(name, Part::Segment(0), &[])?;
+    Ok(())
+}
+
+/// Runs words over the file of a case, with this text behind the heap's file, and then over more and more of the files
+/// that it names, with `|` between them: the absence of each is refused in turn. It gives the files.
+pub(crate) fn expect_in_order(
+    rt: &impl Abort,
+    alloc: Global,
+    text: &str,
+    line: &str,
+    names: &str,
+) -> Result<MemFiles, Fail> {
+    let mut files = case_alone(alloc, text)?;
+    for name in names.split("|") {
+        expect_absent(rt, alloc, line, &mut files, name)?;
+    }
+    Ok(files)
 }
 
 // The status and the verdict of a report with so many findings and doubts.

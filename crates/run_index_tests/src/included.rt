@@ -21,53 +21,48 @@ const ENTRY: &str = "1:0:1:0; :3 0.1.4010#05000000076869";
 // The rows of 5 and of 7 with the text hi.
 const TWO_ROWS: &str = "2bc.0.0.1.2.902#05000000076869 2bc.0.0.2.2.902#07000000076869";
 
-// The text of a case, its heap, its tree, and what is told.
-const LAID: [[&str; 4]; 8] = [
-    [INCLUDED, FIVE_HI, ENTRY, ""],
+// A heap, its tree, and what is told.
+const LAID: [(&str, &str, &str); 8] = [
+    (FIVE_HI, ENTRY, ""),
     // The entry has the text ho.
-    [
-        INCLUDED,
+    (
         FIVE_HI,
         "1:0:1:0; :3 0.1.4010#0500000007686f",
         "X1 index 1 tuple 0 1",
-    ],
+    ),
     // The row's text has a header of four bytes.
-    [INCLUDED, "2bc.0.0.1.2.902#05000000180000006869", ENTRY, ""],
+    ("2bc.0.0.1.2.902#05000000180000006869", ENTRY, ""),
     // It is compressed.
-    [
-        INCLUDED,
+    (
         "2bc.0.0.1.2.902#05000000320000000000000000000000",
         ENTRY,
         "U6 index 1 tuple 0 1",
-    ],
+    ),
     // Both values of the row are null, as those of its entry; a null isn't an empty text.
-    [INCLUDED, "2bc.0.0.1.2.901#", "1:0:1:0; :3 ?@1", ""],
-    [
-        INCLUDED,
+    ("2bc.0.0.1.2.901#", "1:0:1:0; :3 ?@1", ""),
+    (
         "2bc.0.0.1.2.901#",
         "1:0:1:0; :3 0.1.c018#020000000000000003",
         "X1 index 1 tuple 0 1",
-    ],
+    ),
     // A high key with the included value, and one that keeps the columns of the key alone.
-    [
-        INCLUDED,
+    (
         TWO_ROWS,
         "3:1:3:1; :2:0:1 0.2.6010#07000000076869 0.1.4010#05000000076869; \
 1:0:0:1 0.2.4010#07000000076869; :1:2 ->1 7>2",
         "B7 index 1 block 1 item 1",
-    ],
-    [
-        INCLUDED,
+    ),
+    (
         TWO_ROWS,
         "3:1:3:1; :2:0:1 7> 0.1.4010#05000000076869; 1:0:0:1 0.2.4010#07000000076869; :1:2 ->1 7>2",
         "",
-    ],
+    ),
 ];
 
 #[test]
 fn included_values(rt: HostRuntime) -> Result<(), Fail> {
-    for row in LAID {
-        expect_laid(&rt, rt.alloc(), row)?;
+    for (heap, tree, told) in LAID {
+        expect_laid(&rt, rt.alloc(), [INCLUDED, heap, tree, told])?;
     }
     Ok(())
 }

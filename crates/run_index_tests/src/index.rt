@@ -1,7 +1,7 @@
 //! Runs of `index` on small cases: sound indexes, each rule of an index that is judged page by page broken, and what
 //! is refused.
-use crate::expected::{NUMBER, TEXT, expect, expect_index, expect_laid};
-use crate::laid::{THREE, TWO_LEVELS, add_tree, files_of, heap_file, heap_files, tree_file};
+use crate::expected::{NUMBER, TEXT, expect_each, expect_in_order, expect_index, expect_laid};
+use crate::laid::{THREE, TWO_LEVELS, add_tree, files_of, heap_file, tree_file};
 use outside::{MemFiles, Part};
 use run_files::{CLUSTER, INDEX, INT_COLUMN, case_files, put_over};
 use std::alloc::Global;
@@ -12,32 +12,33 @@ use std::test::Fail;
 const DESCENDING: &str = "[[column]]\nname = \"a\"\ntype = \"int4\"\n\
 [[index]]\nname = \"t_a\"\nfile = \"i\"\n[[index.key]]\ncolumn = \"a\"\ndesc = true\n";
 
-// The text of a case, its heap, its tree, and what is told.
-const LAID: [[&str; 4]; 13] = [
-    [NUMBER, "", "0:0:0:0", ""],
-    [NUMBER, "", "1:0:1:0; :3", ""],
-    [NUMBER, "5 7 9", THREE, ""],
-    [NUMBER, "5 7 9", TWO_LEVELS, ""],
+// A heap, the tree of an index on its number, and what is told.
+const OF_NUMBERS: [(&str, &str, &str); 10] = [
+    ("", "0:0:0:0", ""),
+    ("", "1:0:1:0; :3", ""),
+    ("5 7 9", THREE, ""),
+    ("5 7 9", TWO_LEVELS, ""),
     // Lists of TIDs: in order, twice the same, item 0, and more of them than fit.
-    [NUMBER, "7 7", "1:0:1:0; :3 7[1,2]2", ""],
-    [
-        NUMBER,
-        "7 7",
-        "1:0:1:0; :3 7[1,1]2",
-        "B9 index 1 block 1 item 1",
-    ],
-    [
-        NUMBER,
-        "7 7",
-        "1:0:1:0; :3 7[1,0]2",
-        "B9 index 1 block 1 item 1",
-    ],
-    [
-        NUMBER,
-        "7 7",
-        "1:0:1:0; :3 7[1,2]fff",
-        "B9 index 1 block 1 item 1",
-    ],
+    ("7 7", "1:0:1:0; :3 7[1,2]2", ""),
+    ("7 7", "1:0:1:0; :3 7[1,1]2", "B9 index 1 block 1 item 1"),
+    ("7 7", "1:0:1:0; :3 7[1,0]2", "B9 index 1 block 1 item 1"),
+    ("7 7", "1:0:1:0; :3 7[1,2]fff", "B9 index 1 block 1 item 1"),
+    // The root leads to itself.
+    ("5 7 9", "1:1:1:1; :1:2 ->1", "B13 index 1 block 1 item 1"),
+    // A value past the end of its tuple.
+    ("", "1:0:1:0; :3 0.1.8#", "B8 index 1 block 1 item 1"),
+];
+
+#[test]
+fn indexes_on_numbers(rt: HostRuntime) -> Result<(), Fail> {
+    for (heap, tree, told) in OF_NUMBERS {
+        expect_laid(&rt, rt.alloc(), [NUMBER, heap, tree, told])?;
+    }
+    Ok(())
+}
+
+// The text of a case, its heap, its tree, and what is told.
+const OF_OTHERS: [[&str; 4]; 3] = [
     // Null, 9 and -9 in a descending order, and null at the end.
     [
         DESCENDING,
@@ -58,25 +59,11 @@ const LAID: [[&str; 4]; 13] = [
         "1:0:1:0; :3 0.1.4018#320000000000000000000000",
         "U5 index 1 block 1 item 1",
     ],
-    // The root leads to itself.
-    [
-        NUMBER,
-        "5 7 9",
-        "1:1:1:1; :1:2 ->1",
-        "B13 index 1 block 1 item 1",
-    ],
-    // A value past the end of its tuple.
-    [
-        NUMBER,
-        "",
-        "1:0:1:0; :3 0.1.8#",
-        "B8 index 1 block 1 item 1",
-    ],
 ];
 
 #[test]
-fn indexes_that_are_laid(rt: HostRuntime) -> Result<(), Fail> {
-    for row in LAID {
+fn other_indexes(rt: HostRuntime) -> Result<(), Fail> {
+    for row in OF_OTHERS {
         expect_laid(&rt, rt.alloc(), row)?;
     }
     Ok(())
@@ -91,10 +78,9 @@ fn expect_over(
     over: (u8, u16, &[u8]),
 ) -> Result<(), Fail> {
     let [heap, tree, told] = row;
-    let heap = heap_file(alloc, heap, 1)?;
-    let mut files = heap_files(alloc, NUMBER, &heap)?;
     let mut index = tree_file(alloc, tree)?;
     put_over(&mut index, over.0, over.1, over.2);
+    let mut files = files_of(alloc, [NUMBER, heap, tree])?;
     files.add("i", Part::Segment(0), index.as_slice())?;
     expect_index(rt, alloc, &mut files, told)
 }
@@ -203,41 +189,17 @@ const REFUSED: [(&str, u8, &str); 7] = [
 #[test]
 fn words_and_names_are_refused(rt: HostRuntime) -> Result<(), Fail> {
     let mut files = files_of(rt.alloc(), [NUMBER, "", "0:0:0:0"])?;
-    for (words, code, text) in REFUSED {
-        expect(&rt, rt.alloc(), words, &mut files, (code, text))?;
-    }
-    Ok(())
+    expect_each(&rt, rt.alloc(), &mut files, &REFUSED)
 }
 
-// The files that a case names, in the order in which they are asked for, and how the absence of each is refused.
-const ASKED: [(&str, &str); 3] = [
-    ("t", "refused no file t\n"),
-    ("tt", "refused no file tt\n"),
-    ("i", "refused no file i\n"),
-];
-
-// A case with a TOAST table and an index, and no other file.
-fn case_alone(alloc: Global) -> Result<MemFiles, Fail> {
-    let text = format!(in alloc;
-        "{CLUSTER}toast_file = \"tt\"\ntoast_oid = 16400\n{INT_COLUMN}{INDEX}"
-    )?;
-    let mut files = MemFiles::new(alloc);
-    files.add("case.toml", Part::Segment(0), text.as_bytes())?;
-    Ok(files)
-}
+// A TOAST table, and an index on a number.
+const TOAST_AND_INDEX: &str = "toast_file = \"tt\"\ntoast_oid = 16400\n\
+[[column]]\nname = \"a\"\ntype = \"int4\"\n\
+[[index]]\nname = \"t_a\"\nfile = \"i\"\n[[index.key]]\ncolumn = \"a\"\n";
 
 #[test]
 fn files_are_refused_in_order(rt: HostRuntime) -> Result<(), Fail> {
-    let mut files = case_alone(rt.alloc())?;
-    for (file, refusal) in ASKED {
-        expect(
-            &rt,
-            rt.alloc(),
-            "index|case.toml|t_a",
-            &mut files,
-            (5, refusal),
-        )?;
-        files.add(file, Part::Segment(0), &[])?;
-    }
+    let line = "index|case.toml|t_a";
+    let mut files = expect_in_order(&rt, rt.alloc(), TOAST_AND_INDEX, line, "t|tt|i")?;
     expect_index(&rt, rt.alloc(), &mut files, "M1 index 1 block 0")
 }

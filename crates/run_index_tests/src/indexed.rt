@@ -1,6 +1,8 @@
 //! Runs of `index` and `all` on a heap and its indexes together: rows without an entry, keys that can't be read,
 //! entries that name what none may, and what is refused.
-use crate::expected::{NUMBER, TEXT, expect, expect_index, expect_laid, expect_report};
+use crate::expected::{
+    NUMBER, TEXT, expect_each, expect_in_order, expect_index, expect_laid, expect_report,
+};
 use crate::laid::{THREE, add_tree, files_of, heap_file, heap_files};
 use outside::{MemFiles, MemSink, Part};
 use run_files::{CLEAN, CLUSTER, INDEX, INT_COLUMN, run_words};
@@ -22,42 +24,43 @@ const TWICE: &str = "[[column]]\nname = \"a\"\ntype = \"int4\"\n\
 // A row that a member of multixact 5 updated, on the page of its successor, and its successor.
 const UPDATED_BY_MEMBER: &str = "2bc.5.0.2.4001.1100#07000000 2c8.0.0.2.8001.2800#09000000";
 
-// The text of a case, its heap, its tree, and what is told.
-const LAID: [[&str; 4]; 11] = [
-    [NUMBER, "5 7 9", THREE, ""],
-    [
-        NUMBER,
-        "5 7 9",
-        "1:0:1:0; :3 5@1 9@3",
-        "X1 index 1 tuple 0 2",
-    ],
-    [
-        NUMBER,
-        "5 7 9",
-        "1:0:1:0; :3 5@1 8@2 9@3",
-        "X1 index 1 tuple 0 2",
-    ],
-    [
-        NUMBER,
+// A heap, the tree of an index on its number, and what is told.
+const OF_NUMBERS: [(&str, &str, &str); 8] = [
+    ("5 7 9", THREE, ""),
+    ("5 7 9", "1:0:1:0; :3 5@1 9@3", "X1 index 1 tuple 0 2"),
+    ("5 7 9", "1:0:1:0; :3 5@1 8@2 9@3", "X1 index 1 tuple 0 2"),
+    (
         "5 7 9",
         "1:0:1:0; :3",
         "X1 index 1 tuple 0 1; X1 index 1 tuple 0 2; X1 index 1 tuple 0 3",
-    ],
+    ),
     // A redirect to a tuple at item 4, which index entries don't name.
-    [
-        NUMBER,
+    (
         "2~4 0~0 0~0 2bd.0.0.4.8001.2900#07000000",
         "1:0:1:0; :3 7@1",
         "",
-    ],
-    [
-        NUMBER,
+    ),
+    (
         "2~4 0~0 0~0 2bd.0.0.4.8001.2900#07000000",
         "1:0:1:0; :3 7@4",
         "X1 index 1 tuple 0 4; X2 index 1 block 1 item 1 tid 0 4",
-    ],
+    ),
     // A killed entry is none.
-    [NUMBER, "7", "1:0:1:0; :3 7!1", "X1 index 1 tuple 0 1"],
+    ("7", "1:0:1:0; :3 7!1", "X1 index 1 tuple 0 1"),
+    // The updater in a multixact committed, so that 9 is live and found from item 1.
+    (UPDATED_BY_MEMBER, "1:0:1:0; :3 9@1", ""),
+];
+
+#[test]
+fn numbers_and_their_entries(rt: HostRuntime) -> Result<(), Fail> {
+    for (heap, tree, told) in OF_NUMBERS {
+        expect_laid(&rt, rt.alloc(), [NUMBER, heap, tree, told])?;
+    }
+    Ok(())
+}
+
+// The text of a case, its heap, its tree, and what is told.
+const OF_TEXTS: [[&str; 4]; 3] = [
     // A compressed key is in doubt, and the row after it is still looked up.
     [
         TEXT,
@@ -78,13 +81,11 @@ const LAID: [[&str; 4]; 11] = [
         "1:0:1:0; :3 0.1.4010#076869 0.2.4010#076869",
         "",
     ],
-    // The updater in a multixact committed, so that 9 is live and found from item 1.
-    [NUMBER, UPDATED_BY_MEMBER, "1:0:1:0; :3 9@1", ""],
 ];
 
 #[test]
-fn rows_and_their_entries(rt: HostRuntime) -> Result<(), Fail> {
-    for row in LAID {
+fn texts_and_their_entries(rt: HostRuntime) -> Result<(), Fail> {
+    for row in OF_TEXTS {
         expect_laid(&rt, rt.alloc(), row)?;
     }
     Ok(())
@@ -230,36 +231,20 @@ const REFUSED: [(&str, u8, &str); 4] = [
 #[test]
 fn words_of_all_are_refused(rt: HostRuntime) -> Result<(), Fail> {
     let mut files = MemFiles::new(rt.alloc());
-    for (words, code, text) in REFUSED {
-        expect(&rt, rt.alloc(), words, &mut files, (code, text))?;
-    }
-    Ok(())
+    expect_each(&rt, rt.alloc(), &mut files, &REFUSED)
 }
 
-// The files that a case names, in the order in which they are asked for, and how the absence of each is refused.
-const ASKED: [(&str, &str); 4] = [
-    ("t", "refused no file t\n"),
-    ("tt", "refused no file tt\n"),
-    ("i", "refused no file i\n"),
-    ("j", "refused no file j\n"),
-];
-
-// A case with a TOAST table and two indexes, and no other file.
-fn case_alone(alloc: Global) -> Result<MemFiles, Fail> {
-    let text = format!(in alloc; "{CLUSTER}toast_file = \"tt\"\ntoast_oid = 16400\n{TWICE}")?;
-    let mut files = MemFiles::new(alloc);
-    files.add("case.toml", Part::Segment(0), text.as_bytes())?;
-    Ok(files)
-}
+// A TOAST table, and two indexes on a number.
+const TOAST_AND_TWICE: &str = "toast_file = \"tt\"\ntoast_oid = 16400\n\
+[[column]]\nname = \"a\"\ntype = \"int4\"\n\
+[[index]]\nname = \"t_a\"\nfile = \"i\"\n[[index.key]]\ncolumn = \"a\"\n\
+[[index]]\nname = \"t_b\"\nfile = \"j\"\n[[index.key]]\ncolumn = \"a\"\n";
 
 // Each file is asked for before any is judged.
 #[test]
 fn files_of_all_are_refused_in_order(rt: HostRuntime) -> Result<(), Fail> {
-    let mut files = case_alone(rt.alloc())?;
-    for (file, refusal) in ASKED {
-        expect(&rt, rt.alloc(), "all|case.toml", &mut files, (5, refusal))?;
-        files.add(file, Part::Segment(0), &[])?;
-    }
+    let line = "all|case.toml";
+    let mut files = expect_in_order(&rt, rt.alloc(), TOAST_AND_TWICE, line, "t|tt|i|j")?;
     let told = "M1 index 1 block 0; M1 index 2 block 0";
-    expect_report(&rt, rt.alloc(), "all|case.toml", &mut files, told)
+    expect_report(&rt, rt.alloc(), line, &mut files, told)
 }

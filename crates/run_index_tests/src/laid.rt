@@ -231,6 +231,14 @@ pub(crate) fn tree_file(alloc: Global, tree: &str) -> Result<Vec<u8>, Fail> {
     Ok(bytes)
 }
 
+/// The file of a case, with this text behind the heap's file, and no other.
+pub(crate) fn case_alone(alloc: Global, text: &str) -> Result<MemFiles, Fail> {
+    let text = format!(in alloc; "{CLUSTER}{text}")?;
+    let mut files = MemFiles::new(alloc);
+    files.add("case.toml", Part::Segment(0), text.as_bytes())?;
+    Ok(files)
+}
+
 /// The files of a case without those of its indexes: what its text has behind the heap's file, and the heap.
 pub(crate) fn heap_files(alloc: Global, text: &str, heap: &[u8]) -> Result<MemFiles, Fail> {
     let text = format!(in alloc; "{CLUSTER}{text}")?;

@@ -1,20 +1,10 @@
 //! Runs of `scan`: over the case file and the index's file alone, so that a run that asks for another one is refused.
-use crate::expected::{NUMBER, TWO_NUMBERS, expect};
-use crate::laid::{THREE, add_tree};
+use crate::expected::{NUMBER, TWO_NUMBERS, expect, expect_each};
+use crate::laid::{THREE, add_tree, case_alone};
 use crate::levels::{DEAD_FIRST, EQUAL_KEYS, LOST_TID, OF_TWO_NUMBERS};
-use outside::{MemFiles, Part};
-use run_files::CLUSTER;
 use std::alloc::Global;
 use std::process::Abort;
 use std::test::Fail;
-
-// The file of a case with this text.
-fn case_alone(alloc: Global, text: &str) -> Result<MemFiles, Fail> {
-    let text = format!(in alloc; "{CLUSTER}{text}")?;
-    let mut files = MemFiles::new(alloc);
-    files.add("case.toml", Part::Segment(0), text.as_bytes())?;
-    Ok(files)
-}
 
 // Runs `scan` of an index, and compares what is answered and written: the text of the case, the tree, and two bounds
 // and a direction with `|` between them.
@@ -120,8 +110,5 @@ const WITHOUT_FILE: [(&str, u8, &str); 3] = [
 #[test]
 fn an_index_without_its_file(rt: HostRuntime) -> Result<(), Fail> {
     let mut files = case_alone(rt.alloc(), NUMBER)?;
-    for (words, code, text) in WITHOUT_FILE {
-        expect(&rt, rt.alloc(), words, &mut files, (code, text))?;
-    }
-    Ok(())
+    expect_each(&rt, rt.alloc(), &mut files, &WITHOUT_FILE)
 }
