@@ -1,6 +1,6 @@
 //! Pages that are kept, that give way to others, and that are read again. Which are kept is worked out by
 //! hand.
-use crate::trees::SmallIndex;
+use crate::trees::{SIX, bytes_of, open};
 use bt_levels::SoundTree;
 use bt_search::PageCache;
 use std::alloc::Global;
@@ -28,65 +28,85 @@ fn is_block(file: &[u8], page: &[u8; 8192], block: u32) -> bool {
     rest.split_at(8192.min(rest.len())).0 == page.as_slice()
 }
 
-// Looks at blocks of an index of eight in turn: whether each page is the block, is read from the files
-// just where it is said to be, and no more pages are kept than may be.
-fn are_so(alloc: Global, mut cache: PageCache, looks: &[(u32, bool)]) -> Result<bool, Fail> {
-    let (mut files, tree) = SmallIndex::Six.open(alloc)?;
-    let bytes = SmallIndex::Six.bytes(alloc)?;
+// Whether the page of a block through a cache is the block of a file, is read from the files just where it is said to
+// be, and no more pages are kept than may be.
+fn is_so(
+    tree: &SoundTree,
+    files: &mut UntoldFiles,
+    cache: &mut PageCache,
+    bytes: &[u8],
+    (block, is_read): (u32, bool),
+) -> bool {
+    match page_of(tree, files, cache, block) {
+        Some(looked) => {
+            let page = looked.0;
+            let is_same = is_block(bytes, &page, block) && is_read == looked.1;
+            is_same && cache.len() <= cache.capacity()
+        }
+        None => false,
+    }
+}
+
+// Looks at blocks of an index of eight in turn, and says whether all is so. A block with `!` is read from the files.
+fn are_so(alloc: Global, cache: &mut PageCache, looks: &str) -> Result<bool, Fail> {
+    let bytes = bytes_of(alloc, SIX)?;
+    let (mut files, tree) = open(alloc, SIX)?;
     let mut are_so = cache.is_empty();
-    for (block, is_read) in looks {
-        let (page, was_read) = page_of(&tree, &mut files, &mut cache, *block).ok_or("a fault")?;
-        are_so = are_so && is_block(&bytes, &page, *block) && *is_read == was_read;
-        are_so = are_so && cache.len() <= cache.capacity();
+    for look in looks.split_whitespace() {
+        let (number, is_read) = match look.strip_suffix("!") {
+            Some(number) => (number, true),
+            None => (look, false),
+        };
+        let block = number.parse::<u32>().unwrap_or(9);
+        are_so = are_so && is_so(&tree, &mut files, cache, &bytes, (block, is_read));
     }
     Ok(are_so)
 }
 
+// How many pages are kept, and at which blocks is looked. The page that was unused for longest goes, and a page that is
+// kept counts as used.
+const LOOKS: [(usize, &str); 3] = [
+    (1, "1! 1 2! 1! 1"),
+    (2, "1! 2! 1 3! 1 2! 1 3!"),
+    (4096, "7! 6! 0! 1! 7 0 6"),
+];
+
 #[test]
 fn looks_at_pages(rt: HostRuntime) -> Result<(), Fail> {
-    let alloc = rt.alloc();
-    let one = [(1, true), (1, false), (2, true), (1, true), (1, false)];
-    assert!(rt; are_so(alloc, PageCache::new(alloc, 1)?, &one)?);
-    // The page that was unused for longest goes, and a page that is kept counts as used.
-    let two = [
-        (1, true),
-        (2, true),
-        (1, false),
-        (3, true),
-        (1, false),
-        (2, true),
-        (1, false),
-        (3, true),
-    ];
-    assert!(rt; are_so(alloc, PageCache::new(alloc, 2)?, &two)?);
-    let all = [
-        (7, true),
-        (6, true),
-        (0, true),
-        (1, true),
-        (7, false),
-        (0, false),
-        (6, false),
-    ];
-    assert!(rt; are_so(alloc, PageCache::new(alloc, 4096)?, &all)?);
+    for (capacity, looks) in LOOKS {
+        assert!(rt; 1 <= capacity && capacity <= 4096);
+        let mut cache = PageCache::new(rt.alloc(), capacity)?;
+        assert!(rt; are_so(rt.alloc(), &mut cache, looks)?, "{looks}");
+    }
     Ok(())
+}
+
+// Whether each of some pages is lent or not, as it is said.
+fn are_lent(
+    tree: &SoundTree,
+    files: &mut UntoldFiles,
+    cache: &mut PageCache,
+    looks: &[(u32, bool)],
+) -> bool {
+    let mut are_lent = true;
+    for (block, is_lent) in looks {
+        are_lent = are_lent && page_of(tree, files, cache, *block).is_some() == *is_lent;
+    }
+    are_lent
 }
 
 #[test]
 fn looks_after_a_read_that_fails(rt: HostRuntime) -> Result<(), Fail> {
-    let alloc = rt.alloc();
-    let (mut files, tree) = SmallIndex::Six.open(alloc)?;
+    let (mut files, tree) = open(rt.alloc(), SIX)?;
     assert!(rt; tree.blocks() == 8);
-    let mut cache = PageCache::new(alloc, 2)?;
-    assert!(rt; page_of(&tree, &mut files, &mut cache, 1).is_some());
+    let mut cache = PageCache::new(rt.alloc(), 2)?;
+    assert!(rt; are_lent(&tree, &mut files, &mut cache, &[(1, true)]));
     files.fail_from(1);
     // What is kept needs no read.
-    for (block, is_lent) in [(2, false), (1, true), (2, false)] {
-        let page = page_of(&tree, &mut files, &mut cache, block);
-        assert_eq!(rt; page.is_some(), is_lent);
-    }
+    let looks = [(2, false), (1, true), (2, false)];
+    assert!(rt; are_lent(&tree, &mut files, &mut cache, &looks));
     files.fails_from = u64::MAX;
-    assert!(rt; page_of(&tree, &mut files, &mut cache, 2).is_some());
-    assert_eq!(rt; cache.len(), 2);
+    assert!(rt; are_lent(&tree, &mut files, &mut cache, &[(2, true)]));
+    assert!(rt; cache.len() == 2);
     Ok(())
 }

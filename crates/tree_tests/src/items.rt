@@ -2,11 +2,12 @@
 ghost use Rattle.key_orders.specs.Types.{HasAlignment};
 
 use crate::steps::INT4;
-use crate::trees::SmallIndex;
-use bt_tuples::{ItemFault, Spot3, TreeItem, plain_entry_prefix, tree_item};
+use crate::trees::{THREE, leaf_bytes};
+use bt_tuples::{ItemFault, Spot3, TidList, TreeItem, plain_entry_prefix, tree_item};
 use key_orders::{ColType, KeySpec, MoreSpec, Tid, ValueRef};
 use page_layout::{PageKind, PageView, Rule};
 use std::process::Abort;
+use std::test::Fail;
 use test_files::Page;
 use varlena_attrs::IndexColumns;
 
@@ -39,42 +40,33 @@ fn page_of(pointer: &[u8; 4], tuple: &[u8]) -> [u8; 8192] {
     page.finish()
 }
 
-// What a column has.
-#[derive(Clone, Copy)]
-enum Kind {
-    Number,
-    Text,
-}
-
-fn type_of(kind: Kind) -> ColType
+fn type_of(is_text: bool) -> ColType
     ensures { HasAlignment result }
 {
-    match kind {
-        Kind::Number => ColType::Int4,
-        Kind::Text => ColType::Text,
+    if is_text {
+        ColType::Text
+    } else {
+        ColType::Int4
     }
 }
 
-// The key column of an index, and the column that it includes, if it does.
-type Columns = (Kind, Option<Kind>);
-
-const NUMBER: Columns = (Kind::Number, None);
-
-const TEXT: Columns = (Kind::Text, None);
+// Whether the key column of an index is a text, and not a number, and whether the column that it includes is, if it
+// includes one.
+type Columns = (bool, Option<bool>);
 
 // Reads an item of a page that breaks no page rule.
 fn read<'p>(
     rt: &impl Abort,
     bytes: &'p [u8; 8192],
     i: u16,
-    (kind, included): Columns,
+    (is_text, included): Columns,
     spot: Spot3,
 ) -> Result<TreeItem<'p>, ItemFault> {
     let page = PageView::new(bytes);
     assert!(rt; page.page_rule(PageKind::Tree).is_none());
     assert!(rt; 1 <= i && i <= page.item_count());
     let specs = [KeySpec {
-        ctype: type_of(kind),
+        ctype: type_of(is_text),
         ..INT4
     }];
     let Some(included) = included else {
@@ -87,31 +79,59 @@ fn read<'p>(
     tree_item(page, i, &IndexColumns::new(&specs, &more), spot)
 }
 
-// The only value of a list: `None` where there is none, `Some(None)` where it is null, and where it is no number or not
-// the only one, the least number.
-type Only = Option<Option<i64>>;
+// What stands for a value or a TID that isn't there, and for a null.
+const NONE: i64 = -1;
 
-fn value_of(values: &[ValueRef<'_>]) -> Only {
+const NULL: i64 = -2;
+
+// The only value of a list, and where it is no number or not the only one, the least number.
+fn value_of(values: &[ValueRef<'_>]) -> i64 {
     match values {
-        [] => None,
-        [ValueRef::Null] => Some(None),
-        [ValueRef::Int(n)] => Some(Some(*n)),
-        _ => Some(Some(i64::MIN)),
+        [] => NONE,
+        [ValueRef::Null] => NULL,
+        [ValueRef::Int(n)] => *n,
+        _ => i64::MIN,
     }
 }
 
-// An item: the value of its key and that of the included column; its TIDs, up to two; and the downlink of a separator,
-// or 1 for an entry that is killed.
-type Shown = (Only, Only, [Option<Tid>; 2], u32);
+// The block and the item of a TID.
+fn place_of(tid: Option<Tid>) -> (i64, i64) {
+    match tid {
+        Some(tid) => (i64::from(tid.block), i64::from(tid.item)),
+        None => (NONE, NONE),
+    }
+}
+
+// An item: the value of its key and that of the included column; the blocks and items of its TIDs, up to two; and the
+// downlink of a separator, or 1 for an entry that is killed.
+type Shown = [i64; 7];
+
+fn shown(key: i64, more: i64, [first, second]: [Option<Tid>; 2], last: u32) -> Shown {
+    let (first, second) = (place_of(first), place_of(second));
+    [
+        key,
+        more,
+        first.0,
+        first.1,
+        second.0,
+        second.1,
+        i64::from(last),
+    ]
+}
+
+// The two TIDs of a list, if it has just two.
+fn two_of(tids: TidList<'_>) -> [Option<Tid>; 2] {
+    if tids.len() != 2 {
+        return [None, None];
+    }
+    [Some(tids.get(0)), Some(tids.get(1))]
+}
 
 fn show(item: TreeItem<'_>) -> Shown {
     match item {
-        TreeItem::Pivot { sep, down } => (
-            value_of(sep.kept.as_slice()),
-            None,
-            [sep.tid, None],
-            down,
-        ),
+        TreeItem::Pivot { sep, down } => {
+            shown(value_of(sep.kept.as_slice()), NONE, [sep.tid, None], down)
+        }
         TreeItem::Plain {
             key,
             more,
@@ -119,34 +139,20 @@ fn show(item: TreeItem<'_>) -> Shown {
             killed,
         } => {
             let (key, more) = (value_of(key.as_slice()), value_of(more.as_slice()));
-            (key, more, [Some(tid), None], killed as u32)
+            shown(key, more, [Some(tid), None], killed as u32)
         }
         TreeItem::Posting { key, tids, killed } => {
-            let key = value_of(key.as_slice());
-            if tids.len() != 2 {
-                return (key, None, [None, None], killed as u32);
-            }
-            (
-                key,
-                None,
-                [Some(tids.get(0)), Some(tids.get(1))],
-                killed as u32,
-            )
+            shown(value_of(key.as_slice()), NONE, two_of(tids), killed as u32)
         }
     }
 }
 
-const SEVEN: Only = Some(Some(7));
-
-const FIRST: Tid = Tid { block: 0, item: 1 };
-
-const SECOND: Tid = Tid { block: 0, item: 2 };
-
 #[test]
-fn a_leaf_as_a_server_writes_it(rt: HostRuntime) {
-    let bytes = SmallIndex::Three.leaf_bytes();
-    let item = read(&rt, &bytes, 2, NUMBER, Spot3::LeafItem).map(show);
-    assert_eq!(rt; item, Ok((SEVEN, None, [Some(SECOND), None], 0)));
+fn a_leaf_as_a_server_writes_it(rt: HostRuntime) -> Result<(), Fail> {
+    let bytes = leaf_bytes(rt.alloc(), THREE)?;
+    let item = read(&rt, &bytes, 2, (false, None), Spot3::LeafItem).map(show);
+    assert_eq!(rt; item, Ok([7, NONE, 0, 2, NONE, NONE, 0]));
+    Ok(())
 }
 
 // The number of an entry of a leaf.
@@ -158,18 +164,14 @@ fn prefix(rt: &impl Abort, bytes: &[u8; 8192], i: u16, columns: &IndexColumns<'_
 }
 
 #[test]
-fn numbers_of_entries(rt: HostRuntime) {
-    let bytes = SmallIndex::Three.leaf_bytes();
+fn numbers_of_entries(rt: HostRuntime) -> Result<(), Fail> {
+    let bytes = leaf_bytes(rt.alloc(), THREE)?;
     let specs = [INT4];
     let columns = IndexColumns::new(&specs, &[]);
-    assert_eq!(rt;
-        prefix(&rt, &bytes, 1, &columns),
-        Some(0x8000_0000_0000_0005)
-    );
-    assert_eq!(rt;
-        prefix(&rt, &bytes, 3, &columns),
-        Some(0x8000_0000_0000_0009)
-    );
+    for (item, number) in [(1, 0x8000_0000_0000_0005), (3, 0x8000_0000_0000_0009)] {
+        assert_eq!(rt; prefix(&rt, &bytes, item, &columns), Some(number));
+    }
+    Ok(())
 }
 
 // An entry of 7 that includes hi.
@@ -187,10 +189,14 @@ fn number_of_an_entry_with_an_included_value(rt: HostRuntime) {
     assert_eq!(rt; number, Some(0x8000_0000_0000_0007));
 }
 
-// An item: its line pointer and bytes, the columns and its place.
-type Row = (&'static [u8; 4], &'static [u8], Columns, Spot3);
-
-fn item_of(rt: &impl Abort, (pointer, tuple, columns, spot): Row) -> Result<Shown, ItemFault> {
+// Reads the item of a page with this line pointer and these bytes.
+fn item_of(
+    rt: &impl Abort,
+    pointer: &[u8; 4],
+    tuple: &[u8],
+    columns: Columns,
+    spot: Spot3,
+) -> Result<Shown, ItemFault> {
     let bytes = page_of(pointer, tuple);
     read(rt, &bytes, 1, columns, spot).map(show)
 }
@@ -204,33 +210,51 @@ const POSTING: &[u8] =
 
 const NULL_AND_NINE: &[u8] = b"\0\0\0\0\x01\0\x18\x80\x02\0\0\0\0\0\0\0\x09\0\0\0\0\0\0\0";
 
-const WITH_NUMBER: Columns = (Kind::Number, Some(Kind::Number));
+// A number alone, with a number and with a text, and a text alone.
+const NUMBER: Columns = (false, None);
 
-const WITH_TEXT: Columns = (Kind::Number, Some(Kind::Text));
+const WITH_NUMBER: Columns = (false, Some(false));
 
-const FORMS: [(Row, Shown); 4] = [
+const WITH_TEXT: Columns = (false, Some(true));
+
+const TEXT: Columns = (true, None);
+
+// Line pointers, items, their columns, where they stand, and what they are.
+const FORMS: [(&[u8; 4], &[u8], Columns, Spot3, Shown); 4] = [
     (
-        (DEAD16, ENTRY, NUMBER, Spot3::LeafItem),
-        (SEVEN, None, [Some(FIRST), None], 1),
+        DEAD16,
+        ENTRY,
+        NUMBER,
+        Spot3::LeafItem,
+        [7, NONE, 0, 1, NONE, NONE, 1],
     ),
     (
-        (DEAD32, POSTING, NUMBER, Spot3::LeafItem),
-        (SEVEN, None, [Some(FIRST), Some(SECOND)], 1),
+        DEAD32,
+        POSTING,
+        NUMBER,
+        Spot3::LeafItem,
+        [7, NONE, 0, 1, 0, 2, 1],
     ),
     (
-        (NORMAL24, PIVOT, NUMBER, Spot3::Inner),
-        (SEVEN, None, [Some(Tid { block: 3, item: 4 }), None], 5),
+        NORMAL24,
+        PIVOT,
+        NUMBER,
+        Spot3::Inner,
+        [7, NONE, 3, 4, NONE, NONE, 5],
     ),
     (
-        (NORMAL24, NULL_AND_NINE, WITH_NUMBER, Spot3::LeafItem),
-        (Some(None), Some(Some(9)), [Some(FIRST), None], 0),
+        NORMAL24,
+        NULL_AND_NINE,
+        WITH_NUMBER,
+        Spot3::LeafItem,
+        [NULL, 9, 0, 1, NONE, NONE, 0],
     ),
 ];
 
 #[test]
 fn items_of_each_form(rt: HostRuntime) {
-    for (row, want) in FORMS {
-        assert_eq!(rt; item_of(&rt, row), Ok(want));
+    for (pointer, tuple, columns, spot, want) in FORMS {
+        assert_eq!(rt; item_of(&rt, pointer, tuple, columns, spot), Ok(want));
     }
 }
 
@@ -258,29 +282,31 @@ const FALLING: &[u8] =
 
 const NO_TIDS: &[u8] = b"\0\0\x10\0\0\x20\x10\x20\x07\0\0\0\0\0\0\0";
 
-const BROKEN: [(Row, Rule); 15] = [
-    ((UNALIGNED, ENTRY, NUMBER, Spot3::LeafItem), Rule::B5),
-    ((SHORT, ENTRY, NUMBER, Spot3::LeafItem), Rule::B5),
-    ((REDIRECT, ENTRY, NUMBER, Spot3::LeafItem), Rule::B5),
-    ((UNUSED, ENTRY, NUMBER, Spot3::LeafItem), Rule::B5),
-    ((NORMAL16, LONGER, NUMBER, Spot3::LeafItem), Rule::B6),
-    ((NORMAL16, ENTRY, NUMBER, Spot3::Inner), Rule::B7),
-    ((NORMAL16, ENTRY, NUMBER, Spot3::HighKey), Rule::B7),
-    ((NORMAL24, PIVOT, NUMBER, Spot3::FirstInner), Rule::B7),
-    ((NORMAL24, PIVOT, NUMBER, Spot3::LeafItem), Rule::B7),
-    ((NORMAL16, KEEPS_MORE, WITH_TEXT, Spot3::HighKey), Rule::B7),
-    ((NORMAL32, ELSEWHERE, TEXT, Spot3::LeafItem), Rule::B8),
-    ((NORMAL16, NULL_BITS, NUMBER, Spot3::Inner), Rule::B8),
-    ((NORMAL24, NO_ITEM, TEXT, Spot3::LeafItem), Rule::B9),
-    ((NORMAL32, FALLING, NUMBER, Spot3::LeafItem), Rule::B9),
-    ((NORMAL16, NO_TIDS, NUMBER, Spot3::LeafItem), Rule::B9),
+// Line pointers, items, their columns, where they stand, and the rule that is broken.
+const BROKEN: [(&[u8; 4], &[u8], Columns, Spot3, Rule); 15] = [
+    (UNALIGNED, ENTRY, NUMBER, Spot3::LeafItem, Rule::B5),
+    (SHORT, ENTRY, NUMBER, Spot3::LeafItem, Rule::B5),
+    (REDIRECT, ENTRY, NUMBER, Spot3::LeafItem, Rule::B5),
+    (UNUSED, ENTRY, NUMBER, Spot3::LeafItem, Rule::B5),
+    (NORMAL16, LONGER, NUMBER, Spot3::LeafItem, Rule::B6),
+    (NORMAL16, ENTRY, NUMBER, Spot3::Inner, Rule::B7),
+    (NORMAL16, ENTRY, NUMBER, Spot3::HighKey, Rule::B7),
+    (NORMAL24, PIVOT, NUMBER, Spot3::FirstInner, Rule::B7),
+    (NORMAL24, PIVOT, NUMBER, Spot3::LeafItem, Rule::B7),
+    (NORMAL16, KEEPS_MORE, WITH_TEXT, Spot3::HighKey, Rule::B7),
+    (NORMAL32, ELSEWHERE, TEXT, Spot3::LeafItem, Rule::B8),
+    (NORMAL16, NULL_BITS, NUMBER, Spot3::Inner, Rule::B8),
+    (NORMAL24, NO_ITEM, TEXT, Spot3::LeafItem, Rule::B9),
+    (NORMAL32, FALLING, NUMBER, Spot3::LeafItem, Rule::B9),
+    (NORMAL16, NO_TIDS, NUMBER, Spot3::LeafItem, Rule::B9),
 ];
 
 #[test]
 fn items_without_meaning(rt: HostRuntime) {
-    for (row, rule) in BROKEN {
-        assert_eq!(rt; item_of(&rt, row), Err(ItemFault::Broken(rule)));
+    for (pointer, tuple, columns, spot, rule) in BROKEN {
+        let found = item_of(&rt, pointer, tuple, columns, spot);
+        assert_eq!(rt; found, Err(ItemFault::Broken(rule)));
     }
-    let packed = (NORMAL24, PACKED, TEXT, Spot3::LeafItem);
-    assert_eq!(rt; item_of(&rt, packed), Err(ItemFault::Packed));
+    let packed = item_of(&rt, NORMAL24, PACKED, TEXT, Spot3::LeafItem);
+    assert_eq!(rt; packed, Err(ItemFault::Packed));
 }

@@ -1,7 +1,8 @@
 //! The pages of a small index as a server writes them, and pages that are no part of a tree.
-use crate::trees::SmallIndex;
+use crate::trees::{THREE, leaf_bytes};
 use bt_meta::{HeadKind, Meta, Opaque, TreeHead, is_idle, meta, meta_rule, opaque, tree_head};
 use page_layout::{PageView, Rule};
+use std::test::Fail;
 use test_files::metapage;
 
 // The metapage with other numbers: the version, the root, the fast root and the flags.
@@ -42,9 +43,10 @@ fn a_metapage(rt: HostRuntime) {
 }
 
 #[test]
-fn a_leaf(rt: HostRuntime) {
-    let bytes = SmallIndex::Three.leaf_bytes();
+fn a_leaf(rt: HostRuntime) -> Result<(), Fail> {
+    let bytes = leaf_bytes(rt.alloc(), THREE)?;
     let page = PageView::new(&bytes);
+    let special = opaque(page);
     let want = Opaque {
         prev: 0,
         next: 0,
@@ -52,17 +54,23 @@ fn a_leaf(rt: HostRuntime) {
         flags: 3,
         cycle: 0,
     };
-    let special = opaque(page);
     assert_eq!(rt; special, want);
     assert!(rt; special.is_leaf() && !special.is_half_dead() && !special.is_split_unfinished());
     assert!(rt; !is_idle(page) && meta_rule(page, 2) == Some(Rule::M1));
+    Ok(())
+}
+
+#[test]
+fn head_of_an_entry(rt: HostRuntime) -> Result<(), Fail> {
+    let bytes = leaf_bytes(rt.alloc(), THREE)?;
     let want = TreeHead {
         block: 0,
         item: 2,
         info: 16,
         kind: HeadKind::Plain,
     };
-    assert_eq!(rt; tree_head(page.piece(8144, 16)), want);
+    assert_eq!(rt; tree_head(PageView::new(&bytes).piece(8144, 16)), want);
+    Ok(())
 }
 
 // A posting tuple with its list at byte 16; a separator of two values and a TID that leads to

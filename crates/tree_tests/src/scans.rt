@@ -3,7 +3,7 @@ ghost use Rattle.std.specs.Prelude.{IfOk};
 ghost use Rattle.key_orders.specs.Scans.{FitsKey};
 ghost use Rattle.bt_levels.specs.Sound.{specs_of};
 
-use crate::trees::SmallIndex;
+use crate::trees::{DEAD_BETWEEN, DEAD_FIRST, EMPTY, LISTED, PAIRS, SEVENS, SIX, numbers_of, open};
 use back_scan::{descend_last, prev_entry};
 use bt_levels::SoundTree;
 use bt_search::{OnLeaf, Search, Spot, Visits, descend, entry_at, next_entry, read_leaf, tid_on};
@@ -17,8 +17,6 @@ use test_files::UntoldFiles;
 
 /// A bound on the first column: a value, and whether it is inclusive.
 pub type Edge = Option<(i64, bool)>;
-
-const ALL: (Edge, Edge) = (None, None);
 
 /// The scan of the entries between two bounds.
 pub fn scan_of(alloc: Global, tree: &SoundTree, edges: (Edge, Edge)) -> Result<Scan, Fail>
@@ -148,144 +146,157 @@ fn is_pair(tree: &SoundTree, page: &[u8; 8192], at: Spot, (first, second): (i64,
     }
 }
 
-#[test]
-fn both_values_of_an_entry(rt: HostRuntime) -> Result<(), Fail> {
-    let alloc = rt.alloc();
-    let (mut files, tree) = SmallIndex::Pairs.open(alloc)?;
-    let scan = scan_of(alloc, &tree, (Some((5, true)), Some((5, true))))?;
+// Whether the two entries that a scan yields first have these values.
+fn are_pairs(
+    tree: &SoundTree,
+    files: &mut UntoldFiles,
+    scan: &Scan,
+    pairs: &[(i64, i64)],
+) -> Result<bool, Fail>
+    requires { FitsKey (specs_of tree.now) scan.now }
+{
     let mut reader = new_reader(false);
-    start(&tree, &mut files, &scan, &mut reader)?;
-    for pair in [(5, 1), (5, 3)] {
-        let at = next_spot(&tree, &mut files, &scan, &mut reader)?.ok_or("no entry")?;
-        assert!(rt; is_pair(&tree, &reader.page, at, pair));
-    }
-    Ok(())
-}
-
-// What a scan yields: values and items, in order.
-type Wanted = &'static [(i64, u16)];
-
-// Whether a scan yields these entries and no other, by this many visits.
-fn yields(
-    alloc: Global,
-    index: SmallIndex,
-    edges: (Edge, Edge),
-    backward: bool,
-    (want, visits): (Wanted, u64),
-) -> Result<bool, Fail> {
-    let (mut files, tree) = index.open(alloc)?;
-    let scan = scan_of(alloc, &tree, edges)?;
-    let mut reader = new_reader(backward);
-    start(&tree, &mut files, &scan, &mut reader)?;
-    for entry in want {
-        if next(&tree, &mut files, &scan, &mut reader)? != Some(*entry) {
+    start(tree, files, scan, &mut reader)?;
+    for pair in pairs {
+        let Some(at) = next_spot(tree, files, scan, &mut reader)? else {
+            return Ok(false);
+        };
+        if !is_pair(tree, &reader.page, at, *pair) {
             return Ok(false);
         }
     }
-    let rest = next(&tree, &mut files, &scan, &mut reader)?;
-    Ok(rest.is_none() && reader.visits.count == visits)
+    Ok(true)
 }
 
 #[test]
-fn scans_between_bounds(rt: HostRuntime) -> Result<(), Fail> {
-    let alloc = rt.alloc();
-    let fives = (Some((5, true)), Some((5, true)));
-    let below_five = (None, Some((5, false)));
-    let sevens = (Some((7, true)), Some((7, true)));
-    let above_seven = (Some((7, false)), None);
-    let to_seven = (Some((5, true)), Some((7, true)));
-    let nines = (Some((9, true)), None);
-    let rows: [(SmallIndex, (Edge, Edge), Wanted, u64); 12] = [
-        // of two columns
-        (SmallIndex::Pairs, fives, &[(5, 3), (5, 4)], 2),
-        (SmallIndex::Pairs, below_five, &[(4, 1), (4, 2)], 3),
-        (SmallIndex::Pairs, ALL, &[(4, 1), (4, 2), (5, 3), (5, 4)], 3),
-        // of equal keys
-        (SmallIndex::Sevens, sevens, &[(7, 1), (7, 2), (7, 3)], 3),
-        (SmallIndex::Sevens, above_seven, &[], 2),
-        // past a half-dead leaf
-        (SmallIndex::DeadFirst, ALL, &[(5, 1), (7, 2), (9, 3)], 3),
-        (SmallIndex::DeadFirst, nines, &[(9, 3)], 2),
-        (SmallIndex::DeadBetween, ALL, &[(5, 1), (7, 2), (9, 3)], 4),
-        (SmallIndex::DeadBetween, nines, &[(9, 3)], 2),
-        // of a list and a killed entry
-        (SmallIndex::Listed, ALL, &[(7, 2), (7, 3), (9, 4)], 1),
-        (SmallIndex::Listed, to_seven, &[(7, 2), (7, 3)], 1),
-        (SmallIndex::Empty, ALL, &[], 0),
-    ];
-    for (index, edges, want, visits) in rows {
-        assert!(rt;
-            yields(alloc, index, edges, false, (want, visits))?,
-            "{want:?}"
-        );
+fn both_values_of_an_entry(rt: HostRuntime) -> Result<(), Fail> {
+    let (mut files, tree) = open(rt.alloc(), PAIRS)?;
+    let scan = scan_of(rt.alloc(), &tree, edges_of(">= 5, <= 5"))?;
+    assert!(rt; are_pairs(&tree, &mut files, &scan, &[(5, 1), (5, 3)])?);
+    Ok(())
+}
+
+// The bounds of a text: `>= 5, < 7` and the like, or `all`.
+fn edges_of(text: &str) -> (Edge, Edge) {
+    let (mut low, mut high) = (None, None);
+    for bound in text.split(", ") {
+        let Some((sign, number)) = bound.split_once(" ") else {
+            continue;
+        };
+        let value = number.parse::<i64>().unwrap_or(0);
+        if sign.starts_with(">") {
+            low = Some((value, sign.ends_with("=")));
+        }
+        if sign.starts_with("<") {
+            high = Some((value, sign.ends_with("=")));
+        }
+    }
+    (low, high)
+}
+
+// The entry of a text by its value and its item, or none at the end.
+fn entry_of(text: &str) -> Option<(i64, u16)> {
+    if text == "end" {
+        return None;
+    }
+    let [value, item, _, _] = numbers_of(text);
+    Some((i64::from(value), item))
+}
+
+// Whether a scan yields the entries of a text, by this many visits.
+fn yields(
+    tree: &SoundTree,
+    files: &mut UntoldFiles,
+    scan: &Scan,
+    backward: bool,
+    want: &str,
+    visits: u64,
+) -> Result<bool, Fail>
+    requires { FitsKey (specs_of tree.now) scan.now }
+{
+    let mut reader = new_reader(backward);
+    start(tree, files, scan, &mut reader)?;
+    for entry in want.split(", ") {
+        if next(tree, files, scan, &mut reader)? != entry_of(entry) {
+            return Ok(false);
+        }
+    }
+    Ok(reader.visits.count == visits)
+}
+
+// An index, the bounds of a scan, the entries that it yields by their values and items, and how many visits it needs
+// for them.
+type Row = (&'static str, &'static str, &'static str, u64);
+
+fn is_scanned(
+    alloc: Global,
+    (index, edges, want, visits): Row,
+    backward: bool,
+) -> Result<bool, Fail> {
+    let (mut files, tree) = open(alloc, index)?;
+    let scan = scan_of(alloc, &tree, edges_of(edges))?;
+    yields(&tree, &mut files, &scan, backward, want, visits)
+}
+
+const FORWARD: [Row; 18] = [
+    // of two columns
+    (PAIRS, ">= 5, <= 5", "5 3, 5 4, end", 2),
+    (PAIRS, "< 5", "4 1, 4 2, end", 3),
+    (PAIRS, "all", "4 1, 4 2, 5 3, 5 4, end", 3),
+    // of equal keys
+    (SEVENS, ">= 7, <= 7", "7 1, 7 2, 7 3, end", 3),
+    (SEVENS, "> 7", "end", 2),
+    // past a half-dead leaf
+    (DEAD_FIRST, "all", "5 1, 7 2, 9 3, end", 3),
+    (DEAD_FIRST, ">= 9", "9 3, end", 2),
+    (DEAD_BETWEEN, "all", "5 1, 7 2, 9 3, end", 4),
+    (DEAD_BETWEEN, ">= 9", "9 3, end", 2),
+    // of a list and a killed entry
+    (LISTED, "all", "7 2, 7 3, 9 4, end", 1),
+    (LISTED, ">= 5, <= 7", "7 2, 7 3, end", 1),
+    (EMPTY, "all", "end", 0),
+    // to each of six leaves, by halves
+    (SIX, ">= 10, <= 10", "10 1", 2),
+    (SIX, ">= 20, <= 20", "20 2", 2),
+    (SIX, ">= 30, <= 30", "30 3", 2),
+    (SIX, ">= 40, <= 40", "40 4", 2),
+    (SIX, ">= 50, <= 50", "50 5", 2),
+    (SIX, ">= 60, <= 60", "60 6", 2),
+];
+
+#[test]
+fn scans_forward(rt: HostRuntime) -> Result<(), Fail> {
+    for row in FORWARD {
+        assert!(rt; is_scanned(rt.alloc(), row, false)?, "{row:?}");
     }
     Ok(())
 }
+
+const BACKWARD: [Row; 14] = [
+    // of two columns: the leaf before the first five is read too
+    (PAIRS, ">= 5, <= 5", "5 4, 5 3, end", 3),
+    (PAIRS, "< 5", "4 2, 4 1, end", 2),
+    (PAIRS, "< 6", "5 4, 5 3, 4 2, 4 1, end", 3),
+    (PAIRS, "all", "5 4, 5 3, 4 2, 4 1, end", 3),
+    // of equal keys: the last of them is on the second leaf
+    (SEVENS, "<= 7", "7 3, 7 2, 7 1, end", 3),
+    (SEVENS, "> 7", "end", 2),
+    // past a half-dead leaf, and to one
+    (DEAD_FIRST, "all", "9 3, 7 2, 5 1, end", 4),
+    (DEAD_FIRST, ">= 9", "9 3, end", 2),
+    (DEAD_BETWEEN, "all", "9 3, 7 2, 5 1, end", 4),
+    (DEAD_BETWEEN, ">= 9", "9 3, end", 2),
+    // of a list and a killed entry
+    (LISTED, "all", "9 4, 7 3, 7 2, end", 1),
+    (LISTED, ">= 5, <= 7", "7 3, 7 2, end", 1),
+    (LISTED, ">= 9", "9 4, end", 1),
+    (EMPTY, "all", "end", 0),
+];
 
 #[test]
 fn scans_backward(rt: HostRuntime) -> Result<(), Fail> {
-    let alloc = rt.alloc();
-    let fives = (Some((5, true)), Some((5, true)));
-    let below_five = (None, Some((5, false)));
-    let below_six = (None, Some((6, false)));
-    let up_to_seven = (None, Some((7, true)));
-    let above_seven = (Some((7, false)), None);
-    let to_seven = (Some((5, true)), Some((7, true)));
-    let nines = (Some((9, true)), None);
-    let rows: [(SmallIndex, (Edge, Edge), Wanted, u64); 14] = [
-        // of two columns: the leaf before the first five is read too
-        (SmallIndex::Pairs, fives, &[(5, 4), (5, 3)], 3),
-        (SmallIndex::Pairs, below_five, &[(4, 2), (4, 1)], 2),
-        (
-            SmallIndex::Pairs,
-            below_six,
-            &[(5, 4), (5, 3), (4, 2), (4, 1)],
-            3,
-        ),
-        (SmallIndex::Pairs, ALL, &[(5, 4), (5, 3), (4, 2), (4, 1)], 3),
-        // of equal keys: the last of them is on the second leaf
-        (
-            SmallIndex::Sevens,
-            up_to_seven,
-            &[(7, 3), (7, 2), (7, 1)],
-            3,
-        ),
-        (SmallIndex::Sevens, above_seven, &[], 2),
-        // past a half-dead leaf, and to one
-        (SmallIndex::DeadFirst, ALL, &[(9, 3), (7, 2), (5, 1)], 4),
-        (SmallIndex::DeadFirst, nines, &[(9, 3)], 2),
-        (SmallIndex::DeadBetween, ALL, &[(9, 3), (7, 2), (5, 1)], 4),
-        (SmallIndex::DeadBetween, nines, &[(9, 3)], 2),
-        // of a list and a killed entry
-        (SmallIndex::Listed, ALL, &[(9, 4), (7, 3), (7, 2)], 1),
-        (SmallIndex::Listed, to_seven, &[(7, 3), (7, 2)], 1),
-        (SmallIndex::Listed, nines, &[(9, 4)], 1),
-        (SmallIndex::Empty, ALL, &[], 0),
-    ];
-    for (index, edges, want, visits) in rows {
-        assert!(rt;
-            yields(alloc, index, edges, true, (want, visits))?,
-            "{want:?}"
-        );
-    }
-    Ok(())
-}
-
-#[test]
-fn descents_by_halves(rt: HostRuntime) -> Result<(), Fail> {
-    let alloc = rt.alloc();
-    for item in 1..7u16 {
-        let value = 10 * i64::from(item);
-        let edges = (Some((value, true)), Some((value, true)));
-        let (mut files, tree) = SmallIndex::Six.open(alloc)?;
-        let scan = scan_of(alloc, &tree, edges)?;
-        let mut reader = new_reader(false);
-        start(&tree, &mut files, &scan, &mut reader)?;
-        assert_eq!(rt;
-            next(&tree, &mut files, &scan, &mut reader)?,
-            Some((value, item))
-        );
-        assert_eq!(rt; reader.visits.count, 2);
+    for row in BACKWARD {
+        assert!(rt; is_scanned(rt.alloc(), row, true)?, "{row:?}");
     }
     Ok(())
 }
@@ -301,11 +312,53 @@ fn entry_in_hand(view: PageView<'_>, keys: &ItemKeys<'_>, at: Spot) -> Option<(i
     }
 }
 
+// Whether the rest of the leaf where a reader stands has just these entries.
+fn has_entries(search: &Search<'_>, reader: &Reader, entries: &[(i64, u16)]) -> bool
+    requires { FitsKey (specs_of search.now.tree.now) search.now.scan.now }
+{
+    let mut spot = reader.spot;
+    let view = PageView::new(&reader.page);
+    let mut keys = ItemKeys::new();
+    for entry in entries {
+        let OnLeaf::Entry(at) = read_leaf(search, view, &mut spot, &mut keys) else {
+            return false;
+        };
+        if entry_in_hand(view, &keys, at) != Some(*entry) {
+            return false;
+        }
+    }
+    read_leaf(search, view, &mut spot, &mut keys) == OnLeaf::End
+}
+
+// Whether there is this entry at a place of a leaf.
+fn has_at(
+    tree: &SoundTree,
+    reader: &Reader,
+    (item, nth): (u16, u16),
+    want: Option<(i64, u16)>,
+) -> bool {
+    let at = Spot {
+        item,
+        nth,
+        ..reader.spot
+    };
+    entry_on(tree, &reader.page, at) == want
+}
+
+// Items, which TID of each is meant, and the entry there.
+const PLACES: [(u16, u16, &str); 6] = [
+    (1, 0, "5 1"),
+    (1, 1, "end"),
+    (2, 1, "7 3"),
+    (2, 2, "end"),
+    (0, 0, "end"),
+    (4, 0, "end"),
+];
+
 #[test]
 fn entries_of_a_leaf(rt: HostRuntime) -> Result<(), Fail> {
-    let alloc = rt.alloc();
-    let (mut files, tree) = SmallIndex::Listed.open(alloc)?;
-    let scan = scan_of(alloc, &tree, ALL)?;
+    let (mut files, tree) = open(rt.alloc(), LISTED)?;
+    let scan = scan_of(rt.alloc(), &tree, (None, None))?;
     let mut reader = new_reader(false);
     start(&tree, &mut files, &scan, &mut reader)?;
     let search = Search {
@@ -313,53 +366,23 @@ fn entries_of_a_leaf(rt: HostRuntime) -> Result<(), Fail> {
         scan: &scan,
         limit: 0,
     };
-    let mut spot = reader.spot;
-    let view = PageView::new(&reader.page);
-    let mut keys = ItemKeys::new();
-    for want in [(7, 2), (7, 3), (9, 4)] {
-        let OnLeaf::Entry(at) = read_leaf(&search, view, &mut spot, &mut keys) else {
-            return Err("no entry".into());
-        };
-        assert_eq!(rt; entry_in_hand(view, &keys, at), Some(want));
+    assert!(rt; has_entries(&search, &reader, &[(7, 2), (7, 3), (9, 4)]));
+    for (item, nth, want) in PLACES {
+        assert!(rt;
+            has_at(&tree, &reader, (item, nth), entry_of(want)),
+            "{item} {nth}"
+        );
     }
-    assert_eq!(rt; read_leaf(&search, view, &mut spot, &mut keys), OnLeaf::End);
     Ok(())
 }
 
 #[test]
 fn a_read_that_fails(rt: HostRuntime) -> Result<(), Fail> {
-    let alloc = rt.alloc();
-    let (mut files, tree) = SmallIndex::Pairs.open(alloc)?;
-    let scan = scan_of(alloc, &tree, ALL)?;
+    let (mut files, tree) = open(rt.alloc(), PAIRS)?;
+    let scan = scan_of(rt.alloc(), &tree, (None, None))?;
     let mut reader = new_reader(false);
     files.fail_from(2);
     assert!(rt; start(&tree, &mut files, &scan, &mut reader).is_err());
-    assert_eq!(rt; reader.visits.count, 2);
-    Ok(())
-}
-
-#[test]
-fn places_with_and_without_an_entry(rt: HostRuntime) -> Result<(), Fail> {
-    let alloc = rt.alloc();
-    let (mut files, tree) = SmallIndex::Listed.open(alloc)?;
-    let scan = scan_of(alloc, &tree, ALL)?;
-    let mut reader = new_reader(false);
-    start(&tree, &mut files, &scan, &mut reader)?;
-    let rows = [
-        ((1, 0), Some((5, 1))),
-        ((1, 1), None),
-        ((2, 1), Some((7, 3))),
-        ((2, 2), None),
-        ((0, 0), None),
-        ((4, 0), None),
-    ];
-    for ((item, nth), want) in rows {
-        let at = Spot {
-            item,
-            nth,
-            ..reader.spot
-        };
-        assert_eq!(rt; entry_on(&tree, &reader.page, at), want);
-    }
+    assert!(rt; reader.visits.count == 2);
     Ok(())
 }

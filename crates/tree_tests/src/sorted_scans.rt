@@ -1,12 +1,15 @@
 //! Scans of small trees by chance, both ways, against a plain sort of the entries that stand on the leaves.
 use crate::scans::{Edge, new_reader, next, scan_of, start};
-use crate::trees::{files_with, judged};
+use crate::trees::open_file;
 use bt_levels::SoundTree;
+use case_file::Case;
 use outside::NoMemory;
 use std::alloc::Global;
 use std::test::Fail;
 use test_files::IndexTuple::{Above, AboveItem, Entry, First, Killed};
-use test_files::{INNER, IndexTuple, LEAF, TreePage, UntoldFiles, index_file, indexed_case};
+use test_files::{
+    INNER, IndexTuple, LEAF, TreePage, UntoldFiles, index_file, indexed_case, tree_page,
+};
 
 // The value of an entry, and its item. Those of items 3, 7 and 11 are killed.
 type Placed = (u16, u16);
@@ -66,44 +69,60 @@ fn leaf_tuples(
     Ok(tuples)
 }
 
-// The file of an index of these entries: three leaves, cut by chance, and above them block 4.
+// Adds to a file a leaf with these siblings and entries, before one of those behind it.
+fn add_leaf(
+    alloc: Global,
+    bytes: &mut Vec<u8>,
+    (prev, next): (u16, u16),
+    entries: &[Placed],
+    behind: &[Placed],
+) -> Result<(), NoMemory> {
+    let tuples = leaf_tuples(alloc, entries, behind)?;
+    let page = tree_page(&TreePage {
+        prev,
+        next,
+        tuples: &tuples,
+        ..LEAF
+    });
+    bytes.extend_from_slice(&page)?;
+    Ok(())
+}
+
+// The page above three leaves of these entries.
+fn root_page(left: &[Placed], middle: &[Placed], right: &[Placed]) -> Option<[u8; 8192]> {
+    let tuples = [
+        First(1),
+        separator(2, left, middle)?,
+        separator(3, middle, right)?,
+    ];
+    Some(tree_page(&TreePage {
+        tuples: &tuples,
+        ..INNER
+    }))
+}
+
+// The file of an index of three leaves of these entries, and above them block 4.
+fn file_of(
+    alloc: Global,
+    left: &[Placed],
+    middle: &[Placed],
+    right: &[Placed],
+) -> Result<Vec<u8>, Fail> {
+    let root = root_page(left, middle, right).ok_or("no entry")?;
+    let mut bytes = index_file(alloc, (4, 1), &[])?;
+    add_leaf(alloc, &mut bytes, (0, 2), left, middle)?;
+    add_leaf(alloc, &mut bytes, (1, 3), middle, right)?;
+    add_leaf(alloc, &mut bytes, (2, 0), right, &[])?;
+    bytes.extend_from_slice(&root)?;
+    Ok(bytes)
+}
+
+// The same of entries that are cut into three by chance.
 fn tree_bytes(alloc: Global, entries: &[Placed], chance: u64) -> Result<Vec<u8>, Fail> {
     let (left_count, count) = ((chance >> 62) as usize + 1, (chance >> 60) as usize % 4 + 1);
     let (left, rest) = entries.split_at_checked(left_count).ok_or("too few")?;
     let (middle, right) = rest.split_at_checked(count).ok_or("too few")?;
-    let tuples = [
-        leaf_tuples(alloc, left, middle)?,
-        leaf_tuples(alloc, middle, right)?,
-        leaf_tuples(alloc, right, &[])?,
-    ];
-    let root = [
-        First(1),
-        separator(2, left, middle).ok_or("no entry")?,
-        separator(3, middle, right).ok_or("no entry")?,
-    ];
-    let pages = [
-        TreePage {
-            next: 2,
-            tuples: &tuples[0],
-            ..LEAF
-        },
-        TreePage {
-            prev: 1,
-            next: 3,
-            tuples: &tuples[1],
-            ..LEAF
-        },
-        TreePage {
-            prev: 2,
-            tuples: &tuples[2],
-            ..LEAF
-        },
-        TreePage {
-            tuples: &root,
-            ..INNER
-        },
-    ];
-    Ok(index_file(alloc, (4, 1), &pages)?)
+    file_of(alloc, left, middle, right)
 }
 
 // A bound by chance, of 0 to 9, or none.
@@ -144,48 +163,56 @@ fn wanted(
     Ok(wanted)
 }
 
-// What a scan yields.
-fn scanned(
+// Whether a scan yields these entries and no other.
+fn is_scanned(
     alloc: Global,
     files: &mut UntoldFiles,
     tree: &SoundTree,
-    edges: (Edge, Edge),
-    backward: bool,
-) -> Result<Vec<(i64, u16)>, Fail> {
+    (edges, backward): ((Edge, Edge), bool),
+    want: &[(i64, u16)],
+) -> Result<bool, Fail> {
     let scan = scan_of(alloc, tree, edges)?;
     let mut reader = new_reader(backward);
     start(tree, files, &scan, &mut reader)?;
-    let mut entries = Vec::new(alloc);
-    for _ in 0..13 {
-        match next(tree, files, &scan, &mut reader)? {
-            Some(entry) => entries.push(entry)?,
-            None => return Ok(entries),
+    for entry in want {
+        if next(tree, files, &scan, &mut reader)? != Some(*entry) {
+            return Ok(false);
         }
     }
-    Err("too many entries".into())
+    Ok(next(tree, files, &scan, &mut reader)?.is_none())
+}
+
+// Whether scans of a tree of these entries yield both ways what they should.
+fn are_scanned(
+    alloc: Global,
+    files: &mut UntoldFiles,
+    tree: &SoundTree,
+    entries: &[Placed],
+    edges: (Edge, Edge),
+) -> Result<bool, Fail> {
+    let mut want = wanted(alloc, entries, edges)?;
+    let is_forward = is_scanned(alloc, files, tree, (edges, false), &want)?;
+    want.reverse();
+    let is_backward = is_scanned(alloc, files, tree, (edges, true), &want)?;
+    Ok(is_forward && is_backward)
+}
+
+// The same of a tree by chance.
+fn is_sorted(alloc: Global, case: &Case, chance: u64) -> Result<bool, Fail> {
+    let entries = sorted_entries(alloc, chance)?;
+    let bytes = tree_bytes(alloc, &entries, next_number(chance))?;
+    let (mut files, tree) = open_file(alloc, case, bytes)?;
+    let edges = (edge(chance), edge(next_number(chance)));
+    are_scanned(alloc, &mut files, &tree, &entries, edges)
 }
 
 #[test]
 fn scans_yield_what_is_sorted(rt: HostRuntime) -> Result<(), Fail> {
-    let alloc = rt.alloc();
-    let case = indexed_case(alloc, "int4").ok_or("refused")?;
+    let case = indexed_case(rt.alloc(), "int4").ok_or("refused")?;
     let mut chance = 5u64;
     for _ in 0..1000 {
         chance = next_number(chance);
-        let entries = sorted_entries(alloc, chance)?;
-        let mut files = files_with(alloc, tree_bytes(alloc, &entries, next_number(chance))?)?;
-        let tree = judged(alloc, &mut files, &case)?.0.ok_or("not sound")?;
-        let edges = (edge(chance), edge(next_number(chance)));
-        let mut want = wanted(alloc, &entries, edges)?;
-        assert!(rt;
-            scanned(alloc, &mut files, &tree, edges, false)? == want,
-            "{chance}"
-        );
-        want.reverse();
-        assert!(rt;
-            scanned(alloc, &mut files, &tree, edges, true)? == want,
-            "{chance}"
-        );
+        assert!(rt; is_sorted(rt.alloc(), &case, chance)?, "{chance}");
     }
     Ok(())
 }

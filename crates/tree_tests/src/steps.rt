@@ -3,12 +3,12 @@
 ghost use Rattle.std.specs.Prelude.{IfSome};
 ghost use Rattle.key_orders.specs.Keys.{IsKey};
 
-use crate::trees::SmallIndex;
+use crate::trees::{LISTED, leaf_bytes, page_bytes};
 use bt_steps::{Place, Sought, Step, find_on, step_on};
 use key_orders::{ColType, KeyRefs, KeySpec, Tid, ValueRef, fits_columns};
 use page_layout::{PageKind, PageView};
-use test_files::IndexTuple::{Above, Entry, First};
-use test_files::{INNER, LEAF, TreePage, tree_page};
+use std::alloc::Global;
+use std::test::Fail;
 use varlena_attrs::IndexColumns;
 
 /// A key column of int4.
@@ -17,19 +17,6 @@ pub const INT4: KeySpec = KeySpec {
     ctype: ColType::Int4,
     desc: false,
     nulls_first: false,
-};
-
-// An internal page: block 1 below 20, block 2 from 20 on, block 3 from 30 on.
-const ROOT: TreePage<'static> = TreePage {
-    tuples: &[First(1), Above(2, 20), Above(3, 30)],
-    ..INNER
-};
-
-// A leaf with 5, whose right sibling is block 2 and whose high key is 7.
-const LEFT: TreePage<'static> = TreePage {
-    next: 2,
-    tuples: &[Above(0, 7), Entry(5, 2)],
-    ..LEAF
 };
 
 /// The key with this value in an index with these columns, if that is one.
@@ -69,45 +56,87 @@ fn step(bytes: &[u8; 8192], value: i64, item: u16) -> Option<Step> {
     Some(step_on(PageView::new(bytes), &columns, &Sought { key: &key, tid }))
 }
 
-const ENTRIES: [(i64, u16, Option<(u16, u16)>); 10] = [
-    (7, 2, Some((2, 0))),
-    (7, 3, Some((2, 1))),
-    (9, 4, Some((3, 0))),
+// A value, an item, and where the entry stands: the item and which of its TIDs, or 0 where it doesn't.
+const ENTRIES: [(i64, u16, u16, u16); 10] = [
+    (7, 2, 2, 0),
+    (7, 3, 2, 1),
+    (9, 4, 3, 0),
     // killed
-    (5, 1, None),
+    (5, 1, 0, 0),
     // of another TID
-    (7, 1, None),
-    (7, 4, None),
-    (9, 3, None),
+    (7, 1, 0, 0),
+    (7, 4, 0, 0),
+    (9, 3, 0, 0),
     // of another key
-    (4, 1, None),
-    (8, 2, None),
-    (10, 4, None),
+    (4, 1, 0, 0),
+    (8, 2, 0, 0),
+    (10, 4, 0, 0),
 ];
 
-#[test]
-fn entries_of_a_leaf(rt: HostRuntime) {
-    let bytes = SmallIndex::Listed.leaf_bytes();
-    for (value, item, want) in ENTRIES {
-        let found = found(&bytes, value, item).map(|at| (at.item, at.nth));
-        assert_eq!(rt; found, want, "({value}, {item})");
+// Whether an entry stands at an item of a leaf, or, where that is 0, doesn't.
+fn is_at(bytes: &[u8; 8192], (value, item): (i64, u16), (at, nth): (u16, u16)) -> bool {
+    match found(bytes, value, item) {
+        Some(place) => place.item == at && place.nth == nth && at != 0,
+        None => at == 0,
     }
-    let left = tree_page(&LEFT);
+}
+
+// A leaf with 5, whose right sibling is block 2 and whose high key is 7, and the same half-dead.
+const LEFT: &str = "0 2 0 1: above 0 7, entry 5 2";
+
+const DEAD_LEFT: &str = "0 2 0 17: above 0 7, entry 5 2";
+
+#[test]
+fn entries_of_a_leaf(rt: HostRuntime) -> Result<(), Fail> {
+    let bytes = leaf_bytes(rt.alloc(), LISTED)?;
+    for (value, item, at, nth) in ENTRIES {
+        assert!(rt;
+            is_at(&bytes, (value, item), (at, nth)),
+            "({value}, {item})"
+        );
+    }
+    let left = page_bytes(rt.alloc(), LEFT)?;
     assert!(rt; found(&left, 5, 2).is_some() && found(&left, 7, 1).is_none());
+    Ok(())
+}
+
+// An internal page: block 1 below 20, block 2 from 20 on, block 3 from 30 on.
+const ROOT: &str = "0 0 1 2: first 1, above 2 20, above 3 30";
+
+// A page, a value and an item that are sought there, and the block to go to, or 0 where the page is to be read.
+const STEPS: [(&str, i64, u16, u32); 10] = [
+    (ROOT, 10, 1, 1),
+    (ROOT, 19, 1, 1),
+    (ROOT, 20, 1, 2),
+    (ROOT, 29, 1, 2),
+    (ROOT, 30, 1, 3),
+    (ROOT, 31, 1, 3),
+    (LEFT, 5, 9, 0),
+    // The high key keeps no TID, and so it is below each entry of its value.
+    (LEFT, 7, 1, 2),
+    (LEFT, 9, 1, 2),
+    (DEAD_LEFT, 5, 9, 2),
+];
+
+// Whether a search goes from the page of a line to a block, or, where that is 0, reads the page.
+fn leads(alloc: Global, line: &str, (value, item): (i64, u16), block: u32) -> Result<bool, Fail> {
+    let bytes = page_bytes(alloc, line)?;
+    let want = if block == 0 {
+        Step::Read
+    } else {
+        Step::To(block)
+    };
+    Ok(step(&bytes, value, item) == Some(want))
 }
 
 #[test]
-fn steps_of_a_search(rt: HostRuntime) {
-    let root = tree_page(&ROOT);
-    for (value, child) in [(10, 1), (19, 1), (20, 2), (29, 2), (30, 3), (31, 3)] {
-        assert_eq!(rt; step(&root, value, 1), Some(Step::To(child)), "{value}");
+fn steps_of_a_search(rt: HostRuntime) -> Result<(), Fail> {
+    for (line, value, item, block) in STEPS {
+        assert!(rt;
+            leads(rt.alloc(), line, (value, item), block)?,
+            "{line}: {value}"
+        );
     }
-    let mut left = tree_page(&LEFT);
-    assert_eq!(rt; step(&left, 5, 9), Some(Step::Read));
-    // The high key keeps no TID, and so it is below each entry of its value.
-    assert_eq!(rt; step(&left, 7, 1), Some(Step::To(2)));
-    assert_eq!(rt; step(&left, 9, 1), Some(Step::To(2)));
-    left[8188] = 17;
-    assert_eq!(rt; step(&left, 5, 9), Some(Step::To(2)));
-    assert_eq!(rt; step(&[1; 8192], 5, 9), Some(Step::Lost));
+    assert!(rt; step(&[1; 8192], 5, 9) == Some(Step::Lost));
+    Ok(())
 }

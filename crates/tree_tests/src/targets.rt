@@ -1,13 +1,15 @@
 //! The entries of a leaf of four, against a page of a heap.
-use crate::trees::SmallIndex;
+use crate::trees::{LISTED, open};
+use bt_levels::SoundTree;
 use index_targets::{Questions, check_entries};
+use outside::NoMemory;
 use page_layout::{PageKind, PageView};
 use reports::Report;
 use root_set::RootSet;
 use row_slots::RowSlots;
 use std::alloc::Global;
 use std::test::Fail;
-use test_files::Page;
+use test_files::{Page, UntoldFiles};
 
 // A page of a heap with four line pointers of these flags: 0 unused, 2 a redirect to item 1, 3 dead.
 fn heap(flags: [u8; 4]) -> [u8; 8192] {
@@ -22,37 +24,54 @@ fn heap(flags: [u8; 4]) -> [u8; 8192] {
     page.finish_at(40)
 }
 
-// How many entries of the leaf name what they may not, over a heap page with these flags: the items 1 to 4, of which
-// the entry of the first is killed, and those of the next two are one tuple's.
-fn strays(alloc: Global, flags: [u8; 4]) -> Result<(u64, u64), Fail> {
+// What entries may name on a heap page with these flags.
+fn targets_of(alloc: Global, flags: [u8; 4]) -> Result<RootSet, NoMemory> {
     let page = heap(flags);
     let mut targets = RootSet::new(alloc);
     let view = PageView::new(&page);
     if view.page_rule(PageKind::Heap).is_none() {
         targets.add_page(view)?;
     }
-    let (mut files, tree) = SmallIndex::Listed.open(alloc)?;
+    Ok(targets)
+}
+
+// How many findings and places that can't be judged there are of the entries of a tree.
+fn counts(
+    alloc: Global,
+    files: &mut UntoldFiles,
+    tree: &SoundTree,
+    targets: &RootSet,
+) -> Result<(u64, u64), Fail> {
     let mut report = Report::new(alloc);
     let mut slots = RowSlots::new(alloc, 0)?;
     let asked = Questions {
-        targets: Some(&targets),
+        targets: Some(targets),
         apart: false,
     };
-    check_entries(&mut files, &tree, asked, &mut slots, &mut report)?;
+    check_entries(files, tree, asked, &mut slots, &mut report)?;
     Ok(report.counts())
 }
 
+// How many entries of the leaf name what they may not, over a heap page with these flags: the items 1 to 4, of which
+// the entry of the first is killed, and those of the next two are one tuple's.
+fn strays(alloc: Global, flags: [u8; 4]) -> Result<(u64, u64), Fail> {
+    let targets = targets_of(alloc, flags)?;
+    let (mut files, tree) = open(alloc, LISTED)?;
+    counts(alloc, &mut files, &tree, &targets)
+}
+
+const STRAYS: [([u8; 4], u64); 5] = [
+    ([3, 3, 2, 2], 0),
+    ([0, 3, 2, 3], 1),
+    ([3, 0, 3, 3], 1),
+    ([2, 3, 0, 0], 2),
+    ([0, 0, 0, 0], 4),
+];
+
 #[test]
 fn entries_against_a_heap(rt: HostRuntime) -> Result<(), Fail> {
-    let alloc = rt.alloc();
-    for (flags, want) in [
-        ([3, 3, 2, 2], 0),
-        ([0, 3, 2, 3], 1),
-        ([3, 0, 3, 3], 1),
-        ([2, 3, 0, 0], 2),
-        ([0, 0, 0, 0], 4),
-    ] {
-        assert_eq!(rt; strays(alloc, flags)?, (want, 0));
+    for (flags, want) in STRAYS {
+        assert_eq!(rt; strays(rt.alloc(), flags)?, (want, 0));
     }
     Ok(())
 }

@@ -1,4 +1,7 @@
-//! Trees of small indexes, and the answers of the checks that find nothing of them.
+//! Trees of small indexes, each written as a text, and the answers of the checks that find nothing of them.
+//!
+//! The first line of a text has the block of the root and its level. Each further line is a page, from block 1 on: its
+//! siblings, its level and its flags, and behind a colon its tuples.
 use bt_levels::{SoundTree, TreeFile, check_tree};
 use case_file::Case;
 use outside::{NoMemory, Part};
@@ -7,167 +10,55 @@ use std::alloc::Global;
 use std::test::Fail;
 use test_files::IndexTuple::{Above, AboveItem, Entry, First, Killed, Listed, Pair};
 use test_files::{
-    INNER, IndexTuple, LEAF, LONE_LEAF, TreePage, UntoldFiles, case_with, index_file, indexed_case,
-    tree_page,
+    IndexTuple, TreePage, UntoldFiles, case_with, index_file, indexed_case, tree_page,
 };
 
-/// An index on a column of numbers, or on two.
-#[derive(Clone, Copy)]
-pub enum SmallIndex {
-    /// No root.
-    Empty,
-    /// A leaf alone: 5, 7 and 9.
-    Three,
-    /// A leaf alone: 5, which is killed, 7 with two TIDs, and 9.
-    Listed,
-    /// A leaf alone: the numbers from 1 to 12, each for the item of that number.
-    Twelve,
-    /// Two leaves of two columns, below block 3.
-    Pairs,
-    /// Equal keys on two leaves, below block 3.
-    Sevens,
-    /// A half-dead leaf before two leaves, below block 3.
-    DeadFirst,
-    /// A half-dead leaf between two leaves, below block 3.
-    DeadBetween,
-    /// Six leaves of one entry, below block 4.
-    Six,
-}
+/// No root.
+pub const EMPTY: &str = "0 0";
 
-const PAIRS: [TreePage<'static>; 3] = [
-    TreePage {
-        next: 2,
-        tuples: &[Above(0, 5), Pair(4, 1, 1), Pair(4, 2, 2)],
-        ..LEAF
-    },
-    TreePage {
-        prev: 1,
-        tuples: &[Pair(5, 1, 3), Pair(5, 3, 4)],
-        ..LEAF
-    },
-    TreePage {
-        tuples: &[First(1), Above(2, 5)],
-        ..INNER
-    },
-];
+/// A leaf alone: 5, 7 and 9.
+pub const THREE: &str = "1 0
+0 0 0 3: entry 5 1, entry 7 2, entry 9 3";
 
-const SEVENS: [TreePage<'static>; 3] = [
-    TreePage {
-        next: 2,
-        tuples: &[AboveItem(0, 7, 2), Entry(7, 1), Entry(7, 2)],
-        ..LEAF
-    },
-    TreePage {
-        prev: 1,
-        tuples: &[Entry(7, 3)],
-        ..LEAF
-    },
-    TreePage {
-        tuples: &[First(1), AboveItem(2, 7, 2)],
-        ..INNER
-    },
-];
+/// A leaf alone: 5, which is killed, 7 with two TIDs, and 9.
+pub const LISTED: &str = "1 0
+0 0 0 3: killed 5 1, listed 7 2 3, entry 9 4";
 
-// A half-dead leaf, one with 5 below 7, one with 7 and 9, and the root above these two, blocks 2 and 4.
-const HALF_DEAD: TreePage<'static> = TreePage {
-    flags: 17,
-    tuples: &[First(0)],
-    ..LEAF
-};
+/// Two leaves of two columns, below block 3.
+pub const PAIRS: &str = "3 1
+0 2 0 1: above 0 5, pair 4 1 1, pair 4 2 2
+1 0 0 1: pair 5 1 3, pair 5 3 4
+0 0 1 2: first 1, above 2 5";
 
-const FIVE: TreePage<'static> = TreePage {
-    tuples: &[Above(0, 7), Entry(5, 1)],
-    ..LEAF
-};
+/// Equal keys on two leaves, below block 3.
+pub const SEVENS: &str = "3 1
+0 2 0 1: behind 0 7 2, entry 7 1, entry 7 2
+1 0 0 1: entry 7 3
+0 0 1 2: first 1, behind 2 7 2";
 
-const SEVEN_AND_NINE: TreePage<'static> = TreePage {
-    tuples: &[Entry(7, 2), Entry(9, 3)],
-    ..LEAF
-};
+/// A half-dead leaf before two leaves, below block 3.
+pub const DEAD_FIRST: &str = "3 1
+0 2 0 17: first 0
+1 4 0 1: above 0 7, entry 5 1
+0 0 1 2: first 2, above 4 7
+2 0 0 1: entry 7 2, entry 9 3";
 
-const TO_TWO_AND_FOUR: TreePage<'static> = TreePage {
-    tuples: &[First(2), Above(4, 7)],
-    ..INNER
-};
+/// A half-dead leaf between two leaves, below block 3.
+pub const DEAD_BETWEEN: &str = "3 1
+2 4 0 17: first 0
+0 1 0 1: above 0 7, entry 5 1
+0 0 1 2: first 2, above 4 7
+1 0 0 1: entry 7 2, entry 9 3";
 
-const DEAD_FIRST: [TreePage<'static>; 4] = [
-    TreePage {
-        next: 2,
-        ..HALF_DEAD
-    },
-    TreePage {
-        prev: 1,
-        next: 4,
-        ..FIVE
-    },
-    TO_TWO_AND_FOUR,
-    TreePage {
-        prev: 2,
-        ..SEVEN_AND_NINE
-    },
-];
-
-const DEAD_BETWEEN: [TreePage<'static>; 4] = [
-    TreePage {
-        prev: 2,
-        next: 4,
-        ..HALF_DEAD
-    },
-    TreePage { next: 1, ..FIVE },
-    TO_TWO_AND_FOUR,
-    TreePage {
-        prev: 1,
-        ..SEVEN_AND_NINE
-    },
-];
-
-const SIX: [TreePage<'static>; 7] = [
-    TreePage {
-        next: 2,
-        tuples: &[Above(0, 20), Entry(10, 1)],
-        ..LEAF
-    },
-    TreePage {
-        prev: 1,
-        next: 3,
-        tuples: &[Above(0, 30), Entry(20, 2)],
-        ..LEAF
-    },
-    TreePage {
-        prev: 2,
-        next: 5,
-        tuples: &[Above(0, 40), Entry(30, 3)],
-        ..LEAF
-    },
-    TreePage {
-        tuples: &[
-            First(1),
-            Above(2, 20),
-            Above(3, 30),
-            Above(5, 40),
-            Above(6, 50),
-            Above(7, 60),
-        ],
-        ..INNER
-    },
-    TreePage {
-        prev: 3,
-        next: 6,
-        tuples: &[Above(0, 50), Entry(40, 4)],
-        ..LEAF
-    },
-    TreePage {
-        prev: 5,
-        next: 7,
-        tuples: &[Above(0, 60), Entry(50, 5)],
-        ..LEAF
-    },
-    TreePage {
-        prev: 6,
-        tuples: &[Entry(60, 6)],
-        ..LEAF
-    },
-];
+/// Six leaves of one entry, below block 4.
+pub const SIX: &str = "4 1
+0 2 0 1: above 0 20, entry 10 1
+1 3 0 1: above 0 30, entry 20 2
+2 5 0 1: above 0 40, entry 30 3
+0 0 1 2: first 1, above 2 20, above 3 30, above 5 40, above 6 50, above 7 60
+3 6 0 1: above 0 50, entry 40 4
+5 7 0 1: above 0 60, entry 50 5
+6 0 0 1: entry 60 6";
 
 // The case of a table of two columns, with an index on both.
 const PAIR_TABLE: &str = "[[column]]
@@ -185,74 +76,98 @@ column = \"a\"
 column = \"b\"
 ";
 
-impl SmallIndex {
-    // What is on the one leaf, if there is one alone.
-    fn entries(self) -> &'static [IndexTuple] {
-        match self {
-            SmallIndex::Three => &[Entry(5, 1), Entry(7, 2), Entry(9, 3)],
-            SmallIndex::Listed => &[Killed(5, 1), Listed(7, 2, 3), Entry(9, 4)],
-            SmallIndex::Twelve => &[
-                Entry(1, 1),
-                Entry(2, 2),
-                Entry(3, 3),
-                Entry(4, 4),
-                Entry(5, 5),
-                Entry(6, 6),
-                Entry(7, 7),
-                Entry(8, 8),
-                Entry(9, 9),
-                Entry(10, 10),
-                Entry(11, 11),
-                Entry(12, 12),
-            ],
-            _ => &[],
+/// The numbers of the first four words of a text, and 0 for each that is none.
+pub fn numbers_of(text: &str) -> [u16; 4] {
+    let mut numbers = [0u16; 4];
+    let mut k = 0usize;
+    for word in text.split_whitespace() {
+        if k < 4 {
+            numbers[k] = word.parse::<u16>().unwrap_or(0);
+            k += 1;
         }
     }
+    numbers
+}
 
-    // That leaf.
-    fn leaf(self) -> TreePage<'static> {
-        let tuples = self.entries();
-        TreePage {
-            tuples,
-            ..LONE_LEAF
-        }
+// The tuple that a text names by the first letter of a word, and numbers: `entry`, `killed`, `pair`, `listed`, `first`,
+// `above`, and `behind` for a separator with the TID of an item.
+fn tuple_of(text: &str) -> Option<IndexTuple> {
+    let [_, a, b, c] = numbers_of(text);
+    match *text.as_bytes().first()? {
+        b'e' => Some(Entry(a, b)),
+        b'k' => Some(Killed(a, b)),
+        b'p' => Some(Pair(a, b, c)),
+        b'l' => Some(Listed(a, b, c)),
+        b'f' => Some(First(a)),
+        b'a' => Some(Above(a, b)),
+        b'b' => Some(AboveItem(a, b, c)),
+        _ => None,
     }
+}
 
-    /// Its bytes.
-    pub fn leaf_bytes(self) -> [u8; 8192] {
-        tree_page(&self.leaf())
+// The tuples of a text.
+fn tuples_of(alloc: Global, text: &str) -> Result<Vec<IndexTuple>, Fail> {
+    let mut tuples = Vec::new(alloc);
+    for tuple in text.split(", ") {
+        tuples.push(tuple_of(tuple).ok_or("no tuple")?)?;
     }
+    Ok(tuples)
+}
 
-    /// The file of the index.
-    pub fn bytes(self, alloc: Global) -> Result<Vec<u8>, NoMemory> {
-        match self {
-            SmallIndex::Empty => index_file(alloc, (0, 0), &[]),
-            SmallIndex::Three | SmallIndex::Listed | SmallIndex::Twelve => {
-                index_file(alloc, (1, 0), &[self.leaf()])
-            }
-            SmallIndex::Pairs => index_file(alloc, (3, 1), &PAIRS),
-            SmallIndex::Sevens => index_file(alloc, (3, 1), &SEVENS),
-            SmallIndex::DeadFirst => index_file(alloc, (3, 1), &DEAD_FIRST),
-            SmallIndex::DeadBetween => index_file(alloc, (3, 1), &DEAD_BETWEEN),
-            SmallIndex::Six => index_file(alloc, (4, 1), &SIX),
-        }
-    }
+/// The bytes of the page of a line.
+pub fn page_bytes(alloc: Global, line: &str) -> Result<[u8; 8192], Fail> {
+    let (head, list) = line.split_once(": ").ok_or("no tuples")?;
+    let [prev, next, level, flags] = numbers_of(head);
+    let tuples = tuples_of(alloc, list)?;
+    Ok(tree_page(&TreePage {
+        prev,
+        next,
+        level,
+        flags,
+        tuples: &tuples,
+    }))
+}
 
-    // The case of its table.
-    fn case(self, alloc: Global) -> Option<Case> {
-        match self {
-            SmallIndex::Pairs => case_with(alloc, PAIR_TABLE),
-            _ => indexed_case(alloc, "int4"),
-        }
-    }
+/// The bytes of the first page of an index behind its metapage.
+pub fn leaf_bytes(alloc: Global, index: &str) -> Result<[u8; 8192], Fail> {
+    page_bytes(alloc, index.lines().nth(1).unwrap_or(""))
+}
 
-    /// Its files, and its tree, which is answered as sound.
-    pub fn open(self, alloc: Global) -> Result<(UntoldFiles, SoundTree), Fail> {
-        let mut files = files_with(alloc, self.bytes(alloc)?)?;
-        let case = self.case(alloc).ok_or("refused")?;
-        let tree = judged(alloc, &mut files, &case)?.0.ok_or("not sound")?;
-        Ok((files, tree))
+/// The file of an index.
+pub fn bytes_of(alloc: Global, index: &str) -> Result<Vec<u8>, Fail> {
+    let mut lines = index.lines();
+    let [root, level, _, _] = numbers_of(lines.next().unwrap_or(""));
+    let mut bytes = index_file(alloc, (root, level), &[])?;
+    for line in lines {
+        bytes.extend_from_slice(&page_bytes(alloc, line)?)?;
     }
+    Ok(bytes)
+}
+
+// The case of its table, which has two columns where it has pairs.
+fn case_of(alloc: Global, index: &str) -> Option<Case> {
+    if index.contains("pair") {
+        case_with(alloc, PAIR_TABLE)
+    } else {
+        indexed_case(alloc, "int4")
+    }
+}
+
+/// Its files, and its tree, which is answered as sound.
+pub fn open(alloc: Global, index: &str) -> Result<(UntoldFiles, SoundTree), Fail> {
+    let case = case_of(alloc, index).ok_or("refused")?;
+    open_file(alloc, &case, bytes_of(alloc, index)?)
+}
+
+/// The files of an index with these bytes, and its tree, which is answered as sound.
+pub fn open_file(
+    alloc: Global,
+    case: &Case,
+    bytes: Vec<u8>,
+) -> Result<(UntoldFiles, SoundTree), Fail> {
+    let mut files = files_with(alloc, bytes)?;
+    let tree = judged(alloc, &mut files, case)?.0.ok_or("not sound")?;
+    Ok((files, tree))
 }
 
 /// The files of an index with these bytes.
