@@ -1,9 +1,9 @@
 //! That texts mean what docs/CASE-FILE.md says, by hand-made examples: no clause ties the document's words to these.
 use crate::case_texts::{EDITS, FULL};
-use crate::checks::{holds, same};
-use case_file::{Case, CaseFault, Column, Unique, read_case};
-use key_orders::{KeySpec, MoreSpec, Value};
-use std::alloc::Global;
+use crate::checks::holds;
+use case_file::{Case, CaseFault, Column, read_case};
+use key_orders::Value;
+use std::alloc::{AllocError, Global};
 use std::process::Abort;
 use std::test::Fail;
 
@@ -35,136 +35,154 @@ const MARKS: [(&str, &str, usize); 12] = [
     ("<24 included>", " MoreSpec { column: 0, ctype: Int8 }", 24),
 ];
 
+// A text with so many of a piece for one mark.
+fn with_mark(
+    alloc: Global,
+    text: &str,
+    (mark, piece, count): (&str, &str, usize),
+) -> Result<String, AllocError> {
+    let many = piece.repeat(alloc, count)?;
+    text.replace(alloc, mark, many.as_str())
+}
+
 // A text with so many of a piece for each mark.
-fn with_many(alloc: Global, text: &str) -> Result<String, Fail> {
+fn with_many(alloc: Global, text: &str) -> Result<String, AllocError> {
     let mut out = String::from_str(alloc, text)?;
-    for (mark, piece, count) in MARKS {
-        let many = piece.repeat(alloc, count)?;
-        out = out.replace(alloc, mark, many.as_str())?;
+    for mark in MARKS {
+        out = with_mark(alloc, out.as_str(), mark)?;
     }
     Ok(out)
 }
 
-fn push(out: &mut String, text: Result<String, Fail>) -> Result<(), Fail> {
-    Ok(out.push_str(text?.as_str())?)
-}
-
-fn describe_missing(alloc: Global, value: &Value) -> Result<String, Fail> {
+fn write_missing(alloc: Global, out: &mut String, value: &Value) -> Result<(), AllocError> {
     match value {
-        Value::Null => Ok(String::from_str(alloc, "null")?),
-        Value::Bool(flag) => Ok(format!(in alloc; "{flag}")?),
-        Value::Int(number) => Ok(format!(in alloc; "{number}")?),
-        Value::Bytes(bytes) => Ok(hex::encode(alloc, bytes.as_slice())?),
+        Value::Null => out.push_str("null"),
+        Value::Bool(flag) => write!(out, "{flag}"),
+        Value::Int(number) => write!(out, "{number}"),
+        Value::Bytes(bytes) => out.push_str(hex::encode(alloc, bytes.as_slice())?.as_str()),
     }
 }
 
-fn describe_column(alloc: Global, column: &Column) -> Result<String, Fail> {
-    let missing = describe_missing(alloc, &column.missing)?;
-    Ok(format!(in alloc; " {:?} {missing},", column.ctype)?)
+fn write_column(alloc: Global, out: &mut String, column: &Column) -> Result<(), AllocError> {
+    write!(out, " {:?} ", column.ctype)?;
+    write_missing(alloc, out, &column.missing)?;
+    out.push_str(",")
 }
 
-fn describe_key(alloc: Global, key: &KeySpec) -> Result<String, Fail> {
-    Ok(format!(in alloc; " {key:?}")?)
-}
-
-fn describe_more(alloc: Global, more: &MoreSpec) -> Result<String, Fail> {
-    Ok(format!(in alloc; " {more:?}")?)
-}
-
-fn describe_unique(alloc: Global, unique: Unique) -> Result<String, Fail> {
-    Ok(format!(in alloc; " {unique:?},")?)
-}
-
-fn describe_index(alloc: Global, case: &Case, n: u16) -> Result<String, Fail> {
+fn write_index(out: &mut String, case: &Case, n: u16) -> Result<(), AllocError> {
     if n < 1 || case.index_count() < n {
-        return Err(Fail::from("no such index"));
+        return out.push_str(" no such index");
     }
-    let mut out = format!(in alloc; " index {n} {}", case.index_file(n))?;
+    write!(out, " index {n} {}", case.index_file(n))?;
     for key in case.index_keys(n) {
-        push(&mut out, describe_key(alloc, key))?;
+        write!(out, " {key:?}")?;
     }
     for more in case.index_more(n) {
-        push(&mut out, describe_more(alloc, more))?;
+        write!(out, " {more:?}")?;
     }
-    push(&mut out, describe_unique(alloc, case.index_unique(n)))?;
-    Ok(out)
+    write!(out, " {:?},", case.index_unique(n))
 }
 
-fn describe_cluster(alloc: Global, case: &Case) -> Result<String, Fail> {
+fn write_cluster(out: &mut String, case: &Case) -> Result<(), AllocError> {
     let c = case.cluster();
-    let xids = format!(in alloc; "cluster {} {}", c.next_xid, c.oldest_xid)?;
-    let multis = format!(in alloc; "{} {} {}", c.next_multi, c.oldest_multi, c.next_member)?;
-    let blocks = case.segment_blocks();
-    Ok(format!(in alloc; "ok blocks {blocks}, {xids} {multis},")?)
+    write!(out, "ok blocks {}, ", case.segment_blocks())?;
+    write!(out, "cluster {} {} ", c.next_xid, c.oldest_xid)?;
+    write!(
+        out,
+        "{} {} {},",
+        c.next_multi, c.oldest_multi, c.next_member
+    )
 }
 
-fn describe_files(alloc: Global, case: &Case) -> Result<String, Fail> {
+fn write_files(out: &mut String, case: &Case) -> Result<(), AllocError> {
     let (xact, offsets, members) = (case.xact_dir(), case.offsets_dir(), case.members_dir());
-    let dirs = format!(in alloc; " dirs {xact} {offsets} {members},")?;
-    Ok(format!(in alloc; "{dirs} heap {},", case.heap_file())?)
-}
-
-fn describe_toast(alloc: Global, case: &Case) -> Result<String, Fail> {
+    write!(
+        out,
+        " dirs {xact} {offsets} {members}, heap {},",
+        case.heap_file()
+    )?;
     match case.toast() {
-        Some((file, oid)) => Ok(format!(in alloc; " toast {file} {oid}, columns")?),
-        None => Ok(String::from_str(alloc, " no toast, columns")?),
+        Some((file, oid)) => write!(out, " toast {file} {oid}, columns"),
+        None => out.push_str(" no toast, columns"),
     }
 }
 
-fn described(alloc: Global, case: &Case) -> Result<String, Fail> {
-    let mut out = describe_cluster(alloc, case)?;
-    push(&mut out, describe_files(alloc, case))?;
-    push(&mut out, describe_toast(alloc, case))?;
+fn write_lists(alloc: Global, out: &mut String, case: &Case) -> Result<(), AllocError> {
     for column in case.columns() {
-        push(&mut out, describe_column(alloc, column))?;
+        write_column(alloc, out, column)?;
     }
     if case.index_count() == 0 {
         out.push_str(" no index")?;
     }
     for n in 1..=case.index_count() {
-        push(&mut out, describe_index(alloc, case, n))?;
+        write_index(out, case, n)?;
     }
+    Ok(())
+}
+
+// What a case says.
+fn described(alloc: Global, case: &Case) -> Result<String, AllocError> {
+    let mut out = String::new(alloc);
+    write_cluster(&mut out, case)?;
+    write_files(&mut out, case)?;
+    write_lists(alloc, &mut out, case)?;
     Ok(out)
+}
+
+fn refusal(alloc: Global, code: &str, place: &[u8]) -> Result<String, Fail> {
+    let place = std::str::from_utf8(place).ok().ok_or("no text")?;
+    Ok(format!(in alloc; "{code} {place}")?)
 }
 
 fn outcome(alloc: Global, text: &[u8]) -> Result<String, Fail> {
     match read_case(alloc, text) {
-        Ok(case) => described(alloc, &case),
-        Err(CaseFault::Refused { rule, place }) => {
-            let place = std::str::from_utf8(place.as_slice()).ok().ok_or("no text")?;
-            Ok(format!(in alloc; "{} {place}", rule.code())?)
-        }
+        Ok(case) => Ok(described(alloc, &case)?),
+        Err(CaseFault::Refused { rule, place }) => refusal(alloc, rule.code(), place.as_slice()),
         Err(CaseFault::NoMemory) => Ok(String::from_str(alloc, "no memory")?),
     }
 }
 
-// FULL with an edit.
-fn edited(alloc: Global, text: &str, edit: &str) -> Result<String, Fail> {
-    let (old, new) = edit.split_once(" -> ").ok_or("an edit without an arrow")?;
-    if old == "*" {
-        return with_many(alloc, new);
-    }
-    let old = with_many(alloc, old)?;
-    let new = with_many(alloc, new)?;
-    if !text.contains(old.as_str()) {
+// A text with what stands in it replaced.
+fn replaced(alloc: Global, text: &str, old: &str, new: &str) -> Result<String, Fail> {
+    if !text.contains(old) {
         return Err(Fail::from("an edit of what isn't there"));
     }
-    Ok(text.replace(alloc, old.as_str(), new.as_str())?)
+    Ok(text.replace(alloc, old, new)?)
 }
 
-// The outcome that a line expects, and what the text says that its edits lead to.
-fn tried(alloc: Global, line: &str) -> Result<(String, String), Fail> {
+// A text with an edit.
+fn edited(alloc: Global, text: &str, edit: &str) -> Result<String, Fail> {
+    let (old, new) = edit.split_once(" -> ").ok_or("an edit without an arrow")?;
+    let new = with_many(alloc, new)?;
+    if old == "*" {
+        return Ok(new);
+    }
+    let old = with_many(alloc, old)?;
+    replaced(alloc, text, old.as_str(), new.as_str())
+}
+
+// FULL with the edits of a line.
+fn text_of(alloc: Global, line: &str) -> Result<String, Fail> {
     let mut pieces = line.split(" | ");
-    let expected = with_many(alloc, pieces.next().unwrap_or(""))?;
+    let _expected = pieces.next();
     let mut text = String::from_str(alloc, FULL)?;
     for edit in pieces {
         text = edited(alloc, text.as_str(), edit)?;
     }
-    Ok((expected, outcome(alloc, text.as_str().as_bytes())?))
+    Ok(text)
 }
 
-fn is_as_expected(found: &str, expected: &str) -> bool {
-    found == expected || (found.starts_with("ok ") && found.contains(expected))
+// What the text says that the edits of a line lead to.
+fn found_by(alloc: Global, line: &str) -> Result<String, Fail> {
+    let text = text_of(alloc, line)?;
+    outcome(alloc, text.as_str().as_bytes())
+}
+
+// Whether that is what the line expects.
+fn is_as_expected(alloc: Global, line: &str, found: &str) -> Result<bool, AllocError> {
+    let expected = with_many(alloc, line.split(" | ").next().unwrap_or(""))?;
+    let expected = expected.as_str();
+    Ok(found == expected || (found.starts_with("ok ") && found.contains(expected)))
 }
 
 #[test]
@@ -173,23 +191,25 @@ fn texts_mean_what_they_say(rt: HostRuntime) -> Result<(), Fail> {
         if line.is_empty() {
             continue;
         }
-        let (expected, found) = tried(rt.alloc(), line)?;
-        let same = is_as_expected(found.as_str(), expected.as_str());
+        let found = found_by(rt.alloc(), line)?;
+        let same = is_as_expected(rt.alloc(), line, found.as_str())?;
         assert!(rt; same, "{line}: {found}");
     }
     Ok(())
 }
 
-// The numbers of the indexes of some names.
-fn expect_indexes(rt: &impl Abort, case: &Case, rows: &[(&str, Option<u16>)]) {
-    let mut row = 0u32;
+// The numbers of the indexes of some names, or 0.
+fn expect_indexes(rt: &impl Abort, case: &Case, rows: &[(&str, u16)]) {
     for (name, want) in rows {
-        row = row.wrapping_add(1);
-        same(rt, &case.find_index(name), want, row);
+        holds(
+            rt,
+            case.find_index(name).unwrap_or(0) == *want,
+            u32::from(*want),
+        );
     }
 }
 
-const OF_FULL: [(&str, Option<u16>); 3] = [("t_note", Some(2)), ("t_not", None), ("t_nota", None)];
+const OF_FULL: [(&str, u16); 3] = [("t_note", 2), ("t_not", 0), ("t_nota", 0)];
 
 #[test]
 fn other_calls(rt: HostRuntime) -> Result<(), Fail> {
@@ -198,7 +218,7 @@ fn other_calls(rt: HostRuntime) -> Result<(), Fail> {
         .ok()
         .ok_or("refused")?;
     case.sound();
-    same(&rt, &case.column_types().len(), &5, 3);
+    holds(&rt, case.column_types().len() == 5, 3);
     expect_indexes(&rt, &case, &OF_FULL);
     Ok(())
 }
@@ -207,8 +227,8 @@ fn other_calls(rt: HostRuntime) -> Result<(), Fail> {
 fn a_generated_case(rt: HostRuntime) -> Result<(), Fail> {
     let case = Case::generated(rt.alloc())?;
     case.sound();
-    expect_indexes(&rt, &case, &[("t_id", Some(1)), ("t_grp", Some(2))]);
-    same(&rt, &case.index_count(), &2, 2);
+    expect_indexes(&rt, &case, &[("t_id", 1), ("t_grp", 2)]);
+    holds(&rt, case.index_count() == 2, 2);
     let text = described(rt.alloc(), &case)?;
     let want = "ok blocks 131072, cluster 4 3 1 1 0, dirs xact offsets members, heap t, no toast, \
         columns Int8 null, Int4 null,";

@@ -127,13 +127,13 @@ const HELD: [(u8, u16); 10] = [
     (0, 17),
 ];
 
-// Places from which two bytes are asked for.
-const PAIRS: [(u64, Option<&[u8]>); 5] = [
-    (8191, Some(&[0, 1])),
-    (24575, Some(&[2, 3])),
-    (24584, Some(&[3, 3])),
-    (24585, None),
-    (u64::MAX, None),
+// Places from which two bytes are asked for, and these, or none where that fails.
+const PAIRS: [(u64, &[u8]); 5] = [
+    (8191, b"\0\x01"),
+    (24575, b"\x02\x03"),
+    (24584, b"\x03\x03"),
+    (24585, b""),
+    (u64::MAX, b""),
 ];
 
 fn expect_real_log(rt: &impl Abort, files: &mut DiskFiles) {
@@ -141,7 +141,8 @@ fn expect_real_log(rt: &impl Abort, files: &mut DiskFiles) {
     same(rt, &files.length(name), &Ok(Some(24586)), 0);
     same(rt, &files.length(log("a_log", 9)), &Ok(None), 1);
     expect_numbers(rt, files, name, &HELD, true);
-    for (at, want) in PAIRS {
+    for (at, pair) in PAIRS {
+        let want = if pair.is_empty() { None } else { Some(pair) };
         expect_bytes(rt, files, name, at, &mut [255; 2], want);
     }
     expect_numbers(rt, files, name, &[(3, 10), (4, 0)], false);

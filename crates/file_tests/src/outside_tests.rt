@@ -28,19 +28,41 @@ fn paths_have_their_parts(rt: HostRuntime) -> Result<(), Fail> {
     Ok(())
 }
 
-// A call to files in memory, and what comes of it. Each file is the segment of a relation.
+// A call to files in memory.
 #[derive(Clone, Copy)]
-enum Step {
-    Add(&'static str, Part, &'static [u8]),
-    Cut(&'static str, Part, u64, bool),
-    Forget(&'static str, Part, bool),
-    FailLength(u64),
-    FailRead(u64),
-    Length(&'static str, Part, Result<Option<u64>, Failed>),
-    // Bytes of segment 0 of `t` from a place on, and how many reads were asked for then.
-    Read(u64, &'static [u8], u64),
-    ReadFails(u64, u64),
-    Reads(u64),
+enum Call {
+    Add,
+    // Leaves a file so many bytes, and finds too few of them.
+    Cut,
+    CutFails,
+    Forget,
+    ForgetFails,
+    // Plans that the call of such a number fails.
+    FailLength,
+    FailRead,
+    // Asks for a length, and finds one, no file, or a failure.
+    Length,
+    NoFile,
+    LengthFails,
+    // Reads bytes from a place on.
+    Read,
+    ReadFails,
+    // Asks how many reads were asked for.
+    Reads,
+}
+
+// A call, its file and the segment of that, its number, and the file's bytes or those that are read.
+type Step = (Call, &'static str, u32, u64, &'static str);
+
+// The segment that stands for the first file of a log.
+const LOG: u32 = 9;
+
+fn part_of(segment: u32) -> Part {
+    if segment == LOG {
+        Part::Slru(0)
+    } else {
+        Part::Segment(segment)
+    }
 }
 
 const T0: Part = Part::Segment(0);
@@ -64,14 +86,16 @@ fn read<F: Files>(
     Ok(true)
 }
 
-// Whether bytes of segment 0 of `t` from a place on are these.
-fn has_bytes<F: Files>(alloc: Global, files: &mut F, at: u64, want: &[u8]) -> Result<bool, Fail> {
-    let mut piece = vec![in alloc; 255u8; want.len()]?;
+// Whether bytes of segment 0 of `t` from a place on are these, at most 16.
+fn has_bytes<F: Files>(files: &mut F, at: u64, want: &[u8]) -> bool {
+    let mut piece = [255u8; 16];
+    let len = want.len().min(16);
+    let (out, _) = piece.split_at_mut(len);
     let name = FileName {
         base: "t",
         part: T0,
     };
-    Ok(read(files, name, at, &mut piece)? && piece.as_slice() == want)
+    matches!(read(files, name, at, out), Ok(true)) && *out == *want
 }
 
 fn read_fails(files: &mut MemFiles, at: u64) -> bool {
@@ -83,104 +107,121 @@ fn read_fails(files: &mut MemFiles, at: u64) -> bool {
     read(files, name, at, &mut piece) == Err(Failed)
 }
 
-// Whether a call has the outcome that is wanted.
-fn is_as_wanted(alloc: Global, files: &mut MemFiles, step: Step) -> Result<bool, Fail> {
-    match step {
-        Step::Add(base, part, bytes) => Ok(files.add(base, part, bytes).is_ok()),
-        Step::Cut(base, part, len, want) => Ok(files.cut(base, part, len) == want),
-        Step::Forget(base, part, want) => Ok(files.forget(base, part) == want),
-        Step::FailLength(n) => Ok(files.fail_length(n).is_ok()),
-        Step::FailRead(n) => Ok(files.fail_read(n).is_ok()),
-        Step::Length(base, part, want) => Ok(files.length(FileName { base, part }) == want),
-        Step::Read(at, want, reads) => {
-            Ok(has_bytes(alloc, files, at, want)? && files.reads() == reads)
-        }
-        Step::ReadFails(at, reads) => Ok(read_fails(files, at) && files.reads() == reads),
-        Step::Reads(reads) => Ok(files.reads() == reads),
+// Whether a call that asks for something finds what is wanted.
+fn is_found(files: &mut MemFiles, (call, base, segment, number, bytes): Step) -> bool {
+    let part = part_of(segment);
+    match call {
+        Call::Length => files.length(FileName { base, part }) == Ok(Some(number)),
+        Call::NoFile => files.length(FileName { base, part }) == Ok(None),
+        Call::LengthFails => files.length(FileName { base, part }) == Err(Failed),
+        Call::Read => has_bytes(files, number, bytes.as_bytes()),
+        Call::ReadFails => read_fails(files, number),
+        Call::Reads => files.reads() == number,
+        _ => false,
     }
 }
 
-fn take_steps(rt: &impl Abort, alloc: Global, steps: &[Step]) -> Result<(), Fail> {
+// Whether a call has the outcome that is wanted.
+fn is_as_wanted(files: &mut MemFiles, step: Step) -> bool {
+    let (call, base, segment, number, bytes) = step;
+    let part = part_of(segment);
+    match call {
+        Call::Add => files.add(base, part, bytes.as_bytes()).is_ok(),
+        Call::Cut => files.cut(base, part, number),
+        Call::CutFails => !files.cut(base, part, number),
+        Call::Forget => files.forget(base, part),
+        Call::ForgetFails => !files.forget(base, part),
+        Call::FailLength => files.fail_length(number).is_ok(),
+        Call::FailRead => files.fail_read(number).is_ok(),
+        _ => is_found(files, step),
+    }
+}
+
+fn take_steps(rt: &impl Abort, alloc: Global, steps: &[Step]) {
     let mut files = MemFiles::new(alloc);
     let mut row = 0u32;
     for step in steps {
         row = row.wrapping_add(1);
-        let wanted = is_as_wanted(alloc, &mut files, *step)?;
+        let wanted = is_as_wanted(&mut files, *step);
         holds(rt, wanted && !files.refused_memory(), row);
     }
-    Ok(())
 }
 
-const ADDED_LAST: [Step; 10] = [
-    Step::Add("t", T0, b"first"),
-    Step::Add("t", T1, b"second"),
-    Step::Add("t", Part::Slru(0), b"log"),
-    Step::Add("t", T0, b"another one"),
-    Step::Length("t", T0, Ok(Some(11))),
-    Step::Length("t", T1, Ok(Some(6))),
-    Step::Length("t", Part::Slru(0), Ok(Some(3))),
-    Step::Length("t", Part::Segment(2), Ok(None)),
-    Step::Length("u", T0, Ok(None)),
-    Step::Read(8, b"one", 1),
+const ADDED_LAST: [Step; 11] = [
+    (Call::Add, "t", 0, 0, "first"),
+    (Call::Add, "t", 1, 0, "second"),
+    (Call::Add, "t", LOG, 0, "log"),
+    (Call::Add, "t", 0, 0, "another one"),
+    (Call::Length, "t", 0, 11, ""),
+    (Call::Length, "t", 1, 6, ""),
+    (Call::Length, "t", LOG, 3, ""),
+    (Call::NoFile, "t", 2, 0, ""),
+    (Call::NoFile, "u", 0, 0, ""),
+    (Call::Read, "t", 0, 8, "one"),
+    (Call::Reads, "", 0, 1, ""),
 ];
 
 #[test]
-fn files_in_memory_hold_what_was_added_last(rt: HostRuntime) -> Result<(), Fail> {
-    take_steps(&rt, rt.alloc(), &ADDED_LAST)
+fn files_in_memory_hold_what_was_added_last(rt: HostRuntime) {
+    take_steps(&rt, rt.alloc(), &ADDED_LAST);
 }
 
-const PLANNED: [Step; 11] = [
-    Step::Add("t", T0, b"abc"),
-    Step::Length("t", T0, Ok(Some(3))),
-    Step::Length("t", T0, Ok(Some(3))),
-    Step::FailLength(2),
-    Step::FailLength(0),
-    Step::Length("t", T0, Ok(Some(3))),
-    Step::Length("t", T0, Err(Failed)),
-    Step::Length("t", T0, Ok(Some(3))),
-    Step::FailRead(1),
-    Step::ReadFails(2, 1),
-    Step::Read(2, b"c", 2),
+const PLANNED: [Step; 13] = [
+    (Call::Add, "t", 0, 0, "abc"),
+    (Call::Length, "t", 0, 3, ""),
+    (Call::Length, "t", 0, 3, ""),
+    (Call::FailLength, "", 0, 2, ""),
+    (Call::FailLength, "", 0, 0, ""),
+    (Call::Length, "t", 0, 3, ""),
+    (Call::LengthFails, "t", 0, 0, ""),
+    (Call::Length, "t", 0, 3, ""),
+    (Call::FailRead, "", 0, 1, ""),
+    (Call::ReadFails, "t", 0, 2, ""),
+    (Call::Reads, "", 0, 1, ""),
+    (Call::Read, "t", 0, 2, "c"),
+    (Call::Reads, "", 0, 2, ""),
 ];
 
 #[test]
-fn planned_failures_count_later_calls(rt: HostRuntime) -> Result<(), Fail> {
-    take_steps(&rt, rt.alloc(), &PLANNED)
+fn planned_failures_count_later_calls(rt: HostRuntime) {
+    take_steps(&rt, rt.alloc(), &PLANNED);
 }
 
-const COUNTED: [Step; 6] = [
-    Step::Add("t", T0, b"abc"),
-    Step::Length("t", T0, Ok(Some(3))),
-    Step::Reads(0),
-    Step::FailRead(2),
-    Step::Read(0, b"a", 1),
-    Step::ReadFails(0, 2),
+const COUNTED: [Step; 8] = [
+    (Call::Add, "t", 0, 0, "abc"),
+    (Call::Length, "t", 0, 3, ""),
+    (Call::Reads, "", 0, 0, ""),
+    (Call::FailRead, "", 0, 2, ""),
+    (Call::Read, "t", 0, 0, "a"),
+    (Call::Reads, "", 0, 1, ""),
+    (Call::ReadFails, "t", 0, 0, ""),
+    (Call::Reads, "", 0, 2, ""),
 ];
 
 #[test]
-fn reads_are_counted_and_lengths_are_not(rt: HostRuntime) -> Result<(), Fail> {
-    take_steps(&rt, rt.alloc(), &COUNTED)
+fn reads_are_counted_and_lengths_are_not(rt: HostRuntime) {
+    take_steps(&rt, rt.alloc(), &COUNTED);
 }
 
 const CUT: [Step; 13] = [
-    Step::Add("t", T0, b"abc"),
-    Step::Add("t", T1, b"defg"),
-    Step::Cut("t", T0, 4, false),
-    Step::Cut("u", T0, 0, false),
-    Step::Cut("t", T1, 4, true),
-    Step::Cut("t", T0, 2, true),
-    Step::Length("t", T0, Ok(Some(2))),
-    Step::Length("t", T1, Ok(Some(4))),
-    Step::Forget("t", Part::Slru(0), false),
-    Step::Forget("t", T0, true),
-    Step::Forget("t", T0, false),
-    Step::Length("t", T0, Ok(None)),
-    Step::Length("t", T1, Ok(Some(4))),
+    (Call::Add, "t", 0, 0, "abc"),
+    (Call::Add, "t", 1, 0, "defg"),
+    (Call::CutFails, "t", 0, 4, ""),
+    (Call::CutFails, "u", 0, 0, ""),
+    (Call::Cut, "t", 1, 4, ""),
+    (Call::Cut, "t", 0, 2, ""),
+    (Call::Length, "t", 0, 2, ""),
+    (Call::Length, "t", 1, 4, ""),
+    (Call::ForgetFails, "t", LOG, 0, ""),
+    (Call::Forget, "t", 0, 0, ""),
+    (Call::ForgetFails, "t", 0, 0, ""),
+    (Call::NoFile, "t", 0, 0, ""),
+    (Call::Length, "t", 1, 4, ""),
 ];
 
 #[test]
-fn files_in_memory_are_cut_and_forgotten(rt: HostRuntime) -> Result<(), Fail> {
-    take_steps(&rt, rt.alloc(), &CUT)
+fn files_in_memory_are_cut_and_forgotten(rt: HostRuntime) {
+    take_steps(&rt, rt.alloc(), &CUT);
 }
 
 // Files that never fail, with one that was added twice.
@@ -191,19 +232,17 @@ fn added_twice(alloc: Global) -> Result<SureFiles, Fail> {
     Ok(files)
 }
 
+fn has_length(files: &mut SureFiles, part: Part, want: Option<u64>) -> bool {
+    files.length(FileName { base: "t", part }) == Ok(want)
+}
+
 #[test]
 fn sure_files_hold_what_was_added_last(rt: HostRuntime) -> Result<(), Fail> {
     let mut files = added_twice(rt.alloc())?;
-    for (part, want) in [(T0, Some(11)), (T1, None)] {
-        same(
-            &rt,
-            &files.length(FileName { base: "t", part }),
-            &Ok(want),
-            0,
-        );
-    }
-    holds(&rt, has_bytes(rt.alloc(), &mut files, 8, b"one")?, 1);
-    holds(&rt, !files.refused_memory(), 2);
+    holds(&rt, has_length(&mut files, T0, Some(11)), 0);
+    holds(&rt, has_length(&mut files, T1, None), 1);
+    holds(&rt, has_bytes(&mut files, 8, b"one"), 2);
+    holds(&rt, !files.refused_memory(), 3);
     Ok(())
 }
 

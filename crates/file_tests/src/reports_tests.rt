@@ -57,39 +57,80 @@ fn expect_report(rt: &impl Abort, alloc: Global, report: &Report, want: &str) ->
     Ok(())
 }
 
-#[test]
-fn each_place(rt: HostRuntime) -> Result<(), Fail> {
-    let mut report = Report::new(rt.alloc());
+// A report with each of these findings and reasons.
+fn full_report(alloc: Global) -> Result<Report, NoMemory> {
+    let mut report = Report::new(alloc);
     for (rule, place) in FINDINGS {
         report.finding(Finding { rule, place })?;
     }
     for (reason, place) in REASONS {
         report.unjudged(reason, place)?;
     }
+    Ok(report)
+}
+
+#[test]
+fn each_place(rt: HostRuntime) -> Result<(), Fail> {
+    let report = full_report(rt.alloc())?;
     same(&rt, &report.counts(), &(8, 6), 0);
     expect_report(&rt, rt.alloc(), &report, EACH_PLACE)
 }
 
+// A report with a place that can't be judged, if there is to be one, and with a finding there, if there is to be one.
+fn report_with(alloc: Global, unjudged: bool, found: bool) -> Result<Report, NoMemory> {
+    let place = Place::Item(Rel::Index(1), 1, 1);
+    let mut report = Report::new(alloc);
+    if unjudged {
+        report.unjudged(Reason::U5, place)?;
+    }
+    if found {
+        report.finding(Finding {
+            rule: Rule::B9,
+            place,
+        })?;
+    }
+    Ok(report)
+}
+
+fn expect_verdict(
+    rt: &impl Abort,
+    alloc: Global,
+    report: &Report,
+    (verdict, want): (Verdict, &str),
+) -> Result<(), Fail> {
+    same(rt, &report.verdict(), &verdict, 0);
+    expect_report(rt, alloc, report, want)
+}
+
+// Whether there are such places, the verdict and the text.
+const VERDICTS: [(bool, bool, Verdict, &str); 3] = [
+    (
+        false,
+        false,
+        Verdict::Clean,
+        "findings 0 unjudged 0\nverdict clean\n",
+    ),
+    (
+        true,
+        false,
+        Verdict::Unjudged,
+        "unjudged U5 index 1 block 1 item 1\nfindings 0 unjudged 1\nverdict unjudged\n",
+    ),
+    (
+        true,
+        true,
+        Verdict::Findings,
+        "finding B9 index 1 block 1 item 1\nunjudged U5 index 1 block 1 item 1\n\
+        findings 1 unjudged 1\nverdict findings\n",
+    ),
+];
+
 #[test]
 fn verdicts(rt: HostRuntime) -> Result<(), Fail> {
-    let place = Place::Item(Rel::Index(1), 1, 1);
-    let mut report = Report::new(rt.alloc());
-    same(&rt, &report.verdict(), &Verdict::Clean, 0);
-    expect_report(
-        &rt,
-        rt.alloc(),
-        &report,
-        "findings 0 unjudged 0\nverdict clean\n",
-    )?;
-    report.unjudged(Reason::U5, place)?;
-    same(&rt, &report.verdict(), &Verdict::Unjudged, 1);
-    let want = "unjudged U5 index 1 block 1 item 1\nfindings 0 unjudged 1\nverdict unjudged\n";
-    expect_report(&rt, rt.alloc(), &report, want)?;
-    report.finding(Finding {
-        rule: Rule::B9,
-        place,
-    })?;
-    same(&rt, &report.verdict(), &Verdict::Findings, 2);
+    for (unjudged, found, verdict, want) in VERDICTS {
+        let report = report_with(rt.alloc(), unjudged, found)?;
+        expect_verdict(&rt, rt.alloc(), &report, (verdict, want))?;
+    }
     Ok(())
 }
 
@@ -107,18 +148,24 @@ fn long_report(alloc: Global, blocks: u32) -> Result<Report, NoMemory> {
     Ok(report)
 }
 
+// How many lines a text has.
+fn lines_of(text: &[u8]) -> u32 {
+    let mut lines = 0u32;
+    for byte in text {
+        if *byte == b'\n' {
+            lines = lines.wrapping_add(1);
+        }
+    }
+    lines
+}
+
 #[test]
 fn a_thousand_lines_are_printed(rt: HostRuntime) -> Result<(), Fail> {
     let report = long_report(rt.alloc(), 1001)?;
     same(&rt, &report.counts(), &(1001, 1002), 0);
     let text = report.text(rt.alloc())?;
     let bytes = text.as_slice();
-    same(
-        &rt,
-        &bytes.iter().filter(|b| **b == b'\n').count(),
-        &2002,
-        1,
-    );
+    holds(&rt, lines_of(bytes) == 2002, 1);
     let last =
         b"\nunjudged U1 heap block 999 item 1\nfindings 1001 unjudged 1002\nverdict findings\n";
     holds(&rt, bytes.ends_with(last), 2);

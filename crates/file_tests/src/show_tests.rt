@@ -74,11 +74,19 @@ const LEAF_TEXT: &str = "page prev 0 next 0 level 0 flags 0003 lower 36 upper 81
     item 2 normal off 8144 len 16 tid 0 2 info 0010 plain\n\
     item 3 normal off 8128 len 16 tid 0 3 info 0010 plain\n";
 
+fn heap_of_three_rows() -> [u8; 8192] {
+    page_of(&THREE_ROWS)
+}
+
+fn leaf() -> [u8; 8192] {
+    page_of(&LEAF)
+}
+
 #[test]
 fn pages_of_a_server(rt: HostRuntime) -> Result<(), Fail> {
-    expect_heap(&rt, rt.alloc(), &page_of(&THREE_ROWS), HEAP_TEXT)?;
+    expect_heap(&rt, rt.alloc(), &heap_of_three_rows(), HEAP_TEXT)?;
     expect_tree(&rt, rt.alloc(), &page_of(&METAPAGE), 0, META_TEXT)?;
-    expect_tree(&rt, rt.alloc(), &page_of(&LEAF), 1, LEAF_TEXT)
+    expect_tree(&rt, rt.alloc(), &leaf(), 1, LEAF_TEXT)
 }
 
 // Items of each other kind on a heap page: unused, redirected, dead, too short, and a tuple.
@@ -104,7 +112,7 @@ const OTHER_HEAP_TEXT: &str =
 
 #[test]
 fn other_heap_items(rt: HostRuntime) -> Result<(), Fail> {
-    let mut page = page_of(&THREE_ROWS);
+    let mut page = heap_of_three_rows();
     put(&mut page, &OTHER_HEAP_ITEMS);
     expect_heap(&rt, rt.alloc(), &page, OTHER_HEAP_TEXT)
 }
@@ -133,7 +141,7 @@ const DELETED_TEXT: &str =
 
 #[test]
 fn other_tree_items(rt: HostRuntime) -> Result<(), Fail> {
-    let mut page = page_of(&LEAF);
+    let mut page = leaf();
     put(&mut page, &OTHER_TREE_ITEMS);
     expect_tree(&rt, rt.alloc(), &page, 7, OTHER_TREE_TEXT)?;
     // The same page, deleted, has no items.
@@ -141,22 +149,28 @@ fn other_tree_items(rt: HostRuntime) -> Result<(), Fail> {
     expect_tree(&rt, rt.alloc(), &page, 7, DELETED_TEXT)
 }
 
+// Expects the same text of a page of a heap and of one of a tree, be it a metapage or not.
+fn expect_all(rt: &impl Abort, alloc: Global, bytes: &[u8; 8192], want: &str) -> Result<(), Fail> {
+    expect_heap(rt, alloc, bytes, want)?;
+    expect_tree(rt, alloc, bytes, 1, want)?;
+    expect_tree(rt, alloc, bytes, 0, want)
+}
+
 #[test]
 fn pages_without_lines(rt: HostRuntime) -> Result<(), Fail> {
-    let rows: [(&[Piece], &str, &str); 4] = [
-        (&[], "page new\n", "page new\n"),
-        (&[(8000, b"\x01")], "page rule P4\n", "page rule P4\n"),
-        (&LEAF, "page rule P3\n", LEAF_TEXT),
-        (&THREE_ROWS, HEAP_TEXT, "page rule P3\n"),
-    ];
-    for (pieces, heap, tree) in rows {
-        let page = page_of(pieces);
-        expect_heap(&rt, rt.alloc(), &page, heap)?;
-        expect_tree(&rt, rt.alloc(), &page, 1, tree)?;
-    }
-    // Block 0 is a metapage.
-    for (pieces, _, tree) in [rows[0], rows[1], rows[3]] {
-        expect_tree(&rt, rt.alloc(), &page_of(pieces), 0, tree)?;
-    }
-    Ok(())
+    expect_all(&rt, rt.alloc(), &[0; 8192], "page new\n")?;
+    expect_all(
+        &rt,
+        rt.alloc(),
+        &page_of(&[(8000, b"\x01")]),
+        "page rule P4\n",
+    )
+}
+
+// Block 0 is a metapage.
+#[test]
+fn pages_of_another_kind(rt: HostRuntime) -> Result<(), Fail> {
+    expect_heap(&rt, rt.alloc(), &leaf(), "page rule P3\n")?;
+    expect_tree(&rt, rt.alloc(), &heap_of_three_rows(), 1, "page rule P3\n")?;
+    expect_tree(&rt, rt.alloc(), &heap_of_three_rows(), 0, "page rule P3\n")
 }
