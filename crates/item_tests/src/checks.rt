@@ -1,4 +1,5 @@
 //! How a test ends where something isn't as expected.
+use page_layout::Rule;
 use std::fmt::Debug;
 use std::process::Abort;
 
@@ -10,4 +11,12 @@ pub fn same<T: PartialEq + Debug>(rt: &impl Abort, got: &T, want: &T, row: u32) 
 /// Ends the test unless something holds.
 pub fn holds(rt: &impl Abort, fact: bool, row: u32) {
     assert!(rt; fact, "row {row}");
+}
+
+/// The code of a rule, and no text where none is broken.
+pub fn code_of(rule: Option<Rule>) -> &'static str {
+    match rule {
+        Some(rule) => rule.code(),
+        None => "",
+    }
 }

@@ -128,12 +128,15 @@ fn table(alloc: Global) -> Result<OneFile, NoMemory> {
     Ok(one_file(bytes))
 }
 
+// Its chunks: their numbers, their items, and how many bytes they have.
+const CHUNKS: [(i32, u32, u16, u32); 3] = [(2, 0, 1, 8), (0, 0, 2, 1996), (1, 1, 1, 1996)];
+
 // The map of that table.
 fn table_map(alloc: Global) -> Result<ToastMap, NoMemory> {
     let mut map = ToastMap::new(alloc);
-    map.add(ID, 2, Tid { block: 0, item: 1 }, Some(8))?;
-    map.add(ID, 0, Tid { block: 0, item: 2 }, Some(1996))?;
-    map.add(ID, 1, Tid { block: 1, item: 1 }, Some(1996))?;
+    for (seq, block, item, len) in CHUNKS {
+        map.add(ID, seq, Tid { block, item }, Some(len))?;
+    }
     Ok(map)
 }
 
@@ -148,6 +151,27 @@ fn made_of(
     Ok(value(alloc, files, &toast, map, pointer(sizes.0, sizes.1)))
 }
 
+// The same over that table, of whose reads that of a number fails.
+fn made_of_table(
+    alloc: Global,
+    failing: u64,
+    sizes: (i32, u32),
+) -> Result<Result<ToastState, ToastFault>, Fail> {
+    let map = table_map(alloc)?;
+    let mut files = table(alloc)?;
+    files.failing = failing;
+    made_of(alloc, &mut files, &map, sizes)
+}
+
+// Whether each byte is this one.
+fn is_all(bytes: &[u8], want: u8) -> bool {
+    let mut is_all = true;
+    for byte in bytes {
+        is_all = is_all && *byte == want;
+    }
+    is_all
+}
+
 // The value of 4000 bytes, from its chunks' letters.
 fn is_the_value(state: &ToastState) -> bool {
     let ToastState::Whole(bytes) = state else {
@@ -156,20 +180,31 @@ fn is_the_value(state: &ToastState) -> bool {
     let bytes = bytes.as_slice();
     let (a, rest) = bytes.split_at(bytes.len().min(1996));
     let (b, c) = rest.split_at(rest.len().min(1996));
-    let are_letters = a.iter().all(|x| *x == b'a') && b.iter().all(|x| *x == b'b');
-    bytes.len() == 4000 && are_letters && c.iter().all(|x| *x == b'c')
+    bytes.len() == 4000 && is_all(a, b'a') && is_all(b, b'b') && is_all(c, b'c')
 }
+
+// A word for what was made.
+fn word_for(state: &ToastState) -> &'static str {
+    match state {
+        ToastState::Whole(_) if is_the_value(state) => "the value",
+        ToastState::Whole(_) => "another value",
+        ToastState::Packed => "packed",
+        ToastState::Broken => "broken",
+    }
+}
+
+const VALUES: [(i32, u32, &str); 3] = [
+    (4004, 4000, "the value"),
+    (4005, 4000, "packed"),
+    (4005, 4001, "broken"),
+];
 
 #[test]
 fn values(rt: HostRuntime) -> Result<(), Fail> {
-    let mut files = table(rt.alloc())?;
-    let map = table_map(rt.alloc())?;
-    let state = made_of(rt.alloc(), &mut files, &map, (4004, 4000))??;
-    holds(&rt, is_the_value(&state), 0);
-    let state = made_of(rt.alloc(), &mut files, &map, (4005, 4000))??;
-    holds(&rt, matches!(state, ToastState::Packed), 1);
-    let state = made_of(rt.alloc(), &mut files, &map, (4005, 4001))??;
-    holds(&rt, matches!(state, ToastState::Broken), 2);
+    for (raw_size, ext_info, want) in VALUES {
+        let state = made_of_table(rt.alloc(), 0, (raw_size, ext_info))??;
+        assert!(rt; word_for(&state) == want, "{want}");
+    }
     Ok(())
 }
 
@@ -181,15 +216,18 @@ const ZEROS: [Row; 1] = [Row {
     fill: 0,
 }];
 
-// A value of one chunk: 1996 bytes 0.
+// What is made of a value of one chunk: 1996 bytes 0.
+fn made_of_zeros(alloc: Global) -> Result<Result<ToastState, ToastFault>, Fail> {
+    let mut bytes = vec![in alloc; 0u8; 8192]?;
+    put_page(&mut bytes, &ZEROS);
+    let mut map = ToastMap::new(alloc);
+    map.add(ID, 0, Tid { block: 0, item: 1 }, Some(1996))?;
+    made_of(alloc, &mut one_file(bytes), &map, (2000, 1996))
+}
+
 #[test]
 fn one_chunk(rt: HostRuntime) -> Result<(), Fail> {
-    let mut bytes = vec![in rt.alloc(); 0u8; 8192]?;
-    put_page(&mut bytes, &ZEROS);
-    let mut map = ToastMap::new(rt.alloc());
-    map.add(ID, 0, Tid { block: 0, item: 1 }, Some(1996))?;
-    let state = made_of(rt.alloc(), &mut one_file(bytes), &map, (2000, 1996))??;
-    let is_zeros = match state {
+    let is_zeros = match made_of_zeros(rt.alloc())?? {
         ToastState::Whole(bytes) => bytes.as_slice() == [0u8; 1996].as_slice(),
         ToastState::Packed | ToastState::Broken => false,
     };
@@ -200,10 +238,7 @@ fn one_chunk(rt: HostRuntime) -> Result<(), Fail> {
 // The page of chunk 1 can't be read.
 #[test]
 fn a_read_that_fails(rt: HostRuntime) -> Result<(), Fail> {
-    let mut files = table(rt.alloc())?;
-    let map = table_map(rt.alloc())?;
-    files.failing = 2;
-    let made = made_of(rt.alloc(), &mut files, &map, (4004, 4000))?;
+    let made = made_of_table(rt.alloc(), 2, (4004, 4000))?;
     same(&rt, &made.err(), &Some(ToastFault::ReadFault), 0);
     Ok(())
 }

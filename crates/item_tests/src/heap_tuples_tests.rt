@@ -8,7 +8,7 @@ use std::alloc::Global;
 use std::process::Abort;
 use std::test::Fail;
 use tuple_head::heap_head;
-use varlena_attrs::AttrPlace::{Missing, Null, Plain};
+use varlena_attrs::AttrPlace::{Null, Plain};
 use varlena_attrs::{AttrBuffer, AttrFault, AttrPlace, ColumnLayout};
 
 const COLUMNS: [ColType; 3] = [ColType::Int4, ColType::Text, ColType::Int4];
@@ -45,42 +45,59 @@ fn outcome(rt: &impl Abort, alloc: Global, tuple: &[u8]) -> (Outcome, bool) {
     }
 }
 
-const TUPLES: [(Tuple, Outcome, bool); 6] = [
+// How many attributes are stored, the null bits, or 255 for none, the body, what is read of the tuple, and whether all
+// of it is stored in line.
+const TUPLES: [(u16, u8, &[u8], &str, bool); 6] = [
     (
-        (3, None, b"abcd\x07hi\0abcd"),
-        Ok((12, Some(Plain { start: 8, len: 4 }))),
+        3,
+        255,
+        b"abcd\x07hi\0abcd",
+        "Ok((12, Some(Plain { start: 8, len: 4 })))",
         true,
     ),
     (
-        (3, None, b"abcd\x07hi\0abc"),
-        Err(AttrFault::PastEnd { column: 3 }),
+        3,
+        255,
+        b"abcd\x07hi\0abc",
+        "Err(PastEnd { column: 3 })",
         false,
     ),
     (
-        (
-            3,
-            None,
-            b"abcd\x01\x12\xd1\x07\0\0\xcd\x07\0\0\x74\x40\0\0\x10\x40\0\0\0\0abcd",
-        ),
-        Ok((28, Some(Plain { start: 24, len: 4 }))),
+        3,
+        255,
+        b"abcd\x01\x12\xd1\x07\0\0\xcd\x07\0\0\x74\x40\0\0\x10\x40\0\0\0\0abcd",
+        "Ok((28, Some(Plain { start: 24, len: 4 })))",
         false,
     ),
     (
-        (3, Some(0b101), b"abcdabcd"),
-        Ok((8, Some(Plain { start: 4, len: 4 }))),
+        3,
+        0b101,
+        b"abcdabcd",
+        "Ok((8, Some(Plain { start: 4, len: 4 })))",
         true,
     ),
-    ((1, None, b"abcd"), Ok((4, Some(Missing))), true),
-    ((3, Some(0b011), b"abcd\x03"), Ok((5, Some(Null))), true),
+    (1, 255, b"abcd", "Ok((4, Some(Missing)))", true),
+    (3, 0b011, b"abcd\x03", "Ok((5, Some(Null)))", true),
 ];
+
+// Whether that is read of a tuple.
+fn reads(
+    rt: &impl Abort,
+    alloc: Global,
+    tuple: &[u8],
+    (want, inline): (&str, bool),
+) -> Result<bool, Fail> {
+    let (found, is_inline) = outcome(rt, alloc, tuple);
+    let found = format!(in alloc; "{found:?}")?;
+    Ok(found.as_str() == want && is_inline == inline)
+}
 
 #[test]
 fn tuples_with_and_without_nulls(rt: HostRuntime) -> Result<(), Fail> {
-    let mut row = 0u32;
-    for (tuple, want, inline) in TUPLES {
-        row = row.wrapping_add(1);
-        let bytes = tuple_of(rt.alloc(), tuple)?;
-        same(&rt, &outcome(&rt, rt.alloc(), &bytes), &(want, inline), row);
+    for (natts, bits, body, want, inline) in TUPLES {
+        let nulls = if bits == 255 { None } else { Some(bits) };
+        let tuple = tuple_of(rt.alloc(), (natts, nulls, body))?;
+        assert!(rt; reads(&rt, rt.alloc(), &tuple, (want, inline))?, "{want}");
     }
     Ok(())
 }

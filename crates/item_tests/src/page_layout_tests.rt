@@ -1,5 +1,5 @@
 //! Pages as a server writes them, and pages that break one rule each.
-use crate::checks::{holds, same};
+use crate::checks::{code_of, holds, same};
 use crate::pages::{Piece, page_of, put};
 use page_layout::{
     LineFlag, LinePtr, PageKind, PageView, Rule, block_at, max_align, put_block, put_header,
@@ -42,34 +42,38 @@ fn a_page_of_three_tuples(rt: HostRuntime) {
     holds(&rt, is_end && !page.is_new(), 4);
 }
 
-// Pages with one byte that is another: an older layout, an unknown flag, an upper place past the special space, a line
+// Pages with one byte that is another: whether it is the page of three tuples or a new one, the byte's place and the
+// byte, and the rule that is broken. An older layout, an unknown flag, an upper place past the special space, a line
 // pointer of three bytes, a new page with a byte and one with an unknown flag.
-const RULES: [(&[Piece<'static>], Piece<'static>, PageKind, Option<Rule>); 10] = [
-    (&[THREE_TUPLES], (18, &[3]), PageKind::Heap, Some(Rule::P1)),
-    (&[THREE_TUPLES], (10, &[8]), PageKind::Heap, Some(Rule::P2)),
-    (&[THREE_TUPLES], (10, &[7]), PageKind::Heap, None),
-    (
-        &[THREE_TUPLES],
-        (15, &[0x21]),
-        PageKind::Heap,
-        Some(Rule::P3),
-    ),
-    (&[THREE_TUPLES], (12, &[39]), PageKind::Heap, Some(Rule::P3)),
-    (&[THREE_TUPLES], (12, &[39]), PageKind::Map, None),
-    (&[THREE_TUPLES], (0, &[]), PageKind::Tree, Some(Rule::P3)),
-    (&[], (8000, &[1]), PageKind::Heap, Some(Rule::P4)),
-    (&[], (10, &[8]), PageKind::Map, Some(Rule::P2)),
-    (&[], (10, &[0]), PageKind::Meta, None),
+const RULES: [(bool, usize, u8, PageKind, &str); 10] = [
+    (true, 18, 3, PageKind::Heap, "P1"),
+    (true, 10, 8, PageKind::Heap, "P2"),
+    (true, 10, 7, PageKind::Heap, ""),
+    (true, 15, 0x21, PageKind::Heap, "P3"),
+    (true, 12, 39, PageKind::Heap, "P3"),
+    (true, 12, 39, PageKind::Map, ""),
+    (true, 0, 0, PageKind::Tree, "P3"),
+    (false, 8000, 1, PageKind::Heap, "P4"),
+    (false, 10, 8, PageKind::Map, "P2"),
+    (false, 10, 0, PageKind::Meta, ""),
 ];
+
+// The rule that is broken on such a page.
+fn rule_of(is_laid: bool, at: usize, byte: u8, kind: PageKind) -> Option<Rule> {
+    let mut bytes = [0u8; 8192];
+    if is_laid {
+        put(&mut bytes, &[THREE_TUPLES]);
+    }
+    put(&mut bytes, &[(at, &[byte])]);
+    PageView::new(&bytes).page_rule(kind)
+}
 
 #[test]
 fn page_rules(rt: HostRuntime) {
     let mut row = 0u32;
-    for (pieces, other, kind, want) in &RULES {
+    for (is_laid, at, byte, kind, want) in RULES {
         row = row.wrapping_add(1);
-        let mut bytes = page_of(pieces);
-        put(&mut bytes, &[*other]);
-        same(&rt, &PageView::new(&bytes).page_rule(*kind), want, row);
+        holds(&rt, code_of(rule_of(is_laid, at, byte, kind)) == want, row);
     }
 }
 

@@ -59,13 +59,24 @@ fn add(rt: &impl Abort, page: &mut PageWriter, tuple: &[u8]) {
 const ROWS: [(u16, u8); 3] = [(1, 5), (2, 7), (3, 9)];
 
 // Whether a page has these pieces, and so many bytes that aren't 0.
-fn has_pieces(page: &[u8; 8192], pieces: &[Piece<'_>], written: usize) -> bool {
+fn has_pieces(page: &[u8; 8192], pieces: &[Piece<'_>], written: u32) -> bool {
     for (at, bytes) in pieces {
         if 8192 < *at || !page[*at..].starts_with(bytes) {
             return false;
         }
     }
-    page.iter().filter(|b| **b != 0).count() == written
+    count_written(page) == written
+}
+
+// How many bytes of a page aren't 0.
+fn count_written(page: &[u8; 8192]) -> u32 {
+    let mut count = 0u32;
+    for byte in page {
+        if *byte != 0 {
+            count = count.wrapping_add(1);
+        }
+    }
+    count
 }
 
 const HEAP_PAGE: [Piece<'static>; 3] = [
@@ -142,54 +153,74 @@ fn a_metapage(rt: HostRuntime) {
     );
 }
 
-// A separator's downlink, how many values and which TID it keeps, its body, and its bytes.
-type Pivot = (u32, u16, Option<Tid>, &'static [u8], &'static [u8]);
+// A separator's downlink, how many values it keeps, the item of the TID that it keeps, or 0, its body, and its bytes.
+type Pivot = (u32, u16, u16, &'static [u8], &'static [u8]);
 
 // Separators with and without a TID, and the first item of an internal page.
 const PIVOTS: [Pivot; 3] = [
     (
         0,
         1,
-        Some(Tid { block: 0, item: 2 }),
+        2,
         b"\x07\0\0\0",
         b"\0\0\0\0\x01\x10\x18\x20\x07\0\0\0\0\0\0\0\0\0\0\0\0\0\x02\0",
     ),
     (
         65538,
         1,
-        None,
+        0,
         b"\x05\0\0\0",
         b"\x01\0\x02\0\x01\0\x10\x20\x05\0\0\0\0\0\0\0",
     ),
-    (1, 0, None, b"", b"\0\0\x01\0\0\0\x08\x20"),
+    (1, 0, 0, b"", b"\0\0\x01\0\0\0\x08\x20"),
 ];
 
 // Puts a separator in the place of what the buffer held.
-fn put_pivot(rt: &impl Abort, tuple: &mut Vec<u8>, pivot: &Pivot) -> Result<(), NoMemory> {
-    let (down, count, tid, body, _) = *pivot;
+fn put_pivot(
+    rt: &impl Abort,
+    tuple: &mut Vec<u8>,
+    (down, count): (u32, u16),
+    item: u16,
+    body: &[u8],
+) -> Result<(), NoMemory> {
     assert!(rt; count < 4096 && body.len() <= 8160);
+    let tid = if item == 0 {
+        None
+    } else {
+        Some(Tid { block: 0, item })
+    };
     put_pivot_tuple(tuple, down, Kept { count, tid }, FIXED, body)
 }
 
 #[test]
-fn index_tuples(rt: HostRuntime) -> Result<(), Fail> {
+fn separators(rt: HostRuntime) -> Result<(), Fail> {
     let mut tuple = Vec::new(rt.alloc());
-    let mut row = 0u32;
-    for pivot in &PIVOTS {
-        row = row.wrapping_add(1);
-        put_pivot(&rt, &mut tuple, pivot)?;
-        holds(&rt, tuple.as_slice() == pivot.4, row);
+    for (down, count, item, body, want) in PIVOTS {
+        put_pivot(&rt, &mut tuple, (down, count), item, body)?;
+        holds(&rt, tuple.as_slice() == want, down);
     }
-    // A body with a null and a text.
+    Ok(())
+}
+
+// A body with a null and a text, in the place of what the buffer held.
+#[test]
+fn an_entry(rt: HostRuntime) -> Result<(), Fail> {
+    let mut tuple = vec![in rt.alloc(); 1u8; 3]?;
     let body = b"\x02\0\0\0\0\0\0\0\x07hi";
     put_plain_tuple(&mut tuple, Tid { block: 0, item: 1 }, BOTH, body)?;
     let want = b"\0\0\0\0\x01\0\x18\xc0\x02\0\0\0\0\0\0\0\x07hi\0\0\0\0\0";
-    holds(&rt, tuple.as_slice() == want.as_slice(), 3);
-    // One int4 with two TIDs.
+    holds(&rt, tuple.as_slice() == want.as_slice(), 0);
+    Ok(())
+}
+
+// One int4 with two TIDs.
+#[test]
+fn a_list_of_two(rt: HostRuntime) -> Result<(), Fail> {
+    let mut tuple = vec![in rt.alloc(); 1u8; 3]?;
     let tids = [Tid { block: 0, item: 1 }, Tid { block: 0, item: 2 }];
     put_posting_tuple(&mut tuple, &tids, FIXED, b"\x07\0\0\0")?;
     let want = b"\0\0\x10\0\x02\x20\x20\x20\x07\0\0\0\0\0\0\0\0\0\0\0\x01\0\0\0\0\0\x02\0\0\0\0\0";
-    holds(&rt, tuple.as_slice() == want.as_slice(), 4);
+    holds(&rt, tuple.as_slice() == want.as_slice(), 0);
     Ok(())
 }
 

@@ -1,7 +1,6 @@
 //! Pointers, and worked rows and values of the TOAST table.
 use crate::checks::{holds, same};
 use key_orders::Tid;
-use outside::NoMemory;
 use std::alloc::Global;
 use std::process::Abort;
 use std::test::Fail;
@@ -46,140 +45,112 @@ fn pointers(rt: HostRuntime) {
     }
 }
 
-/// The number and the size of a chunk.
-pub type Chunk = (i32, Option<u32>);
-
-// A map with these chunks of the value, and one of the values before and after it.
-fn map_of(alloc: Global, stored: u32, chunks: &[Chunk]) -> Result<ToastMap, NoMemory> {
-    let mut map = ToastMap::new(alloc);
+// The chunks of a text, each by its number and its size, or `-` where it has none.
+fn add_chunks(map: &mut ToastMap, chunks: &str) -> Result<(), Fail> {
     let tid = Tid { block: 0, item: 1 };
-    map.add(ID - 1, 0, tid, Some(stored))?;
-    for (seq, size) in chunks {
-        map.add(ID, *seq, tid, *size)?;
-    }
-    map.add(ID + 1, 1, tid, None)?;
-    Ok(map)
-}
-
-// Tests whether values of so many bytes are whole whose chunks have these numbers and sizes.
-fn expect_whole(
-    rt: &impl Abort,
-    alloc: Global,
-    cases: &[(u16, &[Chunk])],
-    whole: bool,
-) -> Result<(), Fail> {
-    let mut row = 0u32;
-    for (stored, chunks) in cases {
-        row = row.wrapping_add(1);
-        let map = map_of(alloc, u32::from(*stored), chunks)?;
-        let p = pointer(i32::from(*stored) + 4, u32::from(*stored));
-        holds(rt, map.whole(p) == whole, row);
+    for chunk in chunks.split_whitespace() {
+        let (seq, size) = chunk.split_once(":").ok_or("no size")?;
+        let seq = seq.parse::<i32>().ok().ok_or("no number")?;
+        map.add(ID, seq, tid, size.parse::<u32>().ok())?;
     }
     Ok(())
 }
 
-// The chunks of a value of 4000 bytes.
-const FIRST: Chunk = (0, Some(1996));
+// A map with these chunks of the value, and one of the values before and after it.
+fn map_of(alloc: Global, stored: u32, chunks: &str) -> Result<ToastMap, Fail> {
+    let mut map = ToastMap::new(alloc);
+    let tid = Tid { block: 0, item: 1 };
+    map.add(ID - 1, 0, tid, Some(stored))?;
+    add_chunks(&mut map, chunks)?;
+    map.add(ID + 1, 1, tid, None)?;
+    Ok(map)
+}
 
-const SECOND: Chunk = (1, Some(1996));
+// Whether a value of so many bytes is whole that has these chunks.
+fn is_whole(alloc: Global, stored: u16, chunks: &str) -> Result<bool, Fail> {
+    let map = map_of(alloc, u32::from(stored), chunks)?;
+    let p = pointer(i32::from(stored) + 4, u32::from(stored));
+    Ok(map.whole(p))
+}
 
-const LAST: Chunk = (2, Some(8));
-
-const WHOLE: [(u16, &[Chunk]); 11] = [
-    (0, &[]),
-    (1, &[(0, Some(1))]),
-    (1996, &[FIRST]),
-    (1997, &[FIRST, (1, Some(1))]),
-    (3992, &[SECOND, FIRST]),
+const WHOLE: [(u16, &str); 11] = [
+    (0, ""),
+    (1, "0:1"),
+    (1996, "0:1996"),
+    (1997, "0:1996 1:1"),
+    (3992, "1:1996 0:1996"),
     // Three chunks in any order.
-    (4000, &[FIRST, SECOND, LAST]),
-    (4000, &[FIRST, LAST, SECOND]),
-    (4000, &[SECOND, FIRST, LAST]),
-    (4000, &[SECOND, LAST, FIRST]),
-    (4000, &[LAST, FIRST, SECOND]),
-    (4000, &[LAST, SECOND, FIRST]),
+    (4000, "0:1996 1:1996 2:8"),
+    (4000, "0:1996 2:8 1:1996"),
+    (4000, "1:1996 0:1996 2:8"),
+    (4000, "1:1996 2:8 0:1996"),
+    (4000, "2:8 0:1996 1:1996"),
+    (4000, "2:8 1:1996 0:1996"),
 ];
 
 #[test]
 fn whole_values(rt: HostRuntime) -> Result<(), Fail> {
-    expect_whole(&rt, rt.alloc(), &WHOLE, true)
+    for (stored, chunks) in WHOLE {
+        assert!(rt; is_whole(rt.alloc(), stored, chunks)?, "{stored}: {chunks}");
+    }
+    Ok(())
 }
 
-const BROKEN: [(u16, &[Chunk]); 25] = [
+const BROKEN: [(u16, &str); 25] = [
     // A chunk where there should be none, and none, or another one, where there should be one.
-    (0, &[(0, Some(0))]),
-    (0, &[(0, None)]),
-    (1, &[]),
-    (1, &[(1, Some(1))]),
-    (1, &[(i32::MAX, Some(1))]),
-    (1, &[(0, None)]),
+    (0, "0:0"),
+    (0, "0:-"),
+    (1, ""),
+    (1, "1:1"),
+    (1, "2147483647:1"),
+    (1, "0:-"),
     // A negative number.
-    (0, &[(-1, Some(0))]),
-    (1, &[(-1, Some(1))]),
-    (1, &[(i32::MIN, Some(1)), (0, Some(1))]),
-    (4000, &[FIRST, SECOND, LAST, (-1, Some(1996))]),
+    (0, "-1:0"),
+    (1, "-1:1"),
+    (1, "-2147483648:1 0:1"),
+    (4000, "0:1996 1:1996 2:8 -1:1996"),
     // Another size: of the only chunk, of the first, of a middle one and of the last.
-    (1, &[(0, Some(2))]),
-    (1997, &[(0, Some(1995)), (1, Some(1))]),
-    (4000, &[FIRST, (1, Some(1995)), LAST]),
-    (4000, &[LAST, (1, Some(1997)), FIRST]),
-    (4000, &[(2, Some(9)), SECOND, FIRST]),
+    (1, "0:2"),
+    (1997, "0:1995 1:1"),
+    (4000, "0:1996 1:1995 2:8"),
+    (4000, "2:8 1:1997 0:1996"),
+    (4000, "2:9 1:1996 0:1996"),
     // A chunk too few: the first, a middle one and the last.
-    (4000, &[LAST, SECOND]),
-    (4000, &[FIRST, LAST]),
-    (4000, &[SECOND, FIRST]),
+    (4000, "2:8 1:1996"),
+    (4000, "0:1996 2:8"),
+    (4000, "1:1996 0:1996"),
     // Another one in place of the last.
-    (4000, &[FIRST, SECOND, (3, Some(8))]),
+    (4000, "0:1996 1:1996 3:8"),
     // A chunk too many, and a number twice, in place of another one or besides.
-    (1996, &[FIRST, (1, Some(0))]),
-    (4000, &[LAST, (3, Some(8)), FIRST, SECOND]),
-    (3992, &[FIRST, FIRST]),
-    (4000, &[FIRST, LAST, LAST]),
-    (4000, &[LAST, FIRST, SECOND, SECOND]),
-    (4000, &[FIRST, SECOND, LAST, (0, None)]),
+    (1996, "0:1996 1:0"),
+    (4000, "2:8 3:8 0:1996 1:1996"),
+    (3992, "0:1996 0:1996"),
+    (4000, "0:1996 2:8 2:8"),
+    (4000, "2:8 0:1996 1:1996 1:1996"),
+    (4000, "0:1996 1:1996 2:8 0:-"),
 ];
 
 #[test]
 fn broken_values(rt: HostRuntime) -> Result<(), Fail> {
-    expect_whole(&rt, rt.alloc(), &BROKEN, false)
+    for (stored, chunks) in BROKEN {
+        assert!(rt;
+            !is_whole(rt.alloc(), stored, chunks)?,
+            "{stored}: {chunks}"
+        );
+    }
+    Ok(())
 }
 
-// A row's body, its null bits, how many columns it stores, and the chunk that it is.
-type Row = (&'static [u8], Option<&'static [u8]>, u16, Option<ChunkRow>);
+// A row's body, its null bits, if it has some, how many columns it stores, and the number and the size of the chunk
+// that it is: -1 stands for no chunk, and for no size.
+type Row = (&'static [u8], &'static [u8], u16, i32, i64);
 
 // Whole, without a number, without a value, and without bytes that are stored.
 const ROWS: [Row; 4] = [
-    (
-        b"\x74\x40\0\0\x02\0\0\0\x07ab",
-        None,
-        3,
-        Some(ChunkRow {
-            id: ID,
-            seq: 2,
-            size: Some(2),
-        }),
-    ),
-    (
-        b"\x74\x40\0\0\x07ab",
-        Some(b"\x05"),
-        3,
-        Some(ChunkRow {
-            id: ID,
-            seq: 0,
-            size: None,
-        }),
-    ),
-    (b"\x02\0\0\0\x07ab", Some(b"\x06"), 3, None),
-    (
-        b"\x74\x40\0\0\x02\0\0\0",
-        None,
-        2,
-        Some(ChunkRow {
-            id: ID,
-            seq: 2,
-            size: None,
-        }),
-    ),
+    (b"\x74\x40\0\0\x02\0\0\0\x07ab", b"", 3, 2, 2),
+    (b"\x74\x40\0\0\x07ab", b"\x05", 3, 0, -1),
+    (b"\x02\0\0\0\x07ab", b"\x06", 3, -1, -1),
+    (b"\x74\x40\0\0\x02\0\0\0", b"", 2, 2, -1),
 ];
 
 // The chunk that a row is.
@@ -196,16 +167,19 @@ fn chunk_of(
     Ok(chunk_row(body, buffer.as_slice()))
 }
 
+fn chunk_with(seq: i32, size: i64) -> Option<ChunkRow> {
+    if seq < 0 {
+        return None;
+    }
+    let size = u32::try_from(size).ok();
+    Some(ChunkRow { id: ID, seq, size })
+}
+
 #[test]
 fn rows(rt: HostRuntime) {
-    let mut row = 0u32;
-    for (body, nulls, natts, want) in ROWS {
-        row = row.wrapping_add(1);
-        same(
-            &rt,
-            &chunk_of(&rt, rt.alloc(), body, nulls, natts),
-            &Ok(want),
-            row,
-        );
+    for (body, nulls, natts, seq, size) in ROWS {
+        let nulls = if nulls.is_empty() { None } else { Some(nulls) };
+        let found = chunk_of(&rt, rt.alloc(), body, nulls, natts);
+        same(&rt, &found, &Ok(chunk_with(seq, size)), natts.into());
     }
 }

@@ -1,5 +1,5 @@
 //! Bits of blocks, and what they say that isn't so.
-use crate::checks::same;
+use crate::checks::{code_of, holds, same};
 use crate::pages::{Piece, page_of};
 use liveness::{ItemState, Judged, Life};
 use page_layout::{PageKind, PageView, Rule};
@@ -14,35 +14,28 @@ const MAP_PAGE: [Piece<'static>; 3] = [
     (8191, &[0b1000_0000]),
 ];
 
-const VISIBLE: MapBits = MapBits {
-    all_visible: true,
-    all_frozen: false,
-};
-
-const FROZEN: MapBits = MapBits {
-    all_visible: false,
-    all_frozen: true,
-};
-
-const BOTH: MapBits = MapBits {
-    all_visible: true,
-    all_frozen: true,
-};
+// The bits of a number: 1 all visible, 2 all frozen.
+fn map_bits(number: u8) -> MapBits {
+    MapBits {
+        all_visible: number % 2 == 1,
+        all_frozen: number / 2 == 1,
+    }
+}
 
 // Blocks 0 to 3 stand in the first byte from the lowest bits up, block 4 in the next one.
-const BITS: [(u32, MapBits); 11] = [
-    (0, VISIBLE),
-    (1, FROZEN),
-    (2, BOTH),
-    (3, MapBits::NONE),
-    (4, VISIBLE),
-    (5, MapBits::NONE),
-    (32670, MapBits::NONE),
-    (32671, FROZEN),
+const BITS: [(u32, u8); 11] = [
+    (0, 1),
+    (1, 2),
+    (2, 3),
+    (3, 0),
+    (4, 1),
+    (5, 0),
+    (32670, 0),
+    (32671, 2),
     // On the second page of the map, the places are those of the first blocks.
-    (32672, VISIBLE),
-    (32674, BOTH),
-    (65343, FROZEN),
+    (32672, 1),
+    (32674, 3),
+    (65343, 2),
 ];
 
 fn bits_of(rt: &impl Abort, bytes: &[u8; 8192], block: u32) -> MapBits {
@@ -55,7 +48,7 @@ fn bits_of(rt: &impl Abort, bytes: &[u8; 8192], block: u32) -> MapBits {
 fn bits_of_blocks(rt: HostRuntime) {
     let bytes = page_of(&MAP_PAGE);
     for (block, want) in BITS {
-        same(&rt, &bits_of(&rt, &bytes, block), &want, block);
+        same(&rt, &bits_of(&rt, &bytes, block), &map_bits(want), block);
     }
 }
 
@@ -108,14 +101,18 @@ enum Items {
     None,
     UnusedAndRedirect,
     DeadItem,
-    Tuple(&'static [u8; 24], Life, u32),
+    Unfrozen,
+    Frozen,
+    Deleted,
 }
 
-const LIVE: Items = Items::Tuple(&UNFROZEN, Life::Live, 0);
-
-const FROZEN_TUPLE: Items = Items::Tuple(&SETTLED, Life::Live, 0);
-
-const DEAD_TUPLE: Items = Items::Tuple(&DELETED, Life::Dead, 701);
+// The rule that is broken on a page of one tuple, which is live, or is dead by its update.
+fn rule_of_tuple(bits: MapBits, flag: bool, bytes: &[u8; 24], update: u32) -> Option<Rule> {
+    let head = heap_head(bytes);
+    let life = if update == 0 { Life::Live } else { Life::Dead };
+    let judged = Judged { life, update };
+    map_rule(bits, flag, &[ItemState::Tuple { head, judged }])
+}
 
 fn rule_of(bits: MapBits, flag: bool, items: Items) -> Option<Rule> {
     match items {
@@ -124,30 +121,28 @@ fn rule_of(bits: MapBits, flag: bool, items: Items) -> Option<Rule> {
             map_rule(bits, flag, &[ItemState::Unused, ItemState::Redirect(3)])
         }
         Items::DeadItem => map_rule(bits, flag, &[ItemState::Dead]),
-        Items::Tuple(bytes, life, update) => {
-            let head = heap_head(bytes);
-            let judged = Judged { life, update };
-            map_rule(bits, flag, &[ItemState::Tuple { head, judged }])
-        }
+        Items::Unfrozen => rule_of_tuple(bits, flag, &UNFROZEN, 0),
+        Items::Frozen => rule_of_tuple(bits, flag, &SETTLED, 0),
+        Items::Deleted => rule_of_tuple(bits, flag, &DELETED, 701),
     }
 }
 
 // The bits of a block, the flag of its page, its items and the rule that is broken.
-const RULES: [(MapBits, bool, Items, Option<Rule>); 14] = [
-    (VISIBLE, true, DEAD_TUPLE, Some(Rule::V3)),
-    (FROZEN, true, LIVE, Some(Rule::V1)),
-    (BOTH, true, LIVE, Some(Rule::V4)),
-    (BOTH, true, FROZEN_TUPLE, None),
-    (VISIBLE, true, LIVE, None),
-    (VISIBLE, false, LIVE, Some(Rule::V2)),
-    (BOTH, false, FROZEN_TUPLE, Some(Rule::V2)),
-    (MapBits::NONE, true, LIVE, None),
-    (MapBits::NONE, true, DEAD_TUPLE, Some(Rule::V3)),
-    (MapBits::NONE, false, DEAD_TUPLE, None),
-    (MapBits::NONE, true, Items::DeadItem, Some(Rule::V3)),
-    (BOTH, true, Items::UnusedAndRedirect, None),
-    (BOTH, true, Items::None, None),
-    (VISIBLE, false, Items::None, Some(Rule::V2)),
+const RULES: [(u8, bool, Items, &str); 14] = [
+    (1, true, Items::Deleted, "V3"),
+    (2, true, Items::Unfrozen, "V1"),
+    (3, true, Items::Unfrozen, "V4"),
+    (3, true, Items::Frozen, ""),
+    (1, true, Items::Unfrozen, ""),
+    (1, false, Items::Unfrozen, "V2"),
+    (3, false, Items::Frozen, "V2"),
+    (0, true, Items::Unfrozen, ""),
+    (0, true, Items::Deleted, "V3"),
+    (0, false, Items::Deleted, ""),
+    (0, true, Items::DeadItem, "V3"),
+    (3, true, Items::UnusedAndRedirect, ""),
+    (3, true, Items::None, ""),
+    (1, false, Items::None, "V2"),
 ];
 
 #[test]
@@ -155,6 +150,7 @@ fn rules_of_a_block(rt: HostRuntime) {
     let mut row = 0u32;
     for (bits, flag, items, want) in RULES {
         row = row.wrapping_add(1);
-        same(&rt, &rule_of(bits, flag, items), &want, row);
+        let rule = rule_of(map_bits(bits), flag, items);
+        holds(&rt, code_of(rule) == want, row);
     }
 }
