@@ -1,10 +1,11 @@
 //! The rows of files in memory as text, by the calls that `copy` is made of.
 ghost use Rattle.std.specs.Prelude.{IfOk};
+ghost use Rattle.heap_check.specs.RowFits.{FitColumns};
 ghost use Rattle.heap_files.specs.Files.{BelongTo, files_of};
 
 use case_file::Case;
 use copy_out::{copy_rows, row_line};
-use heap_check::{HeapFiles, LiveRows, SoundHeap, check_heap};
+use heap_check::{HeapFiles, LiveRow, LiveRows, SoundHeap, check_heap};
 use outside::Part;
 use reports::{PageFault, Report};
 use std::alloc::Global;
@@ -47,6 +48,14 @@ fn sound_heap(alloc: Global, files: &mut UntoldFiles, case: &Case) -> Result<Sou
     }
 }
 
+// Whether this is the text of a row.
+fn is_line(alloc: Global, case: &Case, row: &LiveRow, text: &[u8]) -> Result<bool, Fail>
+    requires { FitColumns case.now.columns row.now.cells }
+{
+    let line = row_line(alloc, case.columns(), row)?;
+    Ok(line.as_slice() == text)
+}
+
 // Whether this is the text of the first row of a heap.
 fn is_first_line(
     alloc: Global,
@@ -59,7 +68,7 @@ fn is_first_line(
 {
     let mut rows = LiveRows::new(alloc, case, heap)?;
     match rows.next_row(alloc, files)? {
-        Some(row) => Ok(row_line(alloc, case.columns(), &row)?.as_slice() == text),
+        Some(row) => is_line(alloc, case, &row, text),
         None => Ok(false),
     }
 }
