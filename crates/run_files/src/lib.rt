@@ -5,12 +5,11 @@ mod tables;
 mod trees;
 
 pub use tables::{
-    BOOL_AND_TEXT, CLEAN, CLUSTER, DEAD, EXTERNAL, INT_COLUMN, Item, LIVE, NOTHING, POINTER,
-    SUCCESSOR, TEXT_IN_TOAST, THREE_ROWS, Tuple, UNUSED, UPDATED, Want, case_files, chunk_page,
-    found, in_doubt, normal, page_of, redirect, run_words,
+    BOOL_AND_TEXT, CLEAN, CLUSTER, DEAD, EXTERNAL, INT_COLUMN, Item, LIVE, POINTER, SUCCESSOR,
+    TEXT_IN_TOAST, THREE_ROWS, Tuple, UNUSED, UPDATED, case_files, chunk_page, normal, page_of,
+    redirect, report_of, run_words,
 };
 pub use trees::{
-    BELOW_NINE, BELOW_SEVEN, FIVE, INDEX, IndexTuple, LONE_LEAF, NINE, Roots, SEVEN, THREE,
-    TO_FIRST, TWO_LEVELS, TreePage, index_file, indexed_files, leaf, metapage, put_over, rooted,
-    rooted_file,
+    INDEX, IndexTuple, LONE_LEAF, NINE, THREE, TWO_LEVELS, TreePage, index_file, indexed_files,
+    put_over,
 };

@@ -2,7 +2,7 @@
 //! that they should write.
 use amcheck::run;
 use outside::{Files, MemFiles, MemSink, Part};
-use std::alloc::{AllocError, Global};
+use std::alloc::Global;
 use std::test::Fail;
 use test_files::put;
 
@@ -207,66 +207,38 @@ pub fn case_files(alloc: Global, text: &str, heap: &[u8]) -> Result<MemFiles, Fa
     Ok(files)
 }
 
-/// The status of a report with these findings and doubts, and its text, each of them a line's end.
-#[derive(Clone, Copy)]
-pub struct Want<'a> {
-    pub findings: &'a [&'a str],
-    pub unjudged: &'a [&'a str],
-}
-
-/// Nothing found and nothing in doubt.
-pub const NOTHING: Want<'static> = Want {
-    findings: &[],
-    unjudged: &[],
-};
-
-/// These findings, or these doubts, alone.
-pub const fn found<'a>(findings: &'a [&'a str]) -> Want<'a> {
-    Want {
-        findings,
-        unjudged: &[],
+// The status and the verdict of a report with so many findings and doubts.
+fn verdict_of(findings: u32, doubts: u32) -> (u8, &'static str) {
+    if findings != 0 {
+        (1, "findings")
+    } else if doubts != 0 {
+        (2, "unjudged")
+    } else {
+        (0, "clean")
     }
 }
 
-pub const fn in_doubt<'a>(unjudged: &'a [&'a str]) -> Want<'a> {
-    Want {
-        findings: &[],
-        unjudged,
-    }
-}
-
-impl Want<'_> {
-    /// The status.
-    pub fn code(&self) -> u8 {
-        match (self.findings, self.unjudged) {
-            ([], []) => 0,
-            ([], _) => 2,
-            _ => 1,
+/// The status and the text of a report with these findings and doubts, with `; ` between them. Doubts begin with U.
+pub fn report_of(alloc: Global, told: &str) -> Result<(u8, String), Fail> {
+    let mut text = String::new(alloc);
+    let mut findings = 0u32;
+    let mut doubts = 0u32;
+    for line in told.split("; ") {
+        if line.is_empty() {
+            continue;
         }
-    }
-
-    // The verdict.
-    fn verdict(&self) -> &'static str {
-        match self.code() {
-            0 => "clean",
-            2 => "unjudged",
-            _ => "findings",
+        let mut kind = "finding";
+        if line.starts_with("U") {
+            kind = "unjudged";
+            doubts = doubts.wrapping_add(1);
+        } else {
+            findings = findings.wrapping_add(1);
         }
+        text = format!(in alloc; "{text}{kind} {line}\n")?;
     }
-
-    /// The text.
-    pub fn text(&self, alloc: Global) -> Result<String, AllocError> {
-        let mut text = String::new(alloc);
-        for finding in self.findings {
-            text = format!(in alloc; "{text}finding {finding}\n")?;
-        }
-        for place in self.unjudged {
-            text = format!(in alloc; "{text}unjudged {place}\n")?;
-        }
-        let (findings, unjudged) = (self.findings.len(), self.unjudged.len());
-        let verdict = self.verdict();
-        format!(in alloc; "{text}findings {findings} unjudged {unjudged}\nverdict {verdict}\n")
-    }
+    let (code, verdict) = verdict_of(findings, doubts);
+    text = format!(in alloc; "{text}findings {findings} unjudged {doubts}\nverdict {verdict}\n")?;
+    Ok((code, text))
 }
 
 /// How a run of these words over these files ends, with what it writes into the sink.

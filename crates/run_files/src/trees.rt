@@ -17,41 +17,37 @@ pub struct IndexTuple<'a> {
     pub body: &'a [u8],
 }
 
-/// The entry of the number 5 for item 1 of block 0.
-pub const FIVE: IndexTuple<'static> = IndexTuple {
+// The entry of the number 5 for item 1 of block 0.
+const FIVE: IndexTuple<'static> = IndexTuple {
     block: 0,
     item: 1,
     info: 0x0010,
     body: &[5, 0, 0, 0],
 };
 
-/// The entry of 7 for item 2, and that of 9 for item 3.
-pub const SEVEN: IndexTuple<'static> = IndexTuple {
+// The entry of 7 for item 2.
+const SEVEN: IndexTuple<'static> = IndexTuple {
     item: 2,
     body: &[7, 0, 0, 0],
     ..FIVE
 };
 
+/// The entry of 9 for item 3.
 pub const NINE: IndexTuple<'static> = IndexTuple {
     item: 3,
     body: &[9, 0, 0, 0],
     ..FIVE
 };
 
-/// The separator 7, as a high key, and the separator 9.
-pub const BELOW_SEVEN: IndexTuple<'static> = IndexTuple {
-    item: 1,
+// The separator 9, as a high key.
+const BELOW_NINE: IndexTuple<'static> = IndexTuple {
     info: 0x2010,
-    ..SEVEN
-};
-
-pub const BELOW_NINE: IndexTuple<'static> = IndexTuple {
     body: &[9, 0, 0, 0],
-    ..BELOW_SEVEN
+    ..FIVE
 };
 
-/// The first downlink of an internal page, which keeps no value.
-pub const TO_FIRST: IndexTuple<'static> = IndexTuple {
+// The first downlink of an internal page, which keeps no value.
+const TO_FIRST: IndexTuple<'static> = IndexTuple {
     block: 1,
     item: 0,
     info: 0x2008,
@@ -82,14 +78,6 @@ pub const THREE: TreePage<'static> = TreePage {
     tuples: &[FIVE, SEVEN, NINE],
     ..LONE_LEAF
 };
-
-/// The same with these entries.
-pub fn leaf<'a>(tuples: &'a [IndexTuple<'a>]) -> TreePage<'a> {
-    TreePage {
-        tuples,
-        ..LONE_LEAF
-    }
-}
 
 /// A tree of two levels: a leaf with 5 and 7, one with 9, and their root, block 3.
 pub const TWO_LEVELS: [TreePage<'static>; 3] = [
@@ -163,27 +151,8 @@ fn tree_page(page: &TreePage<'_>) -> [u8; 8192] {
     bytes
 }
 
-/// What a metapage names: the root and the fast root, each with its level.
-#[derive(Clone, Copy)]
-pub struct Roots {
-    pub root: u8,
-    pub level: u8,
-    pub fastroot: u8,
-    pub fastlevel: u8,
-}
-
-/// This root, which has this level and is the fast root too.
-pub const fn rooted(root: u8, level: u8) -> Roots {
-    Roots {
-        root,
-        level,
-        fastroot: root,
-        fastlevel: level,
-    }
-}
-
-// A metapage that names these roots.
-fn metapage_of(roots: Roots) -> [u8; 8192] {
+// A metapage that names this root, which has this level and is the fast root too.
+fn metapage(root: u8, level: u8) -> [u8; 8192] {
     let mut bytes = [0u8; 8192];
     put_fields(
         &mut bytes,
@@ -195,28 +164,14 @@ fn metapage_of(roots: Roots) -> [u8; 8192] {
             (24, 0x3162),
             (26, 5),
             (28, 4),
-            (32, u16::from(roots.root)),
-            (36, u16::from(roots.level)),
-            (40, u16::from(roots.fastroot)),
-            (44, u16::from(roots.fastlevel)),
+            (32, u16::from(root)),
+            (36, u16::from(level)),
+            (40, u16::from(root)),
+            (44, u16::from(level)),
             (8188, 8),
         ],
     );
     bytes
-}
-
-/// A metapage that names this root, which has this level.
-pub fn metapage(root: u8, level: u8) -> [u8; 8192] {
-    metapage_of(rooted(root, level))
-}
-
-/// The file of an index: a metapage that names these roots, and the pages.
-pub fn rooted_file(alloc: Global, roots: Roots, pages: &[TreePage<'_>]) -> Result<Vec<u8>, Fail> {
-    let mut bytes = Vec::from_slice(alloc, &metapage_of(roots))?;
-    for page in pages {
-        bytes.extend_from_slice(&tree_page(page))?;
-    }
-    Ok(bytes)
 }
 
 /// The file of an index: a metapage that names the last of these pages as the root, and the pages.
@@ -225,7 +180,11 @@ pub fn index_file(alloc: Global, pages: &[TreePage<'_>]) -> Result<Vec<u8>, Fail
         Some(root) => root.level,
         None => 0,
     };
-    rooted_file(alloc, rooted(pages.len().min(255) as u8, level), pages)
+    let mut bytes = Vec::from_slice(alloc, &metapage(pages.len().min(255) as u8, level))?;
+    for page in pages {
+        bytes.extend_from_slice(&tree_page(page))?;
+    }
+    Ok(bytes)
 }
 
 /// Writes bytes at a place of a block, as far as they fit into the file.

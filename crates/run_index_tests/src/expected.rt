@@ -1,7 +1,7 @@
 //! Runs, and what they should answer and write.
 use crate::laid::{case_alone, files_of};
 use outside::{MemFiles, MemSink, Part};
-use run_files::run_words;
+use run_files::{report_of, run_words};
 use std::alloc::Global;
 use std::process::Abort;
 use std::test::Fail;
@@ -89,40 +89,6 @@ pub(crate) fn expect_in_order(
         expect_absent(rt, alloc, line, &mut files, name)?;
     }
     Ok(files)
-}
-
-// The status and the verdict of a report with so many findings and doubts.
-fn verdict_of(findings: u32, doubts: u32) -> (u8, &'static str) {
-    if findings != 0 {
-        (1, "findings")
-    } else if doubts != 0 {
-        (2, "unjudged")
-    } else {
-        (0, "clean")
-    }
-}
-
-// The status and the text of a report with these findings and doubts, with `; ` between them. Doubts begin with U.
-fn report_of(alloc: Global, told: &str) -> Result<(u8, String), Fail> {
-    let mut text = String::new(alloc);
-    let mut findings = 0u32;
-    let mut doubts = 0u32;
-    for line in told.split("; ") {
-        if line.is_empty() {
-            continue;
-        }
-        let mut kind = "finding";
-        if line.starts_with("U") {
-            kind = "unjudged";
-            doubts = doubts.wrapping_add(1);
-        } else {
-            findings = findings.wrapping_add(1);
-        }
-        text = format!(in alloc; "{text}{kind} {line}\n")?;
-    }
-    let (code, verdict) = verdict_of(findings, doubts);
-    text = format!(in alloc; "{text}findings {findings} unjudged {doubts}\nverdict {verdict}\n")?;
-    Ok((code, text))
 }
 
 /// Runs words over the files, and compares the report: its findings and doubts, with `; ` between them.

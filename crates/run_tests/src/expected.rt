@@ -1,15 +1,12 @@
 //! Runs, and what they should answer and write.
 use outside::{MemFiles, MemSink};
-use run_files::{Want, found, in_doubt, run_words};
+use run_files::{report_of, run_words};
 use std::alloc::Global;
 use std::process::Abort;
 use std::test::Fail;
 
 /// A run: its words, its status and what it writes.
 pub(crate) type Run = (&'static [&'static str], u8, &'static str);
-
-/// What a report tells: findings, or doubts where the first begins with a U.
-pub(crate) type Lines = &'static [&'static str];
 
 /// Runs the words over the files into a sink, and compares what is answered and written.
 pub(crate) fn expect_in(
@@ -66,23 +63,14 @@ pub(crate) fn expect_runs(
     Ok(())
 }
 
-// A report of these lines.
-fn want_of(lines: Lines) -> Want<'static> {
-    match lines {
-        [first, ..] if matches!(first.as_bytes(), [b'U', ..]) => in_doubt(lines),
-        _ => found(lines),
-    }
-}
-
-/// Runs `heap` over the files of a case, and compares its report.
+/// Runs `heap` over the files of a case, and compares its report: its findings and doubts, with `; ` between them.
 pub(crate) fn expect_heap(
     rt: &impl Abort,
     alloc: Global,
     files: &mut MemFiles,
-    lines: Lines,
+    told: &str,
 ) -> Result<(), Fail> {
-    let want = want_of(lines);
-    let text = want.text(alloc)?;
+    let (code, text) = report_of(alloc, told)?;
     let words = ["heap", "case.toml"];
-    expect(rt, alloc, &words, files, (want.code(), text.as_str()))
+    expect(rt, alloc, &words, files, (code, text.as_str()))
 }

@@ -1,5 +1,5 @@
 //! Pages of a heap that are laid from tables of plain numbers, and the files of a case around a page.
-use crate::expected::{Lines, expect_heap};
+use crate::expected::expect_heap;
 use outside::MemFiles;
 use run_files::{
     CLUSTER, DEAD, INT_COLUMN, Item, LIVE, Tuple, UNUSED, case_files, normal, page_of, redirect,
@@ -63,21 +63,21 @@ pub(crate) fn expect_page(
     alloc: Global,
     columns: &str,
     heap: &[u8],
-    lines: Lines,
+    told: &str,
 ) -> Result<(), Fail> {
     let mut files = files_of(alloc, columns, heap)?;
-    expect_heap(rt, alloc, &mut files, lines)
+    expect_heap(rt, alloc, &mut files, told)
 }
 
 /// The same on a table of one number for each of these pages: its items, and its report.
 pub(crate) fn expect_items(
     rt: &impl Abort,
     alloc: Global,
-    rows: &[(&'static [At], Lines)],
+    rows: &[(&'static [At], &'static str)],
 ) -> Result<(), Fail> {
-    for (items, lines) in rows {
+    for (items, told) in rows {
         let heap = page_with(alloc, 0, *items)?;
-        expect_page(rt, alloc, INT_COLUMN, &heap, *lines)?;
+        expect_page(rt, alloc, INT_COLUMN, &heap, told)?;
     }
     Ok(())
 }

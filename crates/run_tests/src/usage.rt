@@ -206,7 +206,7 @@ oldest_multi = 1\nnext_member = 100\nxact = \"xact\"\noffsets = \"offsets\"\nmem
     )?;
     let heap = page_of(0, &[Item::Tuple(Tuple { xmin: 9, ..LIVE })]);
     let mut files = case_files(alloc, text.as_str(), &heap)?;
-    expect_heap(&rt, alloc, &mut files, &[])
+    expect_heap(&rt, alloc, &mut files, "")
 }
 
 // Files with the case of a table `t`, which isn't there.
