@@ -1,9 +1,9 @@
 -- What is stored is read back, whatever stands behind it.
-use Rattle.std.proofs.Common.{◌≡◌, ℕ, zero, suc, ◌+◌, ◌-◌, ◌<◌, ◌≤◌, true, false, List, [], ◌∷◌, ◌++◌, length, map, take, drop, refl, sym, ap, ◌∙◌, subst, arith, append_assoc, length-append}
+use Rattle.std.proofs.Common.{◌≡◌, ℕ, zero, suc, ◌+◌, ◌-◌, ◌<◌, ◌^◌, true, false, List, [], ◌∷◌, ◌++◌, length, map, take, drop, refl, sym, ap, ◌∙◌, subst, arith, append_assoc, length-append}
 use Rattle.std.specs.Prelude.{All, Bool as BoolType, cond, nat_lt, ℤ}
 use Rattle.std.specs.List.{flat_map}
 use Rattle.std.specs.Int.{cast_signed, cast_unsigned, from_le_bytes, to_le_bytes}
-use Rattle.std.proofs.lemmas.Bool.{cond-false, le-ltb}
+use Rattle.std.proofs.lemmas.Bool.{cond-false, le-ltb, ltb-true}
 use Rattle.std.proofs.lemmas.List.Elements.{All-head, All-map, All-tail}
 use Rattle.std.proofs.lemmas.Int.{to_z-of_z}
 use Rattle.std.proofs.lemmas.Nat.{from_le_bytes-to_le_bytes_4, from_le_bytes-to_le_bytes_8}
@@ -14,7 +14,7 @@ use Rattle.key_orders.specs.declared.columns.Value.{Value}
 use Rattle.key_orders.specs.declared.columns.ValueRef.{ValueRef}
 use Rattle.key_orders.specs.Values.{value_shown}
 use Rattle.key_orders.specs.declared.columns.Value.TheVariants.{Null, Bool as BoolValue, Int, Bytes}
-use Rattle.stored_keys.specs.Stored.{stored_value, IsStorable, int_read, sized_read, bytes_read, value_read, values_left, values_read, key_read}
+use Rattle.stored_keys.specs.Stored.{stored_int, stored_value, IsStorable, int_read, sized_read, small_read, bytes_read, value_read, values_left, values_read, key_read}
 
 front_back : (n : ℕ) (xs rest : List ℕ) → length xs ≡ n → take n (xs ++ rest) ≡ xs
 front_back n xs rest e = subst (λ (m : ℕ). take m (xs ++ rest) ≡ xs) e (take-append_seam xs rest)
@@ -29,6 +29,24 @@ int_back : (xs rest : List ℕ) → length xs ≡ 8 → int_read (xs ++ rest) �
 int_back xs rest e =
     cond-false _ _ _ (is_enough 8 xs rest e)
     ∙ (λ i. (Int (cast_signed w64 (from_le_bytes w64 (front_back 8 xs rest e i))), rest_back 8 xs rest e i))
+
+small_back : (xs rest : List ℕ) → length xs ≡ 4 → small_read (xs ++ rest) ≡ (Int (cast_signed w64 (from_le_bytes w32 xs)), rest)
+small_back xs rest e =
+    cond-false _ _ _ (is_enough 4 xs rest e)
+    ∙ (λ i. (Int (cast_signed w64 (from_le_bytes w32 (front_back 4 xs rest e i))), rest_back 4 xs rest e i))
+
+-- the 64 bits of a number
+bits_back : (n : ℕ) (rest : List ℕ) → n < 2 ^ 64 → value_read (stored_int n ++ rest) ≡ (Int (cast_signed w64 n), rest)
+unfolding value_read
+bits_back n rest h = by (nat_lt n (2 ^ 32)) refl
+  where
+    by : (is_small : BoolType) → nat_lt n (2 ^ 32) ≡ is_small → value_read (cond is_small (6 ∷ to_le_bytes w32 n) (3 ∷ to_le_bytes w64 n) ++ rest) ≡ (Int (cast_signed w64 n), rest)
+    by true is =
+        small_back (to_le_bytes w32 n) rest refl
+        ∙ ap (λ (m : ℕ). (Int (cast_signed w64 m), rest)) (from_le_bytes-to_le_bytes_4 n (ltb-true n (2 ^ 32) is))
+    by false is =
+        int_back (to_le_bytes w64 n) rest refl
+        ∙ ap (λ (m : ℕ). (Int (cast_signed w64 m), rest)) (from_le_bytes-to_le_bytes_8 n h)
 
 sized_back : (n : ℕ) (xs rest : List ℕ) → length xs ≡ n → sized_read n (xs ++ rest) ≡ (Bytes xs, rest)
 sized_back n xs rest e = cond-false _ _ _ (is_enough n xs rest e) ∙ (λ i. (Bytes (front_back n xs rest e i), rest_back n xs rest e i))
@@ -45,8 +63,8 @@ value_back Null rest h = refl
 value_back (BoolValue true) rest h = refl
 value_back (BoolValue false) rest h = refl
 value_back (Int z) rest h =
-    int_back (to_le_bytes w64 (cast_unsigned w64 z)) rest refl
-    ∙ ap (λ (x : ℤ). (Int x, rest)) (ap (cast_signed w64) (from_le_bytes-to_le_bytes_8 (cast_unsigned w64 z) (Fits-of_z h).fits) ∙ to_z-of_z w64 z h)
+    bits_back (cast_unsigned w64 z) rest (Fits-of_z h).fits
+    ∙ ap (λ (x : ℤ). (Int x, rest)) (to_z-of_z w64 z h)
 value_back (Bytes bytes) rest h = by (nat_lt (length bytes) 256)
   where
     by : (is_short : BoolType) → value_read (cond is_short (5 ∷ length bytes ∷ bytes) (4 ∷ (to_le_bytes w32 (length bytes) ++ bytes)) ++ rest) ≡ (Bytes bytes, rest)

@@ -1,7 +1,7 @@
 -- How a key lies among bytes, and what is read of any bytes. A value is a byte that says what
--- follows: 0 for null, 1 and 2 for false and true, 3 for a number in 8 bytes, 4 for bytes, whose number stands in the
--- 4 bytes before them, and 5 for fewer than 256 bytes, whose number stands in the byte before them. Numbers have the
--- lowest byte first.
+-- follows: 0 for null, 1 and 2 for false and true, 3 for a number in 8 bytes, 6 for one from 0 to 4294967295 in 4
+-- bytes, 4 for bytes, whose number stands in the 4 bytes before them, and 5 for fewer than 256 bytes, whose number
+-- stands in the byte before them. Numbers have the lowest byte first.
 use Rattle.std.specs.Prelude.{ℕ, zero, suc, ◌<◌, ◌^◌, ◌==◌, nat_lt, true, false, cond, FitsSigned}
 use Rattle.std.specs.Prelude.{List, [], ◌∷◌, ◌++◌, length, take, drop}
 use Rattle.std.specs.List.{flat_map}
@@ -17,11 +17,15 @@ abbrev pub stored_bytes : List ℕ → List ℕ
 stored_bytes bytes =
     cond (nat_lt (length bytes) 256) (5 ∷ length bytes ∷ bytes) (4 ∷ (to_le_bytes w32 (length bytes) ++ bytes))
 
+-- a number, by its 64 bits
+abbrev pub stored_int : ℕ → List ℕ
+stored_int n = cond (nat_lt n (2 ^ 32)) (6 ∷ to_le_bytes w32 n) (3 ∷ to_le_bytes w64 n)
+
 -- a value
 abbrev pub stored_value : Value → List ℕ
 stored_value Null = 0 ∷ []
 stored_value (BoolValue b) = cond b 2 1 ∷ []
-stored_value (Int z) = 3 ∷ to_le_bytes w64 (cast_unsigned w64 z)
+stored_value (Int z) = stored_int (cast_unsigned w64 z)
 stored_value (Bytes bytes) = stored_bytes bytes
 
 -- the values that are read back as they were: 64 bits for a number, and less than 4 GiB of bytes
@@ -45,6 +49,11 @@ int_read bytes =
     cond (nat_lt (length bytes) 8) (Null, [])
     (Int (cast_signed w64 (from_le_bytes w64 (take 8 bytes))), drop 8 bytes)
 
+abbrev pub small_read : List ℕ → Value × List ℕ
+small_read bytes =
+    cond (nat_lt (length bytes) 4) (Null, [])
+    (Int (cast_signed w64 (from_le_bytes w32 (take 4 bytes))), drop 4 bytes)
+
 abbrev pub sized_read : ℕ → List ℕ → Value × List ℕ
 sized_read n bytes = cond (nat_lt (length bytes) n) (Null, []) (Bytes (take n bytes), drop n bytes)
 
@@ -62,7 +71,8 @@ tagged_read tag bytes =
     (cond (tag == 2) (BoolValue true, bytes)
     (cond (tag == 3) (int_read bytes)
     (cond (tag == 4) (bytes_read bytes)
-    (cond (tag == 5) (short_read bytes) (Null, bytes)))))
+    (cond (tag == 5) (short_read bytes)
+    (cond (tag == 6) (small_read bytes) (Null, bytes))))))
 
 unfoldable pub value_read : List ℕ → Value × List ℕ
 value_read [] = (Null, [])

@@ -1,7 +1,8 @@
 //! A value, read where it lies.
 ghost use Rattle.std.specs.Prelude.{◌≡◌};
 ghost use Rattle.key_orders.specs.Values.{value_shown};
-ghost use Rattle.stored_keys.specs.Stored.{bytes_read, int_read, short_read, sized_read, tagged_read, value_read};
+ghost use Rattle.stored_keys.specs.Stored.{bytes_read, int_read, short_read, sized_read, small_read};
+ghost use Rattle.stored_keys.specs.Stored.{tagged_read, value_read};
 
 use key_orders::ValueRef;
 
@@ -12,6 +13,19 @@ fn read_int(bytes: &[u8]) -> (ValueRef<'_>, &[u8])
     match bytes.split_first_chunk::<8>() {
         Some((number, rest)) => (
             ValueRef::Int(u64::from_le_bytes(*number).cast_signed()),
+            rest,
+        ),
+        None => (ValueRef::Null, &[]),
+    }
+}
+
+fn read_small(bytes: &[u8]) -> (ValueRef<'_>, &[u8])
+    ensures value { value_shown result.0 ≡ (small_read bytes.now).0 }
+    ensures rest { result.1.now ≡ (small_read bytes.now).1 }
+{
+    match bytes.split_first_chunk::<4>() {
+        Some((number, rest)) => (
+            ValueRef::Int(u64::from(u32::from_le_bytes(*number)).cast_signed()),
             rest,
         ),
         None => (ValueRef::Null, &[]),
@@ -62,6 +76,8 @@ fn read_tagged(tag: u8, bytes: &[u8]) -> (ValueRef<'_>, &[u8])
         read_bytes(bytes)
     } else if tag == 5 {
         read_short(bytes)
+    } else if tag == 6 {
+        read_small(bytes)
     } else {
         (ValueRef::Null, bytes)
     }

@@ -13,6 +13,9 @@ use outside::NoMemory;
 // How many bytes there may be, so that each has a place in 32 bits.
 const MOST: usize = 0xffff_fff0;
 
+// The first number that doesn't fit in 4 bytes.
+const LARGE: u64 = 0x1_0000_0000;
+
 // Adds bytes where there is room, which takes no memory.
 fn push_bytes(arena: &mut Vec<u8>, bytes: &[u8])
     requires { vec_len arena.old + length bytes.now ≤ vec_capacity arena.old }
@@ -38,13 +41,19 @@ fn write_value(arena: &mut Vec<u8>, v: ValueRef<'_>)
 }
 
 fn write_int(arena: &mut Vec<u8>, n: i64)
-    requires { vec_len arena.old + 9 ≤ vec_capacity arena.old }
+    requires { vec_len arena.old + length (stored_value (Value.Int n)) ≤ vec_capacity arena.old }
     ensures items { arena.new.items ≡ arena.old.items ++ stored_value (Value.Int n) }
     ensures capacity { vec_capacity arena.old ≤ vec_capacity arena.new }
     ensures storable { IsStorable (Value.Int n) }
 {
-    let b = n.cast_unsigned().to_le_bytes();
-    push_bytes(arena, &[3, b[0], b[1], b[2], b[3], b[4], b[5], b[6], b[7]]);
+    let bits = n.cast_unsigned();
+    if bits < LARGE {
+        let b = (bits as u32).to_le_bytes();
+        push_bytes(arena, &[6, b[0], b[1], b[2], b[3]]);
+    } else {
+        let b = bits.to_le_bytes();
+        push_bytes(arena, &[3, b[0], b[1], b[2], b[3], b[4], b[5], b[6], b[7]]);
+    }
 }
 
 fn write_bytes(arena: &mut Vec<u8>, bytes: &[u8])
@@ -74,6 +83,12 @@ fn write_values(arena: &mut Vec<u8>, values: &[ValueRef<'_>])
     }
 }
 
+fn int_len(n: i64) -> usize
+    ensures { result ≡ length (stored_value (Value.Int n)) }
+{
+    if n.cast_unsigned() < LARGE { 5 } else { 9 }
+}
+
 fn bytes_len(bytes: &[u8]) -> usize
     ensures { result ≡ length (stored_bytes bytes.now) }
 {
@@ -89,7 +104,7 @@ fn stored_len(v: ValueRef<'_>) -> usize
 {
     match v {
         ValueRef::Null | ValueRef::Bool(_) => 1,
-        ValueRef::Int(_) => 9,
+        ValueRef::Int(n) => int_len(n),
         ValueRef::Bytes(bytes) => bytes_len(bytes),
     }
 }

@@ -1,10 +1,9 @@
-use Rattle.std.proofs.Common.{◌≡◌, ◌∙◌, ◌+◌, ◌++◌, List, ℕ, Bool, length, map, ap, sym, arith}
+use Rattle.std.proofs.Common.{◌≡◌, ◌∙◌, ◌+◌, ◌++◌, List, ℕ, Bool, length, map, ap, sym}
 use Rattle.std.specs.Prelude.{◌&&◌}
 use Rattle.std.proofs.lemmas.List.{length-append, length-map}
 use Rattle.key_orders.specs.declared.columns.Value.{Value}
 use Rattle.key_orders.specs.declared.columns.ValueRef.{ValueRef}
 use Rattle.key_orders.specs.Values.{value_shown}
-use Rattle.stored_keys.specs.Rows.{row_values}
 use Rattle.stored_keys.specs.Same.{same_key}
 use Rattle.stored_keys.specs.Stored.{values_left, values_read}
 use Rattle.stored_keys.proofs.SameLaws.{two_parts}

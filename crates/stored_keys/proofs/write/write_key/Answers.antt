@@ -1,10 +1,9 @@
-use Rattle.std.proofs.Common.{◌≡◌, ◌+◌, ◌++◌, ◌∷◌, [], ◌∙◌, List, ℕ, ap, sym, append_assoc, length, length-append, map}
+use Rattle.std.proofs.Common.{◌≡◌, ◌+◌, ◌++◌, ◌∷◌, [], ◌∙◌, ℕ, ap, sym, append_assoc, length, length-append, map}
 use Rattle.std.specs.List.{flat_map}
 use Rattle.std.proofs.lemmas.Grind.{flat_map-append}
 use Rattle.std.proofs.lemmas.List.{length-map}
 use Rattle.std.proofs.lemmas.List.Elements.{All-append}
 use Rattle.std.proofs.lemmas.List.Folds.{flat_map-map}
-use Rattle.key_orders.specs.declared.columns.Value.{Value}
 use Rattle.key_orders.specs.Values.{value_shown}
 use Rattle.stored_keys.specs.Rows.{row_values}
 use Rattle.stored_keys.specs.Stored.{IsStorable, stored_value, shown_bytes}
