@@ -18,7 +18,7 @@
 -- whose stored bytes can't be told from SQL. Such a value is read as null.
 --
 -- With `-v unique=on` a unique index is called so, and then no key may be there
--- twice. That takes up to three times as long, so it isn't done without being asked for.
+-- twice. That takes up to twice as long, so it isn't done without being asked for.
 --
 -- It needs no extension and no special right, and it changes nothing. Where a
 -- case can't describe the table it prints nothing, gives the reason on standard

@@ -17,7 +17,7 @@ use Rattle.indexed_rules.specs.Rows.{key_numbers}
 use Rattle.indexed_rules.proofs.Alive.{tid-is, tid-same}
 use Rattle.row_slots.specs.Met.{same_tid}
 use Rattle.row_slots.specs.Slots.{AreAllMet, Tables, keys_in}
-use Rattle.heap_indexed.specs.Judging.{TellsOf}
+use Rattle.heap_indexed.specs.Judging.{MetHave}
 use Rattle.heap_indexed.specs.Looking.{has_entry}
 use Rattle.heap_indexed.specs.Meetings.{IsKeptRow, IsPut}
 use Rattle.heap_indexed.specs.Rows.{lists_of_row, owed_for}
@@ -59,13 +59,13 @@ kept-more columns old new rows row root from put all =
     }
 
 -- where each row is kept and was met nothing is to be said
-module _ (names : Names) (tree : SoundTree) (slots : Tables) (tells : TellsOf names tree slots) (met : AreAllMet slots) where
+module _ (names : Names) (tree : SoundTree) (slots : Tables) (have : MetHave names tree slots) (met : AreAllMet slots) where
   row-met : (row : LiveRow) → IsKeptRow (index_columns tree) slots row → lists_of_row names tree row ≡ nothing
   unfolding row_lists
   row-met row kept =
       let count = values-many (key_numbers (index_columns tree)) row.cells kept.key kept.values.of_key ∙ key-count (index_columns tree) in
       let has : has_entry names tree kept.key kept.more row.root ≡ true =
-      sym (tells row.root kept.key kept.more count kept.there) ∙ met row.root (kept.key ++ kept.more) kept.there in
+      have row.root kept.key kept.more count kept.there (met row.root (kept.key ++ kept.more) kept.there) in
       (λ i. row_lists_by (number_of (file_of tree)) (has_entry names tree) row (kept.values.of_key i) (kept.values.included i))
       ∙ ap (λ (b : Bool). finding_at (Tuple (number_of (file_of tree)) row.tid) (missing_rule b)) has
 

@@ -11,14 +11,14 @@ use Rattle.stored_keys.specs.Same.{same_key}
 use Rattle.stored_keys.proofs.SameLaws.{two_parts}
 use Rattle.tree_image.specs.Image.{LeafEntry, index_entries}
 use Rattle.bt_levels.specs.declared.sound.SoundTree.{SoundTree}
-use Rattle.bt_levels.specs.Sound.{HoldsTree, block_count, held_block, index_columns}
-use Rattle.row_slots.specs.Met.{keyed, has_entry as meets_entry, is_entry_of, met_after, same_tid}
+use Rattle.bt_levels.specs.Sound.{HoldsTree, block_count, held_block, index_columns, specs_of}
+use Rattle.row_slots.specs.Met.{Keyed, Keys, Mets, keyed, has_entry as meets_entry, is_entry_of, meets, met_after, same_tid}
 use Rattle.row_slots.specs.Slots.{Tables, keys_in, met_in}
-use Rattle.row_slots.proofs.MetLaws.{met_if_entry}
-use Rattle.leaf_meets.specs.Meeting.{HaveMet, alive_in, all_entries, is_alive as is_unkilled, keyed_entry, leaf_entries}
+use Rattle.row_slots.proofs.MetLaws.{met_after_is, met_if_entry}
+use Rattle.leaf_meets.specs.Meeting.{HaveMet, HaveMetSome, alive_in, all_entries, is_alive as is_unkilled, keyed_entry, leaf_entries}
 use Rattle.indexed_rules.specs.Entries.{has_alive, is_alive_of}
-use Rattle.heap_indexed.specs.Judging.{TellsOf}
-use Rattle.heap_indexed.specs.Looking.{entries_of}
+use Rattle.heap_indexed.specs.Judging.{MetHave, TellsOf}
+use Rattle.heap_indexed.specs.Looking.{entries_of, has_entry}
 use Rattle.heap_indexed.proofs.Widths.{HasKeyOf, entries-keyed}
 
 -- The entries that met rows are those of the index
@@ -55,16 +55,46 @@ module _ (key more : List Value) (tid : Tid) where
       by true there beside one rest = rest ∙ (λ i. no-killed there beside i || list_any (is_alive_of key more tid) es)
       by false there beside one rest = λ i. one i || rest i
 
--- The law
+-- The laws
 
-pub tells-of : (names : Names) (tree : SoundTree) → HoldsTree names tree → (old new : Tables) → ((tid : Tid) → met_in old tid ≡ false) → HaveMet (all_entries (index_columns tree) (block_count tree) (held_block names tree)) old new → TellsOf names tree new
-unfolding has_alive
-tells-of names tree holds old new unmet met tid key more count kept =
-    let es : List LeafEntry = entries_of names tree in
-    let met-es : List LeafEntry = all_entries (index_columns tree) (block_count tree) (held_block names tree) in
-    let there : keys_in old tid ≡ Some (key ++ more) = sym (ap (λ k. k tid) met.keys) ∙ kept in
-    ap (λ m. m tid) met.met
-    ∙ (λ i. met_after (keys_in old) (alive_in met-es) (λ (t : Tid). unmet t i) tid)
-    ∙ met_if_entry (keys_in old) (alive_in met-es) (keyed tid (key ++ more)) there
-    ∙ ap (λ (l : List LeafEntry). meets_entry (alive_in l) (keyed tid (key ++ more))) (all-same (index_columns tree) (block_count tree) (held_block names tree))
-    ∙ some-same key more tid es (entries-keyed names tree holds (length key) count)
+-- an entry more or less that says what is said already
+absorbed : (a b : Bool) → (a ≡ true → b ≡ true) → (a || b) ≡ b
+absorbed true b so = sym (so refl)
+absorbed false b so = refl
+
+abbrev index-entries : Names → SoundTree → List LeafEntry
+index-entries names tree = all_entries (index_columns tree) (block_count tree) (held_block names tree)
+
+-- after all entries of the index a row that is kept was met exactly if it has one, where no row was met before
+module _ (names : Names) (tree : SoundTree) (holds : HoldsTree names tree) (old : Tables) (unmet : (tid : Tid) → met_in old tid ≡ false) where
+  all-met : (tid : Tid) (key more : List Value) → length key ≡ length (specs_of tree) → keys_in old tid ≡ Some (key ++ more) → met_after (keys_in old) (alive_in (index-entries names tree)) (met_in old) tid ≡ has_entry names tree key more tid
+  unfolding has_alive
+  all-met tid key more count there =
+      let es : List LeafEntry = entries_of names tree in
+      let met-es : List LeafEntry = index-entries names tree in
+      (λ i. met_after (keys_in old) (alive_in met-es) (λ (t : Tid). unmet t i) tid)
+      ∙ met_if_entry (keys_in old) (alive_in met-es) (keyed tid (key ++ more)) there
+      ∙ ap (λ (l : List LeafEntry). meets_entry (alive_in l) (keyed tid (key ++ more))) (all-same (index_columns tree) (block_count tree) (held_block names tree))
+      ∙ some-same key more tid es (entries-keyed names tree holds (length key) count)
+
+  -- so it is after some of them and then all of them
+  pub tells-of : (some new : Tables) → HaveMetSome (index-entries names tree) old some → HaveMet (index-entries names tree) some new → TellsOf names tree new
+  tells-of some new early late tid key more count kept =
+      let es : List Keyed = alive_in (index-entries names tree) in
+      let keys : keys_in new ≡ keys_in old = late.keys ∙ early.keys in
+      let there : keys_in old tid ≡ Some (key ++ more) = sym (ap (λ k. k tid) keys) ∙ kept in
+      let after : (m : Mets) → met_after (keys_in old) es m tid ≡ (m tid || list_any (λ e. meets (keys_in old) e tid) es) = λ m. met_after_is (keys_in old) es m tid in
+      let any : Bool = list_any (λ e. meets (keys_in old) e tid) es in
+      let is : met_after (keys_in old) es (met_in old) tid ≡ any = after (met_in old) ∙ ap (λ (b : Bool). b || any) (unmet tid) in
+      ap (λ m. m tid) late.met
+      ∙ ap (λ (k : Keys). met_after k es (met_in some) tid) early.keys
+      ∙ after (met_in some)
+      ∙ absorbed (met_in some tid) any (λ met. sym is ∙ early.sound tid met)
+      ∙ sym is
+      ∙ all-met tid key more count there
+
+  -- and after some of them a row that was met has one
+  pub sound-of : (some : Tables) → HaveMetSome (index-entries names tree) old some → MetHave names tree some
+  sound-of some early tid key more count kept met =
+      sym (all-met tid key more count (sym (ap (λ k. k tid) early.keys) ∙ kept))
+      ∙ early.sound tid met

@@ -1,5 +1,5 @@
 -- Rows that are judged for an index, of which it is known of some whether an entry met them.
-use Rattle.std.specs.Prelude.{◌≡◌, ◌++◌, List, [], Some, length}
+use Rattle.std.specs.Prelude.{◌≡◌, ◌++◌, List, [], Some, length, true}
 use Rattle.outside.specs.Outside.{Names}
 use Rattle.key_orders.specs.declared.columns.Value.{Value}
 use Rattle.key_orders.specs.declared.Tid.{Tid}
@@ -19,6 +19,11 @@ use Rattle.heap_indexed.specs.Looking.{AreOf, has_entry}
 abbrev pub TellsOf : Names → SoundTree → Tables → Type 0
 TellsOf names tree slots = (tid : Tid) (key more : List Value) → length key ≡ length (specs_of tree)
     → keys_in slots tid ≡ Some (key ++ more) → met_in slots tid ≡ has_entry names tree key more tid
+
+-- each of them that was met has such an entry
+abbrev pub MetHave : Names → SoundTree → Tables → Type 0
+MetHave names tree slots = (tid : Tid) (key more : List Value) → length key ≡ length (specs_of tree)
+    → keys_in slots tid ≡ Some (key ++ more) → met_in slots tid ≡ true → has_entry names tree key more tid ≡ true
 
 -- the names hold the index, and what is kept of rows and of pages tells of it
 pub record IsReady (names : Names) (judge : RowJudge) (look_ups : LookUps) : Type 0 where

@@ -17,7 +17,7 @@ use crate::row_judge::RowJudge;
 use bt_search::ways_are_short;
 use duplicate_keys::check_duplicates;
 use heap_check::RowCursor;
-use index_targets::{Questions, check_entries};
+use index_targets::{Leaves, Spans};
 use indexed_rules::heaps_and_indexes_are_judged;
 use outside::Files;
 use reports::{CheckFault, PageFault, Report};
@@ -41,11 +41,13 @@ fn check_strays<F: Files>(
 {
     set_tells_of_pages();
     let mut slots = RowSlots::new(alloc, 0)?;
-    let asked = Questions {
+    let mut spans = Spans::new(alloc);
+    let leaves = Leaves {
+        tree: at.tree,
         targets: Some(at.heap.targets()),
         apart: false,
     };
-    check_entries(files, at.tree, asked, &mut slots, report)?;
+    leaves.check_entries(files, &mut slots, &mut spans, report)?;
     Ok(())
 }
 

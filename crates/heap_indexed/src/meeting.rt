@@ -8,11 +8,12 @@ ghost use Rattle.reports.specs.Added.{joined, nothing};
 ghost use Rattle.reports.specs.Lists.{Lists};
 ghost use Rattle.stored_keys.specs.Rows.{row_values};
 ghost use Rattle.bt_levels.specs.declared.sound.SoundTree.{SoundTree as Tree};
-ghost use Rattle.bt_levels.specs.Sound.{index_columns};
+ghost use Rattle.bt_levels.specs.Sound.{HoldsTree, block_count, held_block, index_columns};
 ghost use Rattle.heap_files.specs.Files.{heap_in};
 ghost use Rattle.heap_check.specs.RowCursor.{IsAtRow, IsCursorOf, IsSameCursor, next_in, rows_here};
 ghost use Rattle.heap_check.specs.declared.rows.LiveRow.{LiveRow as Row};
 ghost use Rattle.index_targets.specs.Passes.{strays_of};
+ghost use Rattle.leaf_meets.specs.Meeting.{HaveMetSome, all_entries};
 ghost use Rattle.row_slots.specs.Slots.{AreAllMet, IsBegun, keys_in, keys_with, met_in};
 ghost use Rattle.heap_indexed.specs.Looking.{AreOf};
 ghost use Rattle.heap_indexed.specs.Judging.{IsBehind, IsReadyBehind};
@@ -23,10 +24,12 @@ ghost use Rattle.heap_indexed.specs.Rows.{owed_for, rows_from};
 
 use crate::joined::LookUps;
 use crate::row_judge::RowJudge;
+use bt_levels::SoundTree;
 use duplicate_keys::is_unique;
 use heap_check::{RowCursor, RowPlace};
-use index_targets::{Questions, check_entries};
+use index_targets::{Leaves, Spans, meet_some};
 use key_orders::{KeyRefs, MoreRefs, Tid, ValueRef};
+use leaf_meets::HeapRange;
 use outside::{Files, NoMemory};
 use reports::{PageFault, Report};
 use root_set::RootSet;
@@ -53,6 +56,8 @@ pub struct Meeting {
     pub entries: Report,
     /// Whether it is known that no two entries have the same values.
     pub apart: bool,
+    /// Which heap blocks its leaves name, once that was asked.
+    pub spans: Spans,
 }
 
 // Whether an index may have these values, by their lengths.
@@ -141,6 +146,7 @@ impl Meeting {
             rows: Report::new(alloc),
             entries: Report::new(alloc),
             apart: false,
+            spans: Spans::new(alloc),
         })
     }
 
@@ -228,6 +234,31 @@ impl Meeting {
         self.is_whole = true;
     }
 
+    // In a later range, where it isn't asked what entries name, has entries of those leaves meet the rows of the range
+    // that may name them; whether each row is kept and was met.
+    fn meet_near<F: Files>(
+        &mut self,
+        files: &mut F,
+        tree: &SoundTree,
+        targets: Option<&RootSet>,
+        range: HeapRange,
+    ) -> Result<bool, PageFault>
+        requires holds { IfTold F.seen files.old (λ names. HoldsTree names tree.now) }
+        ensures met { OnOk result (IfTold F.seen files.old (λ names.
+            HaveMetSome (all_entries (index_columns tree.now) (block_count tree.now) (held_block names tree.now))
+            self.old.slots self.new.slots)) }
+        ensures all { IfOk result (λ all. all ≡ true → (self.new.is_whole ≡ true) × AreAllMet self.new.slots) }
+        ensures later { IfOk result (λ all. all ≡ true → option_copied targets.entry ≡ None) }
+        ensures same { self.new ≡ record self.old { slots = self.new.slots } }
+        ensures asked { Asked F.seen files.old files.new result PageFault.ReadFault }
+    {
+        if targets.is_some() {
+            return Ok(false);
+        }
+        meet_some(files, tree, &self.spans, range, &mut self.slots)?;
+        Ok(self.is_all_met())
+    }
+
     /// Has the entries of the index meet the rows of the range, whose first block is given, and judges these and, where
     /// it is asked, what the entries name, and of a unique index then whether no two have the same values; a cursor
     /// stands behind the range. Then the next range begins.
@@ -256,19 +287,26 @@ impl Meeting {
         ensures same { IsSameCursor cursor.old cursor.new }
         ensures asked { Asked F.seen files.old files.new result PageFault.ReadFault }
     {
-        let asked = Questions {
+        let end = cursor.next_block();
+        let range = HeapRange { first, end };
+        let all_met = self.meet_near(files, index.at.tree, targets, range)?;
+        if all_met {
+            self.begin(end);
+            return Ok(());
+        }
+        let leaves = Leaves {
+            tree: index.at.tree,
             targets,
             apart: asks_keys(targets, index.at),
         };
-        let apart = check_entries(
+        let apart = leaves.check_entries(
             files,
-            index.at.tree,
-            asked,
             &mut self.slots,
+            &mut self.spans,
             &mut self.entries,
         )?;
         self.judge_rows(files, index, cursor, first)?;
-        self.begin(cursor.next_block());
+        self.begin(end);
         self.apart = self.apart || apart;
         Ok(())
     }

@@ -1,2 +1,3 @@
 mod Lists
 pub mod BlockKeys
+pub mod Reading

@@ -16,6 +16,7 @@ ghost use Rattle.apart_keys.specs.Items.{RisesTo};
 ghost use Rattle.index_targets.specs.Passes.{IsApartSoFar, strays_of, strays_on};
 
 use crate::leaf::{Named, Seen};
+use crate::spans::Spans;
 use apart_keys::Rise;
 use bt_levels::SoundTree;
 use leaf_meets::meet_page;
@@ -25,15 +26,6 @@ use reports::{PageFault, Report};
 use root_set::RootSet;
 use row_slots::RowSlots;
 
-/// What a pass over the leaves of an index is asked of its entries, beside which rows they meet.
-#[derive(Clone, Copy)]
-pub struct Questions<'a> {
-    /// What they may name, where that is asked.
-    pub targets: Option<&'a RootSet>,
-    /// Whether it is asked that no two of them have the same values.
-    pub apart: bool,
-}
-
 // What is in hand while leaves are gone over: blocks that were read together, and what was seen of entries.
 #[derive(Drop)]
 struct Hands {
@@ -41,11 +33,15 @@ struct Hands {
     seen: Seen,
 }
 
-// An index in which nothing was found, and the set of what its entries may name, where that is asked.
+/// An index in which nothing was found, and what a pass over its leaves is asked of its entries, beside which rows they
+/// meet.
 #[derive(Clone, Copy)]
-struct Leaves<'a> {
-    tree: &'a SoundTree,
-    targets: Option<&'a RootSet>,
+pub struct Leaves<'a> {
+    pub tree: &'a SoundTree,
+    /// What the entries may name, where that is asked.
+    pub targets: Option<&'a RootSet>,
+    /// Whether it is asked that no two of them have the same values.
+    pub apart: bool,
 }
 
 impl Leaves<'_> {
@@ -113,44 +109,49 @@ impl Leaves<'_> {
         hands.seen.apart = hands.seen.is_still_apart(page, &self.tree.columns());
         Ok(())
     }
-}
 
-/// Has the entries of an index that aren't killed meet the rows that are kept, and adds to the report, by block, item
-/// and place in the item, each entry of its leaves, killed or not, that names what the set doesn't have (X2), where
-/// there is a set. Each block but the first is read once, up to eight by one call.
-///
-/// Where it is asked, the answer tells whether no two entries of one leaf have the same values and no high key of a
-/// leaf keeps a TID, so that no two entries of the index have the same values
-/// ([`apart_leaves_have_no_equal_keys`](apart_keys::apart_leaves_have_no_equal_keys)). `false` says nothing.
-///
-/// `ReadFault` comes only where the count of the files' faults rose. After an error the report has a first
-/// part of what it would have got, and what was met is unspecified.
-pub fn check_entries<F: Files>(
-    files: &mut F,
-    tree: &SoundTree,
-    asked: Questions<'_>,
-    slots: &mut RowSlots,
-    report: &mut Report,
-) -> Result<bool, PageFault>
-    requires holds { IfTold F.seen files.old (λ names. HoldsTree names tree.now) }
-    ensures lists { IfTold F.seen files.old (λ names. AddsIn report_lists result report.old report.new
-        (strays_of names (option_copied asked.entry.targets) tree.now)) }
-    ensures met { OnOk result (IfTold F.seen files.old (λ names.
-        HaveMet (all_entries (index_columns tree.now) (block_count tree.now) (held_block names tree.now))
-        slots.old slots.new)) }
-    ensures apart { Tells F.seen files.old result (λ apart names. apart ≡ true → AreApart names tree.now) }
-    ensures asked { AskedAtMost (block_count tree.now) F.seen files.old files.new result PageFault.ReadFault }
-{
-    let leaves = Leaves {
-        tree,
-        targets: asked.targets,
-    };
-    let mut hands = Hands {
-        blocks: Ahead::new(),
-        seen: Seen::new(asked.apart),
-    };
-    for k in 0..tree.blocks().saturating_sub(1) {
-        leaves.take_block(files, k + 1, &mut hands, slots, report)?;
+    /// Has the entries of the index that aren't killed meet the rows that are kept, and adds to the report, by block,
+    /// item and place in the item, each entry of its leaves, killed or not, that names what the set doesn't have (X2),
+    /// where there is a set; then it is also kept which heap blocks each leaf names. Each block but the first is read
+    /// once, up to eight by one call.
+    ///
+    /// Where it is asked, the answer tells whether no two entries of one leaf have the same values and no high key of a
+    /// leaf keeps a TID, so that no two entries of the index have the same values
+    /// ([`apart_leaves_have_no_equal_keys`](apart_keys::apart_leaves_have_no_equal_keys)). `false` says nothing.
+    ///
+    /// `ReadFault` comes only where the count of the files' faults rose. After an error the report has a first
+    /// part of what it would have got, and what was met is unspecified.
+    pub fn check_entries<F: Files>(
+        self,
+        files: &mut F,
+        slots: &mut RowSlots,
+        spans: &mut Spans,
+        report: &mut Report,
+    ) -> Result<bool, PageFault>
+        requires holds { IfTold F.seen files.old (λ names. HoldsTree names self.tree.now) }
+        ensures lists { IfTold F.seen files.old (λ names. AddsIn report_lists result report.old report.new
+            (strays_of names (option_copied self.entry.targets) self.entry.tree.now)) }
+        ensures met { OnOk result (IfTold F.seen files.old (λ names.
+            HaveMet (all_entries (index_columns self.entry.tree.now) (block_count self.entry.tree.now)
+            (held_block names self.entry.tree.now)) slots.old slots.new)) }
+        ensures apart { Tells F.seen files.old result (λ apart names. apart ≡ true
+            → AreApart names self.entry.tree.now) }
+        ensures asked { AskedAtMost (block_count self.entry.tree.now) F.seen files.old files.new result
+            PageFault.ReadFault }
+    {
+        if self.targets.is_some() {
+            spans.begin(self.tree.blocks())?;
+        }
+        let mut hands = Hands {
+            blocks: Ahead::new(),
+            seen: Seen::new(self.apart),
+        };
+        for k in 0..self.tree.blocks().saturating_sub(1) {
+            self.take_block(files, k + 1, &mut hands, slots, report)?;
+            if self.targets.is_some() {
+                spans.keep(k + 1, hands.seen.span);
+            }
+        }
+        Ok(hands.seen.apart)
     }
-    Ok(hands.seen.apart)
 }

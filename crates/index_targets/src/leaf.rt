@@ -14,6 +14,7 @@ ghost use Rattle.apart_keys.specs.Apart.{IsApart};
 ghost use Rattle.apart_keys.specs.Items.{RisesTo};
 ghost use Rattle.indexed_rules.specs.Lists.{entry_lists, item_lists, items_lists, leaf_lists, tids_lists};
 
+use crate::spans::Span;
 use apart_keys::{Rise, is_page_apart};
 use bt_steps::is_live_leaf;
 use bt_tuples::{Spot3, TidList, TreeItem, plain_entry, tree_item};
@@ -41,6 +42,8 @@ pub struct Seen {
     pub ahead: RowsAhead,
     /// How the keys of that leaf stand to each other.
     pub rise: Rise,
+    /// Which heap blocks the entries of that leaf name.
+    pub span: Span,
     /// Whether no two entries of the index have the same values, as far as the leaves were looked at; `false` where it
     /// isn't asked.
     pub apart: bool,
@@ -64,6 +67,7 @@ impl Seen {
         Seen {
             ahead: RowsAhead::new(),
             rise: Rise::Untold,
+            span: Span::none(),
             apart,
         }
     }
@@ -74,6 +78,7 @@ impl Seen {
         ensures apart { self.new.apart ≡ self.old.apart }
     {
         self.ahead.clear();
+        self.span = Span::none();
         self.rise = before_items(self.apart);
     }
 
@@ -101,10 +106,17 @@ struct ItemAt {
 
 impl Named<'_> {
     // Judges one TID of an item.
-    fn judge_tid(self, at: ItemAt, tid: Tid, report: &mut Report) -> Result<(), NoMemory>
+    fn judge_tid(
+        self,
+        at: ItemAt,
+        tid: Tid,
+        span: &mut Span,
+        report: &mut Report,
+    ) -> Result<(), NoMemory>
         ensures { AddsIn report_lists result report.old report.new
             (entry_lists self.entry.number (is_in self.entry.targets.now) at.block at.item tid) }
     {
+        span.add(tid.block);
         if self.targets.has(tid) {
             return Ok(());
         }
@@ -113,12 +125,18 @@ impl Named<'_> {
     }
 
     // Judges the TIDs of a list.
-    fn judge_list(self, at: ItemAt, tids: &TidList<'_>, report: &mut Report) -> Result<(), NoMemory>
+    fn judge_list(
+        self,
+        at: ItemAt,
+        tids: &TidList<'_>,
+        span: &mut Span,
+        report: &mut Report,
+    ) -> Result<(), NoMemory>
         ensures { AddsIn report_lists result report.old report.new
             (tids_lists self.entry.number (is_in self.entry.targets.now) at.block at.item tids.now) }
     {
         for k in 0..tids.len() {
-            self.judge_tid(at, tids.get(k), report)?;
+            self.judge_tid(at, tids.get(k), span, report)?;
         }
         Ok(())
     }
@@ -149,10 +167,10 @@ impl Named<'_> {
         if let Some(entry) = plain_entry(page, at.item) {
             seen.ahead.add(entry.tid);
             seen.rise.add(&self.columns, entry.body);
-            return self.judge_tid(at, entry.tid, report);
+            return self.judge_tid(at, entry.tid, &mut seen.span, report);
         }
         seen.rise = Rise::Untold;
-        self.judge_any_item(page, at, report)
+        self.judge_any_item(page, at, &mut seen.span, report)
     }
 
     // Judges a data item of any form. It stays a call: in line, the places of a key's values would be set to zero for
@@ -162,6 +180,7 @@ impl Named<'_> {
         self,
         page: PageView<'_>,
         at: ItemAt,
+        span: &mut Span,
         report: &mut Report,
     ) -> Result<(), NoMemory>
         requires page { page_rule_of PageKind.Tree (page_bytes page) ≡ None }
@@ -174,8 +193,8 @@ impl Named<'_> {
             (is_in self.entry.targets.now) at.block (page_bytes page.entry) at.item) }
     {
         match tree_item(page, at.item, &self.columns, Spot3::LeafItem) {
-            Ok(TreeItem::Plain { tid, .. }) => self.judge_tid(at, tid, report),
-            Ok(TreeItem::Posting { tids, .. }) => self.judge_list(at, &tids, report),
+            Ok(TreeItem::Plain { tid, .. }) => self.judge_tid(at, tid, span, report),
+            Ok(TreeItem::Posting { tids, .. }) => self.judge_list(at, &tids, span, report),
             Ok(TreeItem::Pivot { .. }) => Ok(()),
             Err(_) => Ok(()),
         }

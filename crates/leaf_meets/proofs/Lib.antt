@@ -1,2 +1,3 @@
 pub mod Meets
 pub mod PlainKeys
+pub mod Some

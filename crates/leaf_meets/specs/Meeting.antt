@@ -1,6 +1,7 @@
 -- What the entries of an index meet of the rows that are kept.
-use Rattle.std.specs.Prelude.{◌≡◌, ℕ, Bool, not, List, [], ◌++◌, map, filter, if◌then◌else◌}
+use Rattle.std.specs.Prelude.{◌≡◌, ℕ, Bool, true, not, List, [], ◌++◌, map, filter, if◌then◌else◌}
 use Rattle.std.specs.List.{flat_map}
+use Rattle.key_orders.specs.declared.Tid.{Tid}
 use Rattle.tree_search.specs.Search.{tree_blocks}
 use Rattle.varlena_attrs.specs.Columns.{TreeColumns}
 use Rattle.tree_image.specs.Image.{LeafEntry, entries_in, item_at, page_entries}
@@ -21,6 +22,13 @@ alive_in es = map keyed_entry (filter is_alive es)
 -- these entries met the rows that they name, and nothing else has changed
 pub record HaveMet (es : List LeafEntry) (old new : Tables) : Type 0 where
   pub met : met_in new ≡ met_after (keys_in old) (alive_in es) (met_in old)
+  pub keys : keys_in new ≡ keys_in old
+  pub range : SameRange old new
+
+-- some of these entries met the rows that they name, and nothing else has changed: each row that is met now would be
+-- after all of them
+pub record HaveMetSome (es : List LeafEntry) (old new : Tables) : Type 0 where
+  pub sound : (tid : Tid) → met_in new tid ≡ true → met_after (keys_in old) (alive_in es) (met_in old) tid ≡ true
   pub keys : keys_in new ≡ keys_in old
   pub range : SameRange old new
 

@@ -3,6 +3,8 @@
 
 mod ahead;
 mod meet;
+mod near;
 
 pub use ahead::RowsAhead;
 pub use meet::meet_page;
+pub use near::{HeapRange, Near, meet_near};

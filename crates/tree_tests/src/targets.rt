@@ -1,7 +1,9 @@
-//! The entries of a leaf of four, against a page of a heap.
+//! The entries of a leaf of four, against a page of a heap, and against rows that are kept.
 use crate::trees::{LISTED, open};
 use bt_levels::SoundTree;
-use index_targets::{Questions, check_entries};
+use index_targets::{Leaves, Spans, meet_some};
+use key_orders::{Tid, ValueRef};
+use leaf_meets::HeapRange;
 use outside::NoMemory;
 use page_layout::{PageKind, PageView};
 use reports::Report;
@@ -9,6 +11,7 @@ use root_set::RootSet;
 use row_slots::RowSlots;
 use std::alloc::Global;
 use std::test::Fail;
+use stored_keys::RowValues;
 use test_files::{Page, UntoldFiles};
 
 // A page of a heap with four line pointers of these flags: 0 unused, 2 a redirect to item 1, 3 dead.
@@ -35,20 +38,23 @@ fn targets_of(alloc: Global, flags: [u8; 4]) -> Result<RootSet, NoMemory> {
     Ok(targets)
 }
 
-// How many findings and places that can't be judged there are of the entries of a tree.
+// How many findings and places that can't be judged there are of the entries of a tree; which heap blocks its leaves
+// name is kept.
 fn counts(
     alloc: Global,
     files: &mut UntoldFiles,
     tree: &SoundTree,
     targets: &RootSet,
+    spans: &mut Spans,
 ) -> Result<(u64, u64), Fail> {
     let mut report = Report::new(alloc);
     let mut slots = RowSlots::new(alloc, 0)?;
-    let asked = Questions {
+    let leaves = Leaves {
+        tree,
         targets: Some(targets),
         apart: false,
     };
-    check_entries(files, tree, asked, &mut slots, &mut report)?;
+    leaves.check_entries(files, &mut slots, spans, &mut report)?;
     Ok(report.counts())
 }
 
@@ -57,7 +63,7 @@ fn counts(
 fn strays(alloc: Global, flags: [u8; 4]) -> Result<(u64, u64), Fail> {
     let targets = targets_of(alloc, flags)?;
     let (mut files, tree) = open(alloc, LISTED)?;
-    counts(alloc, &mut files, &tree, &targets)
+    counts(alloc, &mut files, &tree, &targets, &mut Spans::new(alloc))
 }
 
 const STRAYS: [([u8; 4], u64); 5] = [
@@ -73,5 +79,50 @@ fn entries_against_a_heap(rt: HostRuntime) -> Result<(), Fail> {
     for (flags, want) in STRAYS {
         assert_eq!(rt; strays(rt.alloc(), flags)?, (want, 0));
     }
+    Ok(())
+}
+
+// Rows at items of block 0, with their keys: those of the leaf, but that the last has another.
+const ROWS: [(u16, i64); 4] = [(1, 5), (2, 7), (3, 7), (4, 8)];
+
+// Which of the rows entries of the leaf met that may name blocks of a range, from the first up to the end.
+fn met(alloc: Global, first: u32, end: u32) -> Result<[bool; 4], Fail> {
+    let targets = targets_of(alloc, [3, 3, 3, 3])?;
+    let (mut files, tree) = open(alloc, LISTED)?;
+    let mut spans = Spans::new(alloc);
+    counts(alloc, &mut files, &tree, &targets, &mut spans)?;
+    let mut slots = RowSlots::new(alloc, 0)?;
+    slots.add_block(4)?;
+    for (item, key) in ROWS {
+        let key = [ValueRef::Int(key)];
+        let values = RowValues {
+            key: &key,
+            more: &[],
+        };
+        slots.put(Tid { block: 0, item }, values)?;
+    }
+    meet_some(
+        &mut files,
+        &tree,
+        &spans,
+        HeapRange { first, end },
+        &mut slots,
+    )?;
+    let mut met = [false; 4];
+    for (place, (item, key)) in met.iter_mut().zip(ROWS) {
+        let key = [ValueRef::Int(key)];
+        let values = RowValues {
+            key: &key,
+            more: &[],
+        };
+        *place = slots.is_met(Tid { block: 0, item }, values) == Some(true);
+    }
+    Ok(met)
+}
+
+#[test]
+fn entries_meet_rows_of_a_range(rt: HostRuntime) -> Result<(), Fail> {
+    assert_eq!(rt; met(rt.alloc(), 0, 1)?, [false, true, true, false]);
+    assert_eq!(rt; met(rt.alloc(), 1, 2)?, [false; 4]);
     Ok(())
 }

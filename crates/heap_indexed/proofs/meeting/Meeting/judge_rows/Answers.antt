@@ -14,7 +14,7 @@ returns-then-is_all_met-clause-rows g c = λ names told kept.
     let tree = c.args.index.at.tree.now in
     let rows = rows_from c.args.index.at.case.now names c.args.first (next_in c.args.cursor.now - c.args.first) in
     let all = c.is_all_met.ensures c.if-is_all_met.true in
-    let none = rows-met names tree c.args.self.now.slots (c.requires.told names told).kept all.1 rows (kept all.0) in
+    let none = rows-met names tree c.args.self.now.slots (λ tid key more count there met. sym ((c.requires.told names told).kept tid key more count there) ∙ met) all.1 rows (kept all.0) in
     sym (ap (joined c.args.self.now.rows) none ∙ report_lists.with_none c.args.self.now.rows)
 
 pub judge_blocks-requires-clause-told : goal.judge_blocks-requires-clause-told

@@ -1,32 +1,19 @@
-use Rattle.std.proofs.Common.{◌≡◌, ◌≢◌, ◌∙◌, ◌<◌, ℕ, List, true, arith, subst, sym}
+use Rattle.std.proofs.Common.{◌≡◌, ◌≢◌, ◌∙◌, ℕ, List, true, arith, subst, sym}
 use Rattle.std.specs.Option.{option_copied}
 use Rattle.std.proofs.lemmas.Bool.{OnTrue_at}
-use Rattle.outside.specs.Outside.{Names}
 use Rattle.outside.proofs.Adding.{Adds-exit, Begins-none}
 use Rattle.page_layout.specs.Page.{count_of}
 use Rattle.varlena_attrs.specs.Columns.{TreeColumns, tree_columns}
-use Rattle.bt_levels.specs.declared.sound.SoundTree.{SoundTree}
 use Rattle.bt_levels.specs.Files.{number_of}
-use Rattle.bt_levels.specs.Sound.{HoldsTree, block_count, file_of, held_block, index_columns}
-use Rattle.bt_steps.specs.Pages.{IsReadable, is_live_leaf}
-use Rattle.bt_steps.proofs.OnLeaf.{live-parts, page-readable}
+use Rattle.bt_levels.specs.Sound.{file_of, held_block, index_columns}
+use Rattle.bt_steps.specs.Pages.{is_live_leaf}
 use Rattle.apart_keys.specs.Apart.{IsApart}
 use Rattle.apart_keys.specs.Items.{RisesTo}
 use Rattle.leaf_meets.specs.Meeting.{HaveMet, leaf_entries}
 use Rattle.reports.specs.Added.{report_lists}
 use Rattle.index_targets.specs.Passes.{strays_on}
+use Rattle.index_targets.proofs.Reading.{block-readable, readable-by}
 use Rattle.index_targets.proofs.check.Leaves.take_block.Goals as goal
-
--- a leaf of the index can be read
-block-readable : (names : Names) (sound : SoundTree) → HoldsTree names sound → (b : ℕ) → b ≢ 0 → b < block_count sound → is_live_leaf (held_block names sound b) ≡ true → IsReadable (index_columns sound) (held_block names sound b)
-block-readable names sound holds b some inside live =
-    page-readable (index_columns sound) (block_count sound) (held_block names sound) b (holds.pages.pages b some inside (live-parts (held_block names sound b) live).1)
-
--- what is known of a page is known of it by another name
-readable-by : (s t : TreeColumns) (p q : List ℕ) → s ≡ t → p ≡ q → (is_live_leaf q ≡ true → IsReadable t q) → is_live_leaf p ≡ true → IsReadable s p
-readable-by s t p q same-specs same-page h =
-    subst (λ (x : TreeColumns). is_live_leaf p ≡ true → IsReadable x p) (sym same-specs)
-    (subst (λ (x : List ℕ). is_live_leaf x ≡ true → IsReadable t x) (sym same-page) h)
 
 pub returns-in_err-take_ahead-clause-lists : goal.returns-in_err-take_ahead-clause-lists
 returns-in_err-take_ahead-clause-lists g c names told =

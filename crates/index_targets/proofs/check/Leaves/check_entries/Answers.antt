@@ -1,12 +1,10 @@
 use Rattle.std.proofs.Common.{◌≡◌, ◌∙◌, ◌+◌, ◌-◌, ◌++◌, ℕ, Bool, List, inl, inr, true, ap, subst, sym, arith}
 use Rattle.std.specs.List.{flat_map}
 use Rattle.std.specs.Option.{option_copied}
-use Rattle.std.specs.Prelude.{Ok, Option, Some}
+use Rattle.std.specs.Prelude.{Option}
 use Rattle.std.proofs.lemmas.Bool.{cases_lt}
-use Rattle.std.proofs.lemmas.Grind.{common_steps}
-use Rattle.outside.specs.declared.files.Failed.{Failed}
-use Rattle.outside.specs.Outside.{AskedWithin, Names, Seen, failed}
-use Rattle.outside.proofs.Adding.{Adds-exit}
+use Rattle.outside.specs.Outside.{Names}
+use Rattle.outside.proofs.Adding.{Adds-exit, Begins-none}
 use Rattle.outside.proofs.Asking.{PassedAtMost-none}
 use Rattle.tree_image.specs.Image.{LeafEntry}
 use Rattle.tree_search.specs.Search.{tree_blocks}
@@ -21,8 +19,9 @@ use Rattle.apart_keys.specs.Apart.{AreApartBelow, IsApart}
 use Rattle.leaf_meets.specs.Meeting.{all_entries, leaf_entries}
 use Rattle.leaf_meets.proofs.Meets.{met-then, none, same}
 use Rattle.index_targets.specs.Passes.{strays_of, strays_on}
+use Rattle.index_targets.proofs.Reading.{passed-more}
 use Rattle.index_targets.proofs.BlockKeys.{all-blocks, blocks-next}
-use Rattle.index_targets.proofs.check.check_entries.Goals as goal
+use Rattle.index_targets.proofs.check.Leaves.check_entries.Goals as goal
 
 -- what is found of a block, and its entries
 abbrev of-block : SoundTree → Option (List (List Bool)) → Names → ℕ → Lists
@@ -40,11 +39,6 @@ one-more tree names k so here b from below = elim (cases_lt b (k + 1)) [
       subst (λ (n : ℕ). is_live_leaf (held_block names tree n) ≡ true → IsApart (index_columns tree) (held_block names tree n)) same here
 ]
 
--- one read more
-passed-more : {D E U : Type 0} {n : ℕ} {a b d : Seen} {y : U} {e : D} {f : E} → AskedWithin {T = Failed} {E = D} (Some n) a b (Ok failed) e → AskedWithin {T = U} {E = E} (Some 1) b d (Ok y) f
-    → AskedWithin {T = Failed} {E = Failed} (Some (n + 1)) a d (Ok failed) failed
-passed-more g h = grind (arith, common_steps)
-
 pub take_block-requires-clause-holds : goal.take_block-requires-clause-holds
 take_block-requires-clause-holds g c names told = c.requires.holds names (sym c.loop-k.invariant.asked.same ∙ told)
 
@@ -53,20 +47,20 @@ take_block-requires-clause-hand g c names told = c.loop-k.invariant.hand names (
 
 pub loop-k-init : goal.loop-k-init
 loop-k-init g c = record {
-  lists = λ names told. upto-none report_lists (of-block c.args.tree.now (option_copied c.args.asked.targets) names) c.args.report.now;
+  lists = λ names told. upto-none report_lists (of-block c.args.self.tree.now (option_copied c.args.self.targets) names) c.args.report.now;
   met = λ names told. none c.args.slots.now;
   apart = λ names told known b from below. absurd (omega (arith, from, below));
-  hand = λ names told. c.new.ensures names (relation_of (file_of c.args.tree.now));
+  hand = λ names told. c.new.ensures names (relation_of (file_of c.args.self.tree.now));
   asked = PassedAtMost-none;
 }
 
 pub loop-k-preserved : goal.loop-k-preserved
 loop-k-preserved g c = record {
   lists = λ names told.
-      upto-next report_lists (of-block c.args.tree.now (option_copied c.args.asked.targets) names) c.loop-k.k c.args.report.now c.loop-k.report c.take_block.new.report (c.loop-k.invariant.lists names told)
+      upto-next report_lists (of-block c.args.self.tree.now (option_copied c.args.self.targets) names) c.loop-k.k c.args.report.now c.loop-k.report c.take_block.new.report (c.loop-k.invariant.lists names told)
       (c.in_ok-take_block.ensures.lists names (c.loop-k.invariant.asked.same ∙ told));
   met = λ names told.
-      let keys = keys-of c.args.tree.now names in
+      let keys = keys-of c.args.self.tree.now names in
       let k = c.loop-k.k in
       let before : List LeafEntry = flat_map keys (tree_blocks (k + 1)) in
       same (before ++ keys (k + 1)) (flat_map keys (tree_blocks (k + 1 + 1))) c.args.slots.now c.take_block.new.slots (sym (blocks-next keys k))
@@ -74,7 +68,7 @@ loop-k-preserved g c = record {
       (c.in_ok-take_block.ensures.met names (c.loop-k.invariant.asked.same ∙ told)));
   apart = λ names told known.
       let here = c.in_ok-take_block.ensures.apart names (c.loop-k.invariant.asked.same ∙ told) known in
-      one-more c.args.tree.now names c.loop-k.k (c.loop-k.invariant.apart names told here.known) here.here;
+      one-more c.args.self.tree.now names c.loop-k.k (c.loop-k.invariant.apart names told here.known) here.here;
   hand = λ names told. c.in_ok-take_block.ensures.hand names (c.loop-k.invariant.asked.same ∙ told);
   asked = passed-more c.loop-k.invariant.asked c.in_ok-take_block.ensures.asked;
 }
@@ -82,24 +76,24 @@ loop-k-preserved g c = record {
 pub returns-in_err-take_block-clause-lists : goal.returns-in_err-take_block-clause-lists
 unfolding strays_of
 returns-in_err-take_block-clause-lists g c names told =
-    let tree = c.args.tree.now in
-    let of = of-block tree (option_copied c.args.asked.targets) names in
-    Adds-exit report_lists c.from_residual.result _ c.args.report.now c.take_block.new.report (each_upto report_lists of (block_count tree - 1)) c.from_residual.ensures.1
+    let tree = c.args.self.tree.now in
+    let of = of-block tree (option_copied c.args.self.targets) names in
+    Adds-exit report_lists c.from_residual-in_err-take_block.result _ c.args.report.now c.take_block.new.report (each_upto report_lists of (block_count tree - 1)) c.from_residual-in_err-take_block.ensures.1
     (upto-cut report_lists of c.loop-k.k (block_count tree - 1) c.args.report.now c.loop-k.report c.take_block.new.report (omega (arith, c.loop-k-test.true, c.saturating_sub-k-end.ensures, c.blocks-2.ensures)) (c.loop-k.invariant.lists names told)
     (c.in_err-take_block.ensures.lists names (c.loop-k.invariant.asked.same ∙ told)))
 
 pub returns-clause-lists : goal.returns-clause-lists
 unfolding strays_of
 returns-clause-lists g c names told =
-    let tree = c.args.tree.now in
-    let of = of-block tree (option_copied c.args.asked.targets) names in
+    let tree = c.args.self.tree.now in
+    let of = of-block tree (option_copied c.args.self.targets) names in
     let whole : c.loop-k.k ≡ block_count tree - 1 = omega (arith, c.loop-k-test.false, c.saturating_sub-k-end.ensures, c.blocks-2.ensures) in
     subst (λ (n : ℕ). c.loop-k.report ≡ joined c.args.report.now (each_upto report_lists of n)) whole (c.loop-k.invariant.lists names told)
 
 pub returns-clause-met : goal.returns-clause-met
 unfolding all_entries
 returns-clause-met g c names told =
-    let tree = c.args.tree.now in
+    let tree = c.args.self.tree.now in
     let keys = keys-of tree names in
     let whole : c.loop-k.k ≡ block_count tree - 1 = omega (arith, c.loop-k-test.false, c.saturating_sub-k-end.ensures, c.blocks-2.ensures) in
     same (flat_map keys (tree_blocks (c.loop-k.k + 1))) (flat_map keys (tree_blocks (block_count tree))) c.args.slots.now c.loop-k.slots (ap (flat_map keys) (all-blocks c.loop-k.k (block_count tree) whole))
@@ -107,6 +101,11 @@ returns-clause-met g c names told =
 
 pub returns-clause-apart : goal.returns-clause-apart
 returns-clause-apart g c names told known b from below =
-    let tree = c.args.tree.now in
+    let tree = c.args.self.tree.now in
     let whole : c.loop-k.k ≡ block_count tree - 1 = omega (arith, c.loop-k-test.false, c.saturating_sub-k-end.ensures, c.blocks-2.ensures) in
     c.loop-k.invariant.apart names told known b from (omega (arith, whole, below))
+
+pub returns-in_err-begin-clause-lists : goal.returns-in_err-begin-clause-lists
+returns-in_err-begin-clause-lists g c names told =
+    let owed = strays_of names (option_copied c.args.self.targets) c.args.self.tree.now in
+    Adds-exit report_lists c.from_residual.result _ c.args.report.now c.args.report.now owed c.from_residual.ensures.1 (Begins-none report_lists c.args.report.now owed)
