@@ -4,7 +4,7 @@ use Rattle.std.specs.Option.{option_or}
 use Rattle.outside.specs.Outside.{Names}
 use Rattle.page_layout.specs.declared.rules.Rule.{Rule}
 use Rattle.case_file.specs.Record.{CaseRecord, index_named}
-use Rattle.case_file.specs.declared.fault.CaseRule.TheVariants.{C5}
+use Rattle.case_rules.specs.declared.fault.CaseRule.TheVariants.{C5}
 use Rattle.reports.specs.Added.{joined}
 use Rattle.reports.specs.Lists.{Lists}
 use Rattle.reports.specs.declared.fault.CheckFault.{CheckFault}

@@ -10,7 +10,7 @@ use Rattle.key_orders.specs.declared.columns.KeySpec.{KeySpec}
 use Rattle.key_orders.specs.declared.columns.Value.{Value}
 use Rattle.key_orders.specs.declared.Tid.{Tid}
 use Rattle.key_orders.specs.Keys.{IsKey, tid_order}
-use Rattle.varlena_attrs.specs.Columns.{TreeColumns}
+use Rattle.key_attrs.specs.Columns.{TreeColumns}
 use Rattle.bt_tuples.specs.Items.{Item, ItemFits, Pivot, Plain, Posting}
 use Rattle.bt_tuples.specs.Keys.{first_key, last_key, last_tid}
 use Rattle.tree_image.specs.Image.{first_data, keys_in, numbers_from, page_keys, separator_in}

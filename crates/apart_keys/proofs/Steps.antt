@@ -11,7 +11,7 @@ use Rattle.tree_search.specs.Keys.{compare_values}
 use Rattle.tree_search.proofs.Columns.{then_less}
 use Rattle.key_orders.specs.declared.columns.Value.{Value}
 use Rattle.key_orders.specs.Keys.{columns_of}
-use Rattle.varlena_attrs.specs.Columns.{TreeColumns}
+use Rattle.key_attrs.specs.Columns.{TreeColumns}
 use Rattle.bt_tuples.specs.declared.items.Spot3.TheVariants.{LeafItem}
 use Rattle.bt_tuples.specs.Items.{Item, Plain, is_dead, item_outcome, tuple_outcome}
 use Rattle.bt_tuples.specs.Plain.{IsPlainEntry}

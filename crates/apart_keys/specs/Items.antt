@@ -4,7 +4,7 @@ use Rattle.tree_search.specs.Keys.{Entry}
 use Rattle.key_orders.specs.declared.columns.Value.{Value}
 use Rattle.key_orders.specs.declared.Tid.{Tid}
 use Rattle.key_orders.specs.Keys.{IsKey}
-use Rattle.varlena_attrs.specs.Columns.{TreeColumns}
+use Rattle.key_attrs.specs.Columns.{TreeColumns}
 use Rattle.bt_tuples.specs.declared.keys.ItemKeys.{ItemKeys}
 use Rattle.bt_tuples.specs.Items.{Item}
 use Rattle.bt_tuples.specs.Keys.{first_key}

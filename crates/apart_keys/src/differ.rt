@@ -3,7 +3,7 @@ ghost use Rattle.std.specs.Prelude.{◌≡◌, ◌≤◌, ◌-◌, None, false, 
 ghost use Rattle.std.specs.Bool.{OnTrue};
 ghost use Rattle.page_layout.specs.Page.{count_of, page_rule_of};
 ghost use Rattle.page_layout.specs.View.{page_bytes};
-ghost use Rattle.varlena_attrs.specs.Columns.{tree_columns};
+ghost use Rattle.key_attrs.specs.Columns.{tree_columns};
 ghost use Rattle.tree_image.specs.Image.{has_high_key, item_at, separator_in};
 ghost use Rattle.bt_steps.specs.Pages.{is_live_leaf};
 ghost use Rattle.apart_keys.specs.Apart.{IsApart};
@@ -12,10 +12,10 @@ ghost use Rattle.apart_keys.specs.Items.{DifferTo, HasEntry, HasOther, RisesTo, 
 use crate::rising::Rise;
 use bt_steps::is_live_leaf;
 use bt_tuples::{ItemKeys, Spot3};
+use key_attrs::IndexColumns;
 use key_orders::{Tid, cmp_values};
 use page_layout::{PageKind, PageView};
 use tree_image::{first_data, has_high_key};
-use varlena_attrs::IndexColumns;
 
 // Whether two TIDs are there and are the same.
 #[inline]

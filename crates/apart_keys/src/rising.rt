@@ -1,13 +1,13 @@
 //! The keys of a leaf by the numbers of their first values, which mostly rise from item to item.
 ghost use Rattle.std.specs.Prelude.{◌≤◌, ◌-◌, ℕ, IfSome, List};
 ghost use Rattle.key_orders.specs.declared.Tid.{Tid as At};
-ghost use Rattle.varlena_attrs.specs.Columns.{TreeColumns, tree_columns};
+ghost use Rattle.key_attrs.specs.Columns.{TreeColumns, tree_columns};
 ghost use Rattle.bt_tuples.specs.Plain.{IsPlainEntry, LiesPlain};
 ghost use Rattle.tree_image.specs.Image.{first_data};
 ghost use Rattle.apart_keys.specs.Items.{RisesTo};
 
+use key_attrs::{IndexColumns, plain_first_value};
 use key_orders::key_prefix;
-use varlena_attrs::{IndexColumns, plain_first_value};
 
 /// How the keys of a leaf stand to each other so far, item by item, as the numbers of their first values tell it
 /// ([`key_prefix`](key_orders::key_prefix)): where a number is greater than another, the keys differ.

@@ -11,7 +11,7 @@ use Rattle.key_orders.specs.declared.Tid.{Tid}
 use Rattle.key_orders.specs.Keys.{fits_columns}
 use Rattle.key_orders.specs.Orders.{fits_type}
 use Rattle.key_orders.specs.Types.{HasAlignment}
-use Rattle.varlena_attrs.specs.Keyed.{fits_more, key_types, more_types}
+use Rattle.key_attrs.specs.Keyed.{fits_more, key_types, more_types}
 use Rattle.page_write.specs.Bodies.{IsShortEnough, MayAllStand, MayStand}
 use Rattle.page_write.specs.Fields.{IsTid}
 use Rattle.tree_image.specs.Image.{leaf_entry}

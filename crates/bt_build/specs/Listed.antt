@@ -6,7 +6,7 @@ use Rattle.key_orders.specs.declared.more.MoreSpec.{MoreSpec}
 use Rattle.key_orders.specs.declared.Tid.{Tid}
 use Rattle.key_orders.specs.Keys.{IsKey}
 use Rattle.key_orders.specs.Types.{HasAlignment}
-use Rattle.varlena_attrs.specs.Keyed.{fits_more}
+use Rattle.key_attrs.specs.Keyed.{fits_more}
 use Rattle.tree_image.specs.Image.{LeafEntry}
 use Rattle.built_pages.specs.Items.{MayBeLaid, entry_types}
 

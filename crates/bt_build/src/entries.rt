@@ -3,7 +3,7 @@ ghost use Rattle.std.specs.Prelude.{◌≡◌, ◌≢◌, ◌<◌, [], ◌∷◌
 ghost use Rattle.std.specs.Prelude.{vec_len};
 ghost use Rattle.std.specs.Bool.{OnTrue};
 ghost use Rattle.key_orders.specs.Values.{value_shown};
-ghost use Rattle.varlena_attrs.specs.Keyed.{key_types, more_types};
+ghost use Rattle.key_attrs.specs.Keyed.{key_types, more_types};
 ghost use Rattle.page_write.specs.Bodies.{IsShortEnough};
 ghost use Rattle.tree_image.specs.Image.{leaf_entry};
 ghost use Rattle.bt_build.specs.Listed.{AreColumns, AreValues, IsNewTid, with_entry};

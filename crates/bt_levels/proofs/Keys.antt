@@ -8,7 +8,7 @@ use Rattle.key_orders.specs.declared.columns.ColType.{ColType}
 use Rattle.key_orders.specs.declared.columns.ColType.TheVariants.{Bool as BoolType, Int2, Int4, Int8, Uuid, Text, Bytea, Oid, Date, Timestamp, Timestamptz, Fixed, Varlena}
 use Rattle.key_orders.specs.declared.columns.KeySpec.{KeySpec}
 use Rattle.key_orders.specs.Types.{HasAlignment, may_be_key}
-use Rattle.varlena_attrs.specs.Keyed.{key_types, more_types}
+use Rattle.key_attrs.specs.Keyed.{key_types, more_types}
 use Rattle.case_file.specs.declared.case.Column.{Column}
 use Rattle.case_file.specs.Record.{CaseRecord, IndexRecord}
 use Rattle.case_file.specs.Sound.{IsSound, IsSoundIndex, IsSoundKey}

@@ -8,7 +8,7 @@ use Rattle.case_file.specs.Record.{CaseRecord}
 use Rattle.rel_files.specs.Blocks.{block_of}
 use Rattle.rel_files.specs.Relation.{IsAttached, base_of, count_of, size_of}
 use Rattle.tree_rules.specs.Rules.{KeepsLevelRules}
-use Rattle.varlena_attrs.specs.Columns.{TreeColumns}
+use Rattle.key_attrs.specs.Columns.{TreeColumns}
 use Rattle.tree_image.specs.Image.{TreeIndex, index_image}
 use Rattle.tree_image.specs.Pages.{KeepsTreeRules}
 use Rattle.bt_walks.specs.Counts.{half_dead_in, right_halves_in}

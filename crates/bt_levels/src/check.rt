@@ -17,12 +17,12 @@ use crate::sound::SoundTree;
 use bt_pages::TreeRules;
 use bt_walks::TreeShape;
 use case_file::Case;
+use key_attrs::IndexColumns;
 use key_orders::{KeySpec, MoreSpec, key_orders_are_total};
 use outside::{Files, NoMemory};
 use reports::{CheckFault, PageFault, Report};
 use std::alloc::Global;
 use tree_image::kept_rules_make_a_sound_image;
-use varlena_attrs::IndexColumns;
 
 // The columns of index `n` of a case.
 fn case_columns(case: &Case, n: u16) -> IndexColumns<'_>

@@ -1,14 +1,14 @@
 //! An index in which nothing was found.
 ghost use Rattle.std.specs.Prelude.{◌≤◌, All, length};
 ghost use Rattle.key_orders.specs.Types.{HasAlignment};
-ghost use Rattle.varlena_attrs.specs.Keyed.{key_types, more_types};
+ghost use Rattle.key_attrs.specs.Keyed.{key_types, more_types};
 
 use crate::files::TreeFile;
 use bt_walks::TreeShape;
+use key_attrs::IndexColumns;
 use key_orders::{KeySpec, MoreSpec};
 use outside::Files;
 use rel_files::{Ahead, ReadFault};
-use varlena_attrs::IndexColumns;
 
 /// The file of an index, in which nothing was found and nothing stayed unjudged, with its columns and what
 /// its levels have. It stores none of its bytes: it is used with the files and the case that it was made with.
@@ -26,7 +26,7 @@ pub struct SoundTree {
 
 impl SoundTree {
     ghost use Rattle.std.specs.Prelude.{◌≡◌, ◌<◌, OnOk};
-    ghost use Rattle.varlena_attrs.specs.Columns.{tree_columns};
+    ghost use Rattle.key_attrs.specs.Columns.{tree_columns};
     ghost use Rattle.outside.specs.Outside.{AskedAtMost, IfTold};
     ghost use Rattle.rel_files.specs.Ahead.{IsAheadOf, IsInHand, page_in_hand};
     ghost use Rattle.rel_files.specs.Blocks.{block_of};

@@ -11,9 +11,9 @@ ghost use Rattle.bt_pages.specs.Questions.{are_plain, breaks_on_page};
 use crate::high_key::{is_past_high_key, last_key_at};
 use crate::turns::read_item;
 use bt_tuples::ItemKeys;
+use key_attrs::IndexColumns;
 use page_layout::{PageKind, PageView, Rule};
 use tree_image::ItemPlaces;
-use varlena_attrs::IndexColumns;
 
 // Whether an item breaks B10.
 fn is_low_item(page: PageView<'_>, i: u16, columns: &IndexColumns<'_>) -> bool

@@ -12,10 +12,10 @@ ghost use Rattle.bt_pages.specs.Passes.{IsCarried};
 ghost use Rattle.bt_pages.specs.Questions.{are_plain, is_without_fault};
 
 use bt_tuples::{ItemKeys, TreeItem, tree_item};
+use key_attrs::IndexColumns;
 use key_orders::SepRef;
 use page_layout::{PageKind, PageView};
 use tree_image::{breaks_high_key, has_high_key, spot_of};
-use varlena_attrs::IndexColumns;
 
 // What an item keeps as a separator; one that is none keeps nothing.
 pub fn separator_in<'p>(item: TreeItem<'p>) -> SepRef<'p>

@@ -14,10 +14,10 @@ use crate::disorder::order_rule;
 use crate::pass::Pass;
 use bt_meta::tree_head;
 use bt_tuples::{ItemFault, tree_item};
+use key_attrs::IndexColumns;
 use page_layout::{PageKind, PageView, Rule};
 use reports::Reason;
 use tree_image::spot_of;
-use varlena_attrs::IndexColumns;
 
 /// What is found of an item before its downlink is followed.
 #[derive(Clone, Copy, Debug, PartialEq, Eq)]

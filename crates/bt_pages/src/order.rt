@@ -12,8 +12,8 @@ use crate::pass::Pass;
 use crate::quiet::is_quiet_leaf;
 use crate::turns::Turns;
 use bt_meta::opaque;
+use key_attrs::IndexColumns;
 use page_layout::{PageKind, PageView};
-use varlena_attrs::IndexColumns;
 
 // Goes over the items of a page that isn't half-dead.
 fn pass_over(page: PageView<'_>, columns: &IndexColumns<'_>) -> Pass

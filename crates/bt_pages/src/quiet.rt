@@ -13,9 +13,9 @@ ghost use Rattle.bt_pages.specs.declared.pass.Pass.TheVariants.{Ordered};
 use crate::high_key::{last_key_at, separator_in};
 use bt_meta::opaque;
 use bt_tuples::{Spot3, plain_entry_prefix, tree_item};
+use key_attrs::IndexColumns;
 use page_layout::{PageKind, PageView};
 use tree_image::{breaks_high_key, first_data, has_high_key};
-use varlena_attrs::IndexColumns;
 
 // Whether the data items of a leaf are plain entries, of which each has a greater number than the one before.
 fn do_entries_rise(page: PageView<'_>, first: u16, columns: &IndexColumns<'_>) -> bool

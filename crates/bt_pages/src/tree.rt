@@ -1,6 +1,6 @@
 //! What the rules of a tree's pages need to know of its index.
+use key_attrs::IndexColumns;
 use rel_files::Relation;
-use varlena_attrs::IndexColumns;
 
 /// An index whose pages are judged.
 #[derive(Clone, Copy)]

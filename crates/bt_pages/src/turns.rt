@@ -12,10 +12,10 @@ ghost use Rattle.bt_pages.specs.Passes.{IsCarried, held};
 ghost use Rattle.bt_pages.specs.Questions.{is_without_fault};
 
 use bt_tuples::ItemKeys;
+use key_attrs::IndexColumns;
 use key_orders::SepRef;
 use page_layout::{PageKind, PageView};
 use tree_image::{ItemPlace, ItemPlaces, breaks_order};
-use varlena_attrs::IndexColumns;
 
 // Reads an item into a place, where it is plain, and tells whether it isn't above the item before, whose
 // last key is in hand (B10). The place then has the key of the last entry.

@@ -5,7 +5,7 @@ use Rattle.page_layout.specs.Page.{count_of, item_of}
 use Rattle.tree_search.specs.Keys.{Entry, Separator}
 use Rattle.key_orders.specs.declared.columns.Value.{Value}
 use Rattle.key_orders.specs.declared.Tid.{Tid}
-use Rattle.varlena_attrs.specs.Columns.{TreeColumns}
+use Rattle.key_attrs.specs.Columns.{TreeColumns}
 use Rattle.bt_meta.specs.declared.records.HeadKind.{HeadKind}
 use Rattle.bt_meta.specs.declared.records.HeadKind.TheVariants as head
 use Rattle.bt_meta.specs.Heads.{tree_head_of}

@@ -8,7 +8,7 @@ use Rattle.tree_search.specs.Probe.{child_for, leaf_after}
 use Rattle.tree_search.specs.Search.{entries_of, right_of}
 use Rattle.key_orders.specs.declared.columns.Value.{Value}
 use Rattle.key_orders.specs.declared.Tid.{Tid}
-use Rattle.varlena_attrs.specs.Columns.{TreeColumns}
+use Rattle.key_attrs.specs.Columns.{TreeColumns}
 use Rattle.bt_meta.specs.Flags.{is_half_dead, is_leaf}
 use Rattle.bt_meta.specs.Pages.{is_idle, opaque_of}
 use Rattle.bt_levels.specs.declared.sound.SoundTree.{SoundTree}

@@ -1,6 +1,6 @@
 -- An entry's place on a page that is known by another name.
 use Rattle.std.proofs.Common.{◌≡◌, ℕ, List, subst}
-use Rattle.varlena_attrs.specs.Columns.{TreeColumns}
+use Rattle.key_attrs.specs.Columns.{TreeColumns}
 use Rattle.bt_search.specs.declared.spot.Spot.{Spot}
 use Rattle.bt_search.specs.Entries.{IsEntryAt}
 

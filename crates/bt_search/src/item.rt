@@ -7,7 +7,7 @@ ghost use Rattle.key_orders.specs.declared.columns.Value.{Value};
 ghost use Rattle.key_orders.specs.declared.Tid.{Tid as Place};
 ghost use Rattle.key_orders.specs.Keys.{IsKey};
 ghost use Rattle.key_orders.specs.Scans.{FitsKey, back_of, scan_of};
-ghost use Rattle.varlena_attrs.specs.Columns.{TreeColumns as Columns};
+ghost use Rattle.key_attrs.specs.Columns.{TreeColumns as Columns};
 ghost use Rattle.bt_meta.specs.Heads.{tree_head_of};
 ghost use Rattle.bt_tuples.specs.Items.{is_dead};
 ghost use Rattle.bt_tuples.specs.Tuples.{tid_at};

@@ -4,7 +4,7 @@ use Rattle.std.specs.Prelude.{Option, Some, Ok, Err, slice_get}
 use Rattle.tree_search.specs.Keys.{Entry}
 use Rattle.key_orders.specs.declared.columns.Value.{Value}
 use Rattle.key_orders.specs.declared.Tid.{Tid}
-use Rattle.varlena_attrs.specs.Columns.{TreeColumns}
+use Rattle.key_attrs.specs.Columns.{TreeColumns}
 use Rattle.bt_tuples.specs.declared.items.ItemFault.{ItemFault}
 use Rattle.bt_tuples.specs.declared.items.Spot3.{Spot3}
 use Rattle.bt_tuples.specs.declared.items.Spot3.TheVariants.{LeafItem}

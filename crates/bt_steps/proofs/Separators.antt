@@ -7,13 +7,13 @@ use Rattle.page_layout.specs.Page.{item_of}
 use Rattle.key_orders.specs.declared.columns.ColType.{ColType}
 use Rattle.key_orders.specs.declared.columns.Value.{Value}
 use Rattle.key_orders.specs.declared.Tid.{Tid}
-use Rattle.varlena_attrs.specs.Columns.{TreeColumns}
-use Rattle.varlena_attrs.specs.declared.keyed.KeyFault.TheVariants as fault
+use Rattle.key_attrs.specs.Columns.{TreeColumns}
+use Rattle.key_attrs.specs.declared.keyed.KeyFault.TheVariants as fault
 use Rattle.varlena_attrs.specs.Attributes.{presence_of}
 use Rattle.varlena_attrs.specs.Forms.{Attribute}
-use Rattle.varlena_attrs.specs.Keyed.{InlineStep, Inlines, KeyValues, attribute_values, first_packed, inline_step, key_types, key_values, put_before, read_inline, then_inline, unless_packed, values_by}
+use Rattle.key_attrs.specs.Keyed.{InlineStep, Inlines, KeyValues, attribute_values, first_packed, inline_step, key_types, key_values, put_before, read_inline, then_inline, unless_packed, values_by}
 use Rattle.varlena_attrs.specs.Reading.{attribute_at}
-use Rattle.varlena_attrs.proofs.Keying.{count_of_first}
+use Rattle.key_attrs.proofs.Keying.{count_of_first}
 use Rattle.bt_meta.specs.declared.records.HeadKind.{HeadKind}
 use Rattle.bt_meta.specs.declared.records.HeadKind.TheVariants as head
 use Rattle.bt_meta.specs.declared.records.TreeHead.{TreeHead}

@@ -6,7 +6,7 @@ use Rattle.tree_search.specs.Keys.{Entry, Separator}
 use Rattle.tree_search.specs.Order.{Scan}
 use Rattle.key_orders.specs.declared.columns.Value.{Value}
 use Rattle.key_orders.specs.declared.Tid.{Tid}
-use Rattle.varlena_attrs.specs.Columns.{TreeColumns}
+use Rattle.key_attrs.specs.Columns.{TreeColumns}
 use Rattle.bt_meta.specs.Flags.{is_half_dead, is_leaf}
 use Rattle.bt_meta.specs.Pages.{is_idle, opaque_of}
 use Rattle.tree_image.specs.Pages.{IsDataItem, IsPlainItem, breaks_items, breaks_order}

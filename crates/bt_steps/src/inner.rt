@@ -2,7 +2,7 @@
 ghost use Rattle.std.specs.Prelude.{◌≡◌, ◌≢◌, ◌<◌, ◌≤◌, ◌+◌, List, None, true, false};
 ghost use Rattle.page_layout.specs.Page.{count_of, page_rule_of};
 ghost use Rattle.page_layout.specs.View.{page_bytes};
-ghost use Rattle.varlena_attrs.specs.Columns.{TreeColumns as Columns, tree_columns};
+ghost use Rattle.key_attrs.specs.Columns.{TreeColumns as Columns, tree_columns};
 ghost use Rattle.bt_meta.specs.Flags.{is_half_dead, is_leaf};
 ghost use Rattle.bt_meta.specs.Pages.{opaque_of};
 ghost use Rattle.bt_tuples.specs.declared.items.Spot3.{Spot3 as Place};
@@ -14,9 +14,9 @@ ghost use Rattle.bt_steps.specs.Ways.{Leads, is_left_behind, is_passed};
 use crate::way::Way;
 use bt_meta::{opaque, tree_head};
 use bt_tuples::{ItemKeys, Spot3};
+use key_attrs::IndexColumns;
 use page_layout::{PageKind, PageView};
 use tree_image::{first_data, has_high_key, spot_of};
-use varlena_attrs::IndexColumns;
 
 /// What a visit to a page leads to.
 #[derive(Clone, Copy, Debug, PartialEq, Eq)]

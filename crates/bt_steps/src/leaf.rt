@@ -8,7 +8,7 @@ ghost use Rattle.tree_search.specs.Keys.{Entry as Given};
 ghost use Rattle.key_orders.specs.declared.columns.Value.{Value};
 ghost use Rattle.key_orders.specs.declared.Tid.{Tid as At};
 ghost use Rattle.key_orders.specs.Keys.{IsKey, tid_order};
-ghost use Rattle.varlena_attrs.specs.Columns.{tree_columns};
+ghost use Rattle.key_attrs.specs.Columns.{tree_columns};
 ghost use Rattle.bt_meta.specs.Flags.{is_half_dead, is_leaf};
 ghost use Rattle.bt_meta.specs.Pages.{opaque_of};
 ghost use Rattle.bt_tuples.specs.Rules.{are_not_rising};
@@ -21,11 +21,11 @@ use crate::inner::last_passed;
 use crate::way::{Sought, UpTo};
 use bt_meta::{is_idle, opaque};
 use bt_tuples::{ItemKeys, Spot3, TidList, TreeItem, tree_item};
+use key_attrs::IndexColumns;
 use key_orders::{Tid, cmp_values, key_orders_are_total};
 use page_layout::{PageKind, PageView};
 use std::cmp::Ordering;
 use tree_image::first_data;
-use varlena_attrs::IndexColumns;
 
 /// A place on a leaf: an item, counted from 1, and a TID of the item, counted from 0.
 #[derive(Clone, Copy, Debug, PartialEq, Eq)]

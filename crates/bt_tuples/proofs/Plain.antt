@@ -7,7 +7,7 @@ use Rattle.key_orders.specs.declared.columns.KeySpec.{KeySpec}
 use Rattle.key_orders.specs.declared.columns.Value.{Value}
 use Rattle.key_orders.specs.declared.more.MoreSpec.{MoreSpec}
 use Rattle.key_orders.specs.declared.Tid.{Tid}
-use Rattle.varlena_attrs.specs.Keyed.{key_types, key_values, more_types}
+use Rattle.key_attrs.specs.Keyed.{key_types, key_values, more_types}
 use Rattle.bt_meta.specs.declared.records.HeadKind.{HeadKind}
 use Rattle.bt_meta.specs.declared.records.HeadKind.TheVariants as kind
 use Rattle.bt_meta.specs.declared.records.TreeHead.{TreeHead}

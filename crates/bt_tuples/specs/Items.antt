@@ -12,7 +12,7 @@ use Rattle.key_orders.specs.declared.columns.Value.{Value}
 use Rattle.key_orders.specs.declared.more.MoreSpec.{MoreSpec}
 use Rattle.key_orders.specs.declared.Tid.{Tid}
 use Rattle.key_orders.specs.Keys.{IsKey, IsKeySeparator}
-use Rattle.varlena_attrs.specs.Keyed.{KeyValues}
+use Rattle.key_attrs.specs.Keyed.{KeyValues}
 use Rattle.bt_meta.specs.declared.records.HeadKind.{HeadKind}
 use Rattle.bt_meta.specs.declared.records.HeadKind.TheVariants as head
 use Rattle.bt_meta.specs.Heads.{tree_head_of}

@@ -8,7 +8,7 @@ use Rattle.key_orders.specs.declared.more.MoreSpec.{MoreSpec}
 use Rattle.key_orders.specs.declared.Tid.{Tid}
 use Rattle.key_orders.specs.Keys.{columns_of, fits_columns}
 use Rattle.key_orders.specs.Prefixes.{IsPrefix}
-use Rattle.varlena_attrs.specs.Keyed.{key_types, key_values, more_types}
+use Rattle.key_attrs.specs.Keyed.{key_types, key_values, more_types}
 use Rattle.bt_meta.specs.declared.records.HeadKind.TheVariants as kinds
 use Rattle.bt_meta.specs.declared.records.TreeHead.{TreeHead}
 use Rattle.bt_meta.specs.Heads.{tree_head_of}

@@ -10,8 +10,8 @@ use Rattle.key_orders.specs.declared.columns.KeySpec.{KeySpec}
 use Rattle.key_orders.specs.declared.more.MoreSpec.{MoreSpec}
 use Rattle.key_orders.specs.declared.Tid.{Tid}
 use Rattle.key_orders.specs.Keys.{tid_order}
-use Rattle.varlena_attrs.specs.declared.keyed.KeyFault.TheVariants as fault
-use Rattle.varlena_attrs.specs.Keyed.{KeyValues}
+use Rattle.key_attrs.specs.declared.keyed.KeyFault.TheVariants as fault
+use Rattle.key_attrs.specs.Keyed.{KeyValues}
 use Rattle.bt_meta.specs.declared.records.HeadKind.{HeadKind}
 use Rattle.bt_meta.specs.declared.records.HeadKind.TheVariants.{Pivot, Plain, Posting}
 use Rattle.bt_meta.specs.declared.records.TreeHead.{TreeHead}

@@ -6,7 +6,7 @@ use Rattle.key_orders.specs.declared.columns.KeySpec.{KeySpec}
 use Rattle.key_orders.specs.declared.more.MoreSpec.{MoreSpec}
 use Rattle.key_orders.specs.declared.Tid.{Tid}
 use Rattle.page_layout.specs.Page.{block_at, has_bit, u16_at}
-use Rattle.varlena_attrs.specs.Keyed.{KeyValues, key_types, key_values, more_types}
+use Rattle.key_attrs.specs.Keyed.{KeyValues, key_types, key_values, more_types}
 use Rattle.varlena_attrs.specs.Forms.{bytes_between}
 use Rattle.bt_meta.specs.declared.records.HeadKind.{HeadKind}
 use Rattle.bt_meta.specs.declared.records.HeadKind.TheVariants.{Pivot, Plain, Posting}

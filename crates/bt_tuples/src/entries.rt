@@ -9,9 +9,9 @@ ghost use Rattle.bt_tuples.specs.Plain.{HasPrefix, IsPlainEntry, IsPlainTuple, L
 use crate::heads::body_of;
 use crate::items::{Spot3, plain_tid};
 use crate::tuples::plain_head;
+use key_attrs::{IndexColumns, plain_first_value};
 use key_orders::{Tid, key_prefix};
 use page_layout::{LineFlag, PageKind, PageView};
-use varlena_attrs::{IndexColumns, plain_first_value};
 
 /// One entry of a leaf, as its bytes lie: a plain tuple without null bits.
 #[derive(Clone, Copy)]

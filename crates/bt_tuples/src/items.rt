@@ -13,9 +13,9 @@ use crate::heads::number_of;
 use crate::tids::TidList;
 use crate::tuples::{kept_tid, read_covering, read_tuple};
 use bt_meta::{HeadKind, TreeHead};
+use key_attrs::IndexColumns;
 use key_orders::{KeyRefs, MoreRefs, SepRef, Tid};
 use page_layout::{LineFlag, PageKind, PageView, Rule};
-use varlena_attrs::IndexColumns;
 
 /// The place of an item on its page, which says what form it has to have. The data items of a page
 /// are all but its high key.

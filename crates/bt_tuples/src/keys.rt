@@ -14,9 +14,9 @@ use crate::items::{ItemFault, Spot3, plain_tid};
 use crate::tids::TidList;
 use crate::tuples::{kept_tid, read_tuple};
 use bt_meta::{HeadKind, TreeHead};
+use key_attrs::IndexColumns;
 use key_orders::{SepRef, Tid};
 use page_layout::{PageKind, PageView, Rule};
-use varlena_attrs::IndexColumns;
 
 /// The keys of an item's first entry and of its last one, which differ in their TIDs alone; of a
 /// pivot both are what it keeps.

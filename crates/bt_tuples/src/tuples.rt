@@ -19,9 +19,9 @@ use crate::heads::{
 use crate::items::{ItemFault, Spot3};
 use crate::tids::{are_not_rising, tid_at};
 use bt_meta::{HeadKind, TreeHead, tree_head};
+use key_attrs::{IndexColumns, KeyFault, read_entry_attributes, read_key_attributes};
 use key_orders::{KeyRefs, MoreRefs, Tid};
 use page_layout::Rule;
-use varlena_attrs::{IndexColumns, KeyFault, read_entry_attributes, read_key_attributes};
 
 // Why a tuple whose values can't be told has no meaning.
 #[inline]

@@ -13,7 +13,7 @@ use Rattle.key_orders.specs.declared.Tid.{Tid}
 use Rattle.key_orders.specs.Keys.{columns_of, tid_order}
 use Rattle.key_orders.specs.Scans.{order_of}
 use Rattle.key_orders.specs.Types.{HasAlignment}
-use Rattle.varlena_attrs.specs.Keyed.{key_types, more_types}
+use Rattle.key_attrs.specs.Keyed.{key_types, more_types}
 use Rattle.page_write.specs.Bodies.{MayAllStand, body_flags, index_body}
 use Rattle.page_write.specs.Fields.{IsTid, MayKeep}
 use Rattle.tree_image.specs.Image.{LeafEntry}

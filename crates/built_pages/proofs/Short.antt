@@ -14,7 +14,7 @@ use Rattle.key_orders.specs.declared.Tid.{Tid}
 use Rattle.key_orders.specs.Keys.{columns_of, tid_order}
 use Rattle.key_orders.specs.Scans.{order_of}
 use Rattle.key_orders.specs.Types.{HasAlignment}
-use Rattle.varlena_attrs.specs.Keyed.{key_types, more_types}
+use Rattle.key_attrs.specs.Keyed.{key_types, more_types}
 use Rattle.page_write.specs.declared.index_tuples.BodyFlags.{BodyFlags}
 use Rattle.page_write.specs.Bodies.{body_flags, index_body}
 use Rattle.page_write.specs.Pages.{zeros}

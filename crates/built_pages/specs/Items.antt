@@ -7,7 +7,7 @@ use Rattle.key_orders.specs.declared.columns.KeySpec.{KeySpec}
 use Rattle.key_orders.specs.declared.columns.Value.{Value}
 use Rattle.key_orders.specs.declared.more.MoreSpec.{MoreSpec}
 use Rattle.key_orders.specs.declared.Tid.{Tid}
-use Rattle.varlena_attrs.specs.Keyed.{key_types, more_types}
+use Rattle.key_attrs.specs.Keyed.{key_types, more_types}
 use Rattle.bt_tuples.specs.declared.items.Spot3.TheVariants.{LeafItem}
 use Rattle.bt_tuples.specs.Items.{Item, meaning_of, tuple_outcome}
 use Rattle.bt_tuples.specs.Rules.{are_not_rising, includes_some}

@@ -1,5 +1,3 @@
-pub mod Walk
-pub mod Values
 pub mod Utf8
 pub mod Passing
 pub mod Rows

@@ -9,7 +9,7 @@ use Rattle.key_orders.specs.declared.columns.Value.TheVariants.{Null}
 use Rattle.key_orders.specs.Orders.{fits_type, is_between}
 use Rattle.key_orders.specs.Types.{fixed_length}
 use Rattle.key_orders.specs.Values.{value_in}
-use Rattle.case_file.specs.Rules.{is_len}
+use Rattle.case_rules.specs.Rules.{is_len}
 use Rattle.case_file.specs.Sound.{is_sound_type, octet_count}
 
 -- the number in 2, 4 or 8 bytes

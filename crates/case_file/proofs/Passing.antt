@@ -4,11 +4,11 @@ use Rattle.std.proofs.lemmas.Bool.{cases_Bool}
 use Rattle.std.proofs.lemmas.Option.{none-some}
 use Rattle.std.specs.List.{find, AllByRecursion}
 use Rattle.toml.specs.Data.{Members}
-use Rattle.case_file.specs.declared.fault.CaseRule.{CaseRule}
-use Rattle.case_file.specs.declared.fault.CaseRule.TheVariants.{C2, C3, C4, C5, C6, C7}
+use Rattle.case_rules.specs.declared.fault.CaseRule.{CaseRule}
+use Rattle.case_rules.specs.declared.fault.CaseRule.TheVariants.{C2, C3, C4, C5, C6, C7}
 use Rattle.case_file.specs.Case.{broken_or, first_broken, rules_in_order}
-use Rattle.case_file.specs.Rules.{breaks}
-use Rattle.case_file.specs.Spots.{Spot}
+use Rattle.case_rules.specs.Rules.{breaks}
+use Rattle.case_rules.specs.Spots.{Spot}
 
 pub record Passes (top : Members) (s : Spot) : Type 0 where
   pub c2 : breaks top C2 s ≡ false

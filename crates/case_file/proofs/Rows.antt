@@ -7,17 +7,17 @@ use Rattle.std.specs.Int.{is_in_range, IsInRange}
 use Rattle.std.specs.List.{list_all}
 use Rattle.std.specs.Option.{option_map_or}
 use Rattle.toml.specs.Data.{Data, string, integer, float, boolean, datetime, array, table, Members, get_member, as_integer, as_str, as_table}
-use Rattle.case_file.specs.declared.keys.Place.{Place}
-use Rattle.case_file.specs.declared.keys.Key.{Key}
-use Rattle.case_file.specs.declared.keys.Kind.TheVariants.{Integer, Text, Table, Tables}
-use Rattle.case_file.specs.declared.keys.Need.{Need}
-use Rattle.case_file.specs.declared.keys.Need.TheVariants.{Always, Optional, WithToastFile, WithToastOid, OfFixed, OfStored}
-use Rattle.case_file.specs.declared.keys.Range.TheVariants.{Between, Alignment}
-use Rattle.case_file.specs.Keys.{row_of}
-use Rattle.case_file.specs.Rules.{applies, breaks, fails, has_other_kind, is_absent, is_align, is_between, is_fit, is_needed, is_of, is_out_of_range}
-use Rattle.case_file.specs.Rules.{number_is_in_range}
-use Rattle.case_file.specs.Spots.{listed}
-use Rattle.case_file.specs.Tables.{as_tables, below_2_32, has, is_table, number_at, tables_in, text_at, text_in, values_in, values_of}
+use Rattle.case_rules.specs.declared.keys.Place.{Place}
+use Rattle.case_rules.specs.declared.keys.Key.{Key}
+use Rattle.case_rules.specs.declared.keys.Kind.TheVariants.{Integer, Text, Table, Tables}
+use Rattle.case_rules.specs.declared.keys.Need.{Need}
+use Rattle.case_rules.specs.declared.keys.Need.TheVariants.{Always, Optional, WithToastFile, WithToastOid, OfFixed, OfStored}
+use Rattle.case_rules.specs.declared.keys.Range.TheVariants.{Between, Alignment}
+use Rattle.case_rules.specs.Keys.{row_of}
+use Rattle.case_rules.specs.Rules.{applies, breaks, fails, has_other_kind, is_absent, is_align, is_between, is_fit, is_needed, is_of, is_out_of_range}
+use Rattle.case_rules.specs.Rules.{number_is_in_range}
+use Rattle.case_rules.specs.Spots.{listed}
+use Rattle.case_rules.specs.Tables.{as_tables, below_2_32, has, is_table, number_at, tables_in, text_at, text_in, values_in, values_of}
 use Rattle.case_file.proofs.Passing.{Passes}
 
 pub in_range : (low high n : ℕ) → is_in_range low high n ≡ true → IsInRange low high n

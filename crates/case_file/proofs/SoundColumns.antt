@@ -15,17 +15,17 @@ use Rattle.key_orders.specs.Orders.{fits_type}
 use Rattle.key_orders.specs.Types.{fixed_length}
 use Rattle.key_orders.specs.Values.{value_in}
 use Rattle.toml.specs.Data.{Data, string, integer, float, boolean, datetime, array, table, Members, get_member, as_str, as_table}
-use Rattle.case_file.specs.declared.keys.Place.TheVariants.{Column}
-use Rattle.case_file.specs.declared.keys.Key.TheVariants.{ColumnType, ColumnLen, ColumnAlign}
-use Rattle.case_file.specs.declared.keys.Kind.TheVariants.{Text as TextKind}
-use Rattle.case_file.specs.declared.keys.Range.TheVariants.{StoredBytes}
+use Rattle.case_rules.specs.declared.keys.Place.TheVariants.{Column}
+use Rattle.case_rules.specs.declared.keys.Key.TheVariants.{ColumnType, ColumnLen, ColumnAlign}
+use Rattle.case_rules.specs.declared.keys.Kind.TheVariants.{Text as TextKind}
+use Rattle.case_rules.specs.declared.keys.Range.TheVariants.{StoredBytes}
 use Rattle.case_file.specs.Columns.{below_or_zero, column_of, decoded, missing_of, stored_type, told_type}
-use Rattle.case_file.specs.Keys.{keys_of, row_of}
-use Rattle.case_file.specs.Rules.{applies, breaks, fails, has_known_type, has_other_kind, has_type, is_align, is_fit, is_len, is_missing_text, is_needed, is_of}
-use Rattle.case_file.specs.Rules.{is_out_of_range, is_stored_len, is_told, is_told_len, is_unknown, key_type, key_types, has_key_type}
+use Rattle.case_rules.specs.Keys.{keys_of, row_of}
+use Rattle.case_rules.specs.Rules.{applies, breaks, fails, has_known_type, has_other_kind, has_type, is_align, is_fit, is_len, is_missing_text, is_needed, is_of}
+use Rattle.case_rules.specs.Rules.{is_out_of_range, is_stored_len, is_told, is_told_len, is_unknown, key_type, key_types, has_key_type}
 use Rattle.case_file.specs.Sound.{IsSoundColumn, is_sound_type, octet_count}
-use Rattle.case_file.specs.Spots.{column_spots, flat_map_from, in_table, listed}
-use Rattle.case_file.specs.Tables.{number_at, text_at}
+use Rattle.case_rules.specs.Spots.{column_spots, flat_map_from, in_table, listed}
+use Rattle.case_rules.specs.Tables.{number_at, text_at}
 use Rattle.case_file.proofs.Passing.{EachPasses, Passes, passes_after, passes_before}
 use Rattle.case_file.proofs.MissingValues.{null_fits, value_fits, value_is_small}
 use Rattle.case_file.proofs.Rows.{align_found, needed_key, number_in_range}

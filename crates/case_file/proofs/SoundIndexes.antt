@@ -8,18 +8,18 @@ use Rattle.std.specs.List.{AllByRecursion, list_all, list_any, position, positio
 use Rattle.std.specs.Option.{option_map_or}
 use Rattle.key_orders.specs.Types.{may_be_key}
 use Rattle.toml.specs.Data.{Data, Members, get_member, as_str, as_table}
-use Rattle.case_file.specs.declared.keys.Place.{Place}
-use Rattle.case_file.specs.declared.keys.Place.TheVariants.{Index, IndexKey}
-use Rattle.case_file.specs.declared.keys.Key.{Key}
-use Rattle.case_file.specs.declared.keys.Key.TheVariants.{IndexName, IndexFile, IndexKeys, IndexInclude, KeyColumn}
+use Rattle.case_rules.specs.declared.keys.Place.{Place}
+use Rattle.case_rules.specs.declared.keys.Place.TheVariants.{Index, IndexKey}
+use Rattle.case_rules.specs.declared.keys.Key.{Key}
+use Rattle.case_rules.specs.declared.keys.Key.TheVariants.{IndexName, IndexFile, IndexKeys, IndexInclude, KeyColumn}
 use Rattle.case_file.specs.Columns.{column_of, stored_type, told_type}
 use Rattle.case_file.specs.Indexes.{any_column_named, column_named, index_of, key_of, more_of}
-use Rattle.case_file.specs.Keys.{keys_of, row_of}
-use Rattle.case_file.specs.Rules.{applies, breaks, has_name, is_fit, is_key_column, is_needed, is_out_of_range, is_told, is_unknown, key_type}
-use Rattle.case_file.specs.Rules.{key_types, has_key_type, names_no_column}
+use Rattle.case_rules.specs.Keys.{keys_of, row_of}
+use Rattle.case_rules.specs.Rules.{applies, breaks, has_name, is_fit, is_key_column, is_needed, is_out_of_range, is_told, is_unknown, key_type}
+use Rattle.case_rules.specs.Rules.{key_types, has_key_type, names_no_column}
 use Rattle.case_file.specs.Sound.{IsSoundIndex, IsSoundKey, IsSoundMore}
-use Rattle.case_file.specs.Spots.{element, element_spots, flat_map_from, in_table, include_spots, index_keys_spots, index_spots, key_spots, listed, unique_spots}
-use Rattle.case_file.specs.Tables.{is_table, tables_at, text_at, text_in, values_at}
+use Rattle.case_rules.specs.Spots.{element, element_spots, flat_map_from, in_table, include_spots, index_keys_spots, index_spots, key_spots, listed, unique_spots}
+use Rattle.case_rules.specs.Tables.{is_table, tables_at, text_at, text_in, values_at}
 use Rattle.case_file.proofs.Passing.{EachPasses, Passes, passes_after, passes_before}
 use Rattle.case_file.proofs.Rows.{few_values, needed_key, needed_tables, text_found, text_in_range}
 use Rattle.case_file.proofs.SoundColumns.{below-kept, found_or}

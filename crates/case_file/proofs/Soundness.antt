@@ -9,19 +9,19 @@ use Rattle.std.specs.Int.{IsInRange}
 use Rattle.std.specs.Option.{ForSome}
 use Rattle.toml.specs.Data.{Data, string, integer, float, boolean, datetime, array, table, Members, get_member, as_str}
 use Rattle.rel_files.specs.Ranges.{distance}
-use Rattle.case_file.specs.declared.keys.Place.TheVariants.{Top, Cluster, Heap}
-use Rattle.case_file.specs.declared.keys.Key.TheVariants.{SegmentBlocks, ClusterTable, NextXid, OldestXid, NextMulti, OldestMulti, NextMember, XactDir}
-use Rattle.case_file.specs.declared.keys.Key.TheVariants.{OffsetsDir, MembersDir, HeapTable, HeapFile, ToastOid, Columns}
-use Rattle.case_file.specs.declared.keys.Kind.TheVariants.{Text}
+use Rattle.case_rules.specs.declared.keys.Place.TheVariants.{Top, Cluster, Heap}
+use Rattle.case_rules.specs.declared.keys.Key.TheVariants.{SegmentBlocks, ClusterTable, NextXid, OldestXid, NextMulti, OldestMulti, NextMember, XactDir}
+use Rattle.case_rules.specs.declared.keys.Key.TheVariants.{OffsetsDir, MembersDir, HeapTable, HeapFile, ToastOid, Columns}
+use Rattle.case_rules.specs.declared.keys.Kind.TheVariants.{Text}
 use Rattle.case_file.specs.Case.{cluster_of, first_broken, record_of, rules_in_order, segment_blocks_of, toast_of}
 use Rattle.case_file.specs.Columns.{column_of}
 use Rattle.case_file.specs.Indexes.{index_of}
-use Rattle.case_file.specs.Keys.{keys_of, row_of}
-use Rattle.case_file.specs.Rules.{applies, at_least_one, breaks, fails, has_other_kind, has_too_old, is_between, is_fit, is_needed, is_of, is_out_of_range}
-use Rattle.case_file.specs.Rules.{is_too_old}
+use Rattle.case_rules.specs.Keys.{keys_of, row_of}
+use Rattle.case_rules.specs.Rules.{applies, at_least_one, breaks, fails, has_other_kind, has_too_old, is_between, is_fit, is_needed, is_of, is_out_of_range}
+use Rattle.case_rules.specs.Rules.{is_too_old}
 use Rattle.case_file.specs.Sound.{IsPath, IsSound, IsSoundCluster}
-use Rattle.case_file.specs.Spots.{cluster_part, column_part, heap_part, in_table, index_part, listed, spots, top_part}
-use Rattle.case_file.specs.Tables.{has, number_at, number_in, table_at, tables_at, text_at, text_in}
+use Rattle.case_rules.specs.Spots.{cluster_part, column_part, heap_part, in_table, index_part, listed, spots, top_part}
+use Rattle.case_rules.specs.Tables.{has, number_at, number_in, table_at, tables_at, text_at, text_in}
 use Rattle.case_file.proofs.Passing.{each_passes, EachPasses, Passes, passes_after, passes_before}
 use Rattle.case_file.proofs.Rows.{needed_key, needed_tables, number_in_range, optional_number, optional_tables, table_found, text_fits, text_in_range}
 use Rattle.case_file.proofs.SoundColumns.{sound_columns}

@@ -5,16 +5,16 @@ use Rattle.std.specs.Str.{is_utf8}
 use Rattle.rel_files.specs.declared.cluster.Cluster.{Cluster}
 use Rattle.toml.specs.Data.{Members}
 use Rattle.toml.specs.Parse.{parse_document}
-use Rattle.case_file.specs.declared.fault.CaseRule.{CaseRule}
-use Rattle.case_file.specs.declared.fault.CaseRule.TheVariants.{C1, C2, C3, C4, C5, C6, C7}
-use Rattle.case_file.specs.declared.fault.CaseFault.{CaseFault}
-use Rattle.case_file.specs.declared.fault.CaseFault.TheVariants.{Refused, NoMemory}
+use Rattle.case_rules.specs.declared.fault.CaseRule.{CaseRule}
+use Rattle.case_rules.specs.declared.fault.CaseRule.TheVariants.{C1, C2, C3, C4, C5, C6, C7}
+use Rattle.case_rules.specs.declared.fault.CaseFault.{CaseFault}
+use Rattle.case_rules.specs.declared.fault.CaseFault.TheVariants.{Refused, NoMemory}
 use Rattle.case_file.specs.Columns.{column_of}
 use Rattle.case_file.specs.Indexes.{index_of}
 use Rattle.case_file.specs.Record.{CaseRecord}
-use Rattle.case_file.specs.Rules.{at_least_one, breaks}
-use Rattle.case_file.specs.Spots.{Spot, spot_text, spots}
-use Rattle.case_file.specs.Tables.{has, number_at, number_in, table_at, tables_at, text_at, text_in}
+use Rattle.case_rules.specs.Rules.{at_least_one, breaks}
+use Rattle.case_rules.specs.Spots.{Spot, spot_text, spots}
+use Rattle.case_rules.specs.Tables.{has, number_at, number_in, table_at, tables_at, text_at, text_in}
 
 -- the first of the rules that a spot breaks, with the first spot that breaks it
 abbrev pub broken_or : CaseRule → Option Spot → Option (CaseRule × Spot) → Option (CaseRule × Spot)

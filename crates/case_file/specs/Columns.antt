@@ -11,8 +11,8 @@ use Rattle.key_orders.specs.declared.columns.Value.TheVariants.{Null}
 use Rattle.key_orders.specs.Values.{value_in}
 use Rattle.toml.specs.Data.{Data, Members, as_table}
 use Rattle.case_file.specs.declared.case.Column.{Column}
-use Rattle.case_file.specs.Rules.{has_type, key_type}
-use Rattle.case_file.specs.Tables.{number_at, text_at}
+use Rattle.case_rules.specs.Rules.{has_type, key_type}
+use Rattle.case_rules.specs.Tables.{number_at, text_at}
 
 -- a number below a limit, and 0 for any other
 abbrev pub below_or_zero : ℕ → ℕ → ℕ

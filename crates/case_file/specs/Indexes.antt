@@ -9,8 +9,8 @@ use Rattle.case_file.specs.declared.case.Unique.{Unique}
 use Rattle.case_file.specs.declared.case.Unique.TheVariants.{No, NullsDistinct, NullsEqual}
 use Rattle.case_file.specs.Columns.{below_or_zero, told_type}
 use Rattle.case_file.specs.Record.{IndexRecord}
-use Rattle.case_file.specs.Rules.{has_name, is_key_column}
-use Rattle.case_file.specs.Tables.{flag_in, tables_at, text_in, values_at}
+use Rattle.case_rules.specs.Rules.{has_name, is_key_column}
+use Rattle.case_rules.specs.Tables.{flag_in, tables_at, text_in, values_at}
 
 -- the number, from 0, of the first column of a name that may be a key
 unfoldable pub column_named : List Data → List ℕ → ℕ

@@ -1,7 +1,3 @@
-pub mod Keys
-pub mod Tables
-pub mod Spots
-pub mod Rules
 pub mod Record
 pub mod Columns
 pub mod Indexes

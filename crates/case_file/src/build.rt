@@ -3,13 +3,14 @@ ghost use Rattle.std.specs.Prelude.{◌≡◌, option_map, IfOk, None};
 ghost use Rattle.toml.specs.View.{table_view};
 ghost use Rattle.case_file.specs.Case.{cluster_of, first_broken, record_of, rules_in_order, segment_blocks_of};
 ghost use Rattle.case_file.specs.Case.{toast_of};
-ghost use Rattle.case_file.specs.Spots.{spots};
+ghost use Rattle.case_rules.specs.Spots.{spots};
 
 use crate::case::{Case, Toast};
 use crate::columns::{columns_of, types_of};
 use crate::indexes::indexes_of;
-use crate::rules::at_least_one;
-use crate::tables::{copied, has, number_at, number_in, string_in, table_at, tables_at, text_at};
+use case_rules::{
+    at_least_one, copied, has, number_at, number_in, string_in, table_at, tables_at, text_at,
+};
 use outside::NoMemory;
 use rel_files::Cluster;
 use std::alloc::Global;

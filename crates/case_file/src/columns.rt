@@ -6,11 +6,10 @@ ghost use mir.Syntax.{w16, w32, w64};
 ghost use Rattle.key_orders.specs.Values.{value_in};
 ghost use Rattle.toml.specs.View.{view, table_view};
 ghost use Rattle.case_file.specs.Columns.{below_or_zero, column_of, decoded, missing_of, stored_type, told_type};
-ghost use Rattle.case_file.specs.Tables.{text_at};
+ghost use Rattle.case_rules.specs.Tables.{text_at};
 
 use crate::case::Column;
-use crate::rules::{has_type, key_type};
-use crate::tables::{number_at, text_at};
+use case_rules::{has_type, key_type, number_at, text_at};
 use hex::FromHexError;
 use key_orders::{ColType, Octets, Value as Stored};
 use outside::NoMemory;

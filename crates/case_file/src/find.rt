@@ -2,16 +2,14 @@
 ghost use Rattle.std.specs.Prelude.{◌≡◌, find, option_map};
 ghost use Rattle.toml.specs.View.{table_view};
 ghost use Rattle.case_file.specs.Case.{first_broken};
-ghost use Rattle.case_file.specs.Rules.{breaks};
-ghost use Rattle.case_file.specs.Spots.{spot_view, spots_view};
+ghost use Rattle.case_rules.specs.Rules.{breaks};
+ghost use Rattle.case_rules.specs.Spots.{spot_view, spots_view};
 
-use crate::fault::CaseRule;
-use crate::rules::breaks;
-use crate::spots::Spot;
+use case_rules::{CaseRule, Spot, breaks};
 use toml::Table;
 
 // The first spot that breaks a rule.
-#[tactic(auto, unfolding(crate::specs::Spots::spots_view))]
+#[tactic(auto, unfolding(case_rules::specs::Spots::spots_view))]
 fn first_spot<'a>(top: &Table, rule: CaseRule, spots: &[Spot<'a>]) -> Option<Spot<'a>>
     ensures { option_map spot_view result ≡ find (breaks (table_view top.now) rule) (spots_view spots.now) }
 {

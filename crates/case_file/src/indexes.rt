@@ -3,12 +3,11 @@ ghost use Rattle.std.specs.Prelude.{◌≡◌, map, option_copied, option_map, I
 ghost use Rattle.toml.specs.View.{view, table_view};
 ghost use Rattle.case_file.specs.Indexes.{any_column_named, column_named, index_of, key_of, keys_in, more_in, more_of};
 ghost use Rattle.case_file.specs.Indexes.{table_of, unique_in};
-ghost use Rattle.case_file.specs.Rules.{has_name, is_key_column};
+ghost use Rattle.case_rules.specs.Rules.{has_name, is_key_column};
 
 use crate::case::{Index, Unique};
 use crate::columns::{below_2_16, told_type};
-use crate::rules::{has_name, is_key_column};
-use crate::tables::{flag_in, string_in, tables_at, text_in, values_at};
+use case_rules::{flag_in, has_name, is_key_column, string_in, tables_at, text_in, values_at};
 use key_orders::{KeySpec, MoreSpec};
 use outside::NoMemory;
 use std::alloc::Global;
@@ -22,7 +21,7 @@ fn position_of(columns: &[Value], name: &str) -> Option<usize>
         .position(|column| is_key_column(Some(name), column))
 }
 
-#[tactic(auto, unfolding(crate::specs::Indexes::column_named), using(crate::proofs::Values::position_laws))]
+#[tactic(auto, unfolding(crate::specs::Indexes::column_named), using(case_rules::proofs::Values::position_laws))]
 fn column_named(columns: &[Value], name: &str) -> usize
     ensures { result ≡ column_named (map view columns.now) name.now }
 {
@@ -38,7 +37,7 @@ fn any_position_of(columns: &[Value], name: Option<&str>) -> Option<usize>
     columns.iter().position(|column| has_name(name, column))
 }
 
-#[tactic(auto, unfolding(crate::specs::Indexes::any_column_named), using(crate::proofs::Values::position_laws))]
+#[tactic(auto, unfolding(crate::specs::Indexes::any_column_named), using(case_rules::proofs::Values::position_laws))]
 fn any_column_named(columns: &[Value], name: Option<&str>) -> usize
     ensures { result ≡ any_column_named (map view columns.now) (option_copied name.entry) }
 {
@@ -48,7 +47,7 @@ fn any_column_named(columns: &[Value], name: Option<&str>) -> usize
     }
 }
 
-#[tactic(auto, using(crate::proofs::Values::gets_laws))]
+#[tactic(auto, using(case_rules::proofs::Values::gets_laws))]
 fn table_of(columns: &[Value], k: usize) -> Option<&Table>
     ensures { option_map (λ t. table_view t.now) result ≡ table_of (map view columns.now) k }
 {

@@ -7,17 +7,11 @@
 mod build;
 mod case;
 mod columns;
-mod fault;
 mod find;
 mod generated;
 mod indexes;
-mod keys;
 mod read;
-mod rules;
-mod spots;
-mod tables;
-mod texts;
 
 pub use case::{Case, Column, Unique};
-pub use fault::{CaseFault, CaseRule};
+pub use case_rules::{CaseFault, CaseRule};
 pub use read::read_case;

@@ -5,10 +5,8 @@ ghost use Rattle.toml.specs.View.{table_view};
 
 use crate::build::case_of_table;
 use crate::case::Case;
-use crate::fault::{CaseFault, CaseRule};
 use crate::find::first_broken;
-use crate::spots::all_spots;
-use crate::texts::spot_text;
+use case_rules::{CaseFault, CaseRule, all_spots, spot_text};
 use key_orders::Octets;
 use std::alloc::Global;
 use toml::Table;

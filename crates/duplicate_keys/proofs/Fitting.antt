@@ -20,7 +20,7 @@ use Rattle.key_orders.specs.Keys.{columns_of, tid_order}
 use Rattle.key_orders.specs.Scans.{order_of}
 use Rattle.case_file.specs.Record.{CaseRecord}
 use Rattle.case_file.specs.Sound.{IsSound}
-use Rattle.varlena_attrs.specs.Columns.{TreeColumns}
+use Rattle.key_attrs.specs.Columns.{TreeColumns}
 use Rattle.bt_levels.specs.declared.sound.SoundTree.{SoundTree}
 use Rattle.bt_levels.specs.Files.{number_of}
 use Rattle.bt_levels.specs.Sound.{file_of, image_of, index_columns, specs_of}

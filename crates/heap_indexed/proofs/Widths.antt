@@ -12,8 +12,8 @@ use Rattle.tree_search.proofs.Gather.{In-from_Contains, block_of}
 use Rattle.page_layout.specs.Page.{item_of}
 use Rattle.key_orders.specs.declared.columns.Value.{Value}
 use Rattle.key_orders.specs.declared.Tid.{Tid}
-use Rattle.varlena_attrs.specs.Columns.{TreeColumns}
-use Rattle.varlena_attrs.specs.Keyed.{KeyValues, key_types, key_values, more_types}
+use Rattle.key_attrs.specs.Columns.{TreeColumns}
+use Rattle.key_attrs.specs.Keyed.{KeyValues, key_types, key_values, more_types}
 use Rattle.bt_meta.specs.Heads.{tree_head_of}
 use Rattle.bt_meta.specs.declared.records.HeadKind.{HeadKind}
 use Rattle.bt_meta.specs.declared.records.HeadKind.TheVariants as head

@@ -4,7 +4,7 @@ use Rattle.std.specs.List.{flat_map}
 use Rattle.outside.specs.Outside.{Names}
 use Rattle.key_orders.specs.declared.columns.Value.{Value}
 use Rattle.key_orders.specs.declared.Tid.{Tid}
-use Rattle.varlena_attrs.specs.Columns.{TreeColumns}
+use Rattle.key_attrs.specs.Columns.{TreeColumns}
 use Rattle.bt_levels.specs.declared.sound.SoundTree.{SoundTree}
 use Rattle.bt_levels.specs.Sound.{index_columns}
 use Rattle.case_file.specs.Record.{CaseRecord}

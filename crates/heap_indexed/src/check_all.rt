@@ -2,7 +2,7 @@
 ghost use Rattle.std.specs.Prelude.{◌≡◌, ◌⊎◌, ◌+◌, ◌++◌, ◌∷◌, [], IfErr, IfOk, List, OnOk, length, map};
 ghost use Rattle.outside.specs.Outside.{Asked, IfTold, Names, Tells};
 ghost use Rattle.reports.specs.Added.{joined, nothing};
-ghost use Rattle.varlena_attrs.specs.Columns.{tree_columns};
+ghost use Rattle.key_attrs.specs.Columns.{tree_columns};
 ghost use Rattle.bt_levels.specs.Files.{number_of};
 ghost use Rattle.bt_levels.specs.Sound.{file_of};
 ghost use Rattle.heap_check.specs.RowCursor.{AreAsked, asked_at};
@@ -19,13 +19,13 @@ use crate::meeting::Meeting;
 use crate::ranges::Ranges;
 use bt_levels::SoundTree;
 use heap_check::RowCursor;
+use key_attrs::IndexColumns;
 use outside::{Files, NoMemory};
 use reports::{CheckFault, PageFault, Report};
 use root_set::set_tells_of_pages;
 use row_keys::{IndexedHeap, columns_of};
 use std::alloc::Global;
 use std::collections::VecDeque;
-use varlena_attrs::IndexColumns;
 
 // The rows of a heap of fewer blocks are looked up.
 const MEET_BLOCKS: u32 = 64;

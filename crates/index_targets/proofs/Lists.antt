@@ -12,7 +12,7 @@ use Rattle.bt_meta.specs.declared.records.HeadKind.{HeadKind}
 use Rattle.bt_meta.specs.declared.records.HeadKind.TheVariants as head
 use Rattle.tree_image.specs.Image.{first_data, keys_in}
 use Rattle.tree_search.specs.Keys.{Entry}
-use Rattle.varlena_attrs.specs.Columns.{TreeColumns}
+use Rattle.key_attrs.specs.Columns.{TreeColumns}
 use Rattle.bt_steps.specs.Entries.{IsRead, keys_at}
 use Rattle.bt_steps.proofs.Items.{keys-are}
 use Rattle.bt_steps.specs.Pages.{is_live_leaf}

@@ -4,7 +4,7 @@ use Rattle.std.specs.Prelude.{Ok, Some}
 use Rattle.std.proofs.lemmas.Grind.{common_steps}
 use Rattle.outside.specs.declared.files.Failed.{Failed}
 use Rattle.outside.specs.Outside.{AskedWithin, Names, Seen, failed}
-use Rattle.varlena_attrs.specs.Columns.{TreeColumns}
+use Rattle.key_attrs.specs.Columns.{TreeColumns}
 use Rattle.bt_levels.specs.declared.sound.SoundTree.{SoundTree}
 use Rattle.bt_levels.specs.Sound.{HoldsTree, block_count, held_block, index_columns}
 use Rattle.bt_steps.specs.Pages.{IsReadable, is_live_leaf}

@@ -1,7 +1,7 @@
 -- What a pass over the leaves of an index finds of what its entries name, where that is asked.
 use Rattle.std.specs.Prelude.{◌≡◌, ℕ, ◌-◌, Bool, true, List, Option, None, Some}
 use Rattle.outside.specs.Outside.{Names}
-use Rattle.varlena_attrs.specs.Columns.{TreeColumns}
+use Rattle.key_attrs.specs.Columns.{TreeColumns}
 use Rattle.reports.specs.Added.{each_upto, nothing, report_lists}
 use Rattle.reports.specs.Lists.{Lists}
 use Rattle.bt_levels.specs.declared.sound.SoundTree.{SoundTree}

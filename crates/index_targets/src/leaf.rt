@@ -4,7 +4,7 @@ ghost use Rattle.std.specs.Bool.{OnTrue};
 ghost use Rattle.outside.specs.Adds.{AddsIn};
 ghost use Rattle.page_layout.specs.Page.{count_of, page_rule_of};
 ghost use Rattle.page_layout.specs.View.{page_bytes};
-ghost use Rattle.varlena_attrs.specs.Columns.{TreeColumns, tree_columns};
+ghost use Rattle.key_attrs.specs.Columns.{TreeColumns, tree_columns};
 ghost use Rattle.tree_image.specs.Image.{first_data};
 ghost use Rattle.bt_steps.specs.Entries.{IsRead};
 ghost use Rattle.bt_steps.specs.Pages.{IsReadable, is_live_leaf};
@@ -18,6 +18,7 @@ use crate::spans::Span;
 use apart_keys::{Rise, is_page_apart};
 use bt_steps::is_live_leaf;
 use bt_tuples::{Spot3, TidList, TreeItem, plain_entry, tree_item};
+use key_attrs::IndexColumns;
 use key_orders::Tid;
 use leaf_meets::RowsAhead;
 use outside::NoMemory;
@@ -25,7 +26,6 @@ use page_layout::{PageKind, PageView, Rule};
 use reports::{Place, Report};
 use root_set::RootSet;
 use tree_image::first_data;
-use varlena_attrs::IndexColumns;
 
 /// An index, by its number in the case, from 1, and its columns; and the set of what its entries may name.
 #[derive(Clone, Copy)]

@@ -9,7 +9,7 @@ use Rattle.page_layout.specs.Page.{count_of}
 use Rattle.page_layout.specs.declared.rules.Rule.{Rule}
 use Rattle.page_layout.specs.declared.rules.Rule.TheVariants.{X1, X2, X3}
 use Rattle.tree_search.specs.Keys.{Entry as Given}
-use Rattle.varlena_attrs.specs.Columns.{TreeColumns}
+use Rattle.key_attrs.specs.Columns.{TreeColumns}
 use Rattle.key_orders.specs.declared.columns.Value.{Value}
 use Rattle.key_orders.specs.declared.Tid.{Tid}
 use Rattle.case_file.specs.Record.{CaseRecord}

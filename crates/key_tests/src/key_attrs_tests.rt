@@ -1,13 +1,13 @@
 //! Index tuples by hand, with the values that a server reads in them.
 ghost use Rattle.std.specs.Prelude.{◌≤◌, All, length};
 ghost use Rattle.key_orders.specs.Types.{HasAlignment};
-ghost use Rattle.varlena_attrs.specs.Keyed.{key_types};
+ghost use Rattle.key_attrs.specs.Keyed.{key_types};
 
 use crate::checks::{holds, same};
+use key_attrs::{IndexColumns, KeyFault, entry_attributes, key_attributes};
 use key_orders::{ColType, KeySpec, MoreSpec, ValueRef};
 use std::process::Abort;
 use std::test::Fail;
-use varlena_attrs::{IndexColumns, KeyFault, entry_attributes, key_attributes};
 
 const NUMBER: KeySpec = KeySpec {
     column: 0,

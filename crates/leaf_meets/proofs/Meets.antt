@@ -4,7 +4,7 @@ use Rattle.std.specs.Prelude.{cond, filter, if◌then◌else◌, map, Option, So
 use Rattle.key_orders.specs.declared.columns.Value.{Value}
 use Rattle.key_orders.specs.declared.Tid.{Tid}
 use Rattle.bt_tuples.specs.Items.{Posting}
-use Rattle.varlena_attrs.specs.Columns.{TreeColumns}
+use Rattle.key_attrs.specs.Columns.{TreeColumns}
 use Rattle.tree_image.specs.Image.{LeafEntry, entries_in, leaf_entry, page_entries}
 use Rattle.bt_steps.specs.Pages.{is_live_leaf}
 use Rattle.row_slots.specs.Met.{Keyed, Keys, Mets, keyed, met_after, met_by}

@@ -6,8 +6,8 @@ use Rattle.std.proofs.lemmas.List.{take-append-drop}
 use Rattle.page_layout.specs.Page.{item_of}
 use Rattle.key_orders.specs.declared.columns.Value.{Value}
 use Rattle.key_orders.specs.declared.Tid.{Tid}
-use Rattle.varlena_attrs.specs.Columns.{TreeColumns}
-use Rattle.varlena_attrs.specs.Keyed.{KeyValues}
+use Rattle.key_attrs.specs.Columns.{TreeColumns}
+use Rattle.key_attrs.specs.Keyed.{KeyValues}
 use Rattle.bt_meta.specs.Heads.{tree_head_of}
 use Rattle.bt_meta.specs.declared.records.HeadKind.{HeadKind}
 use Rattle.bt_tuples.specs.declared.items.Spot3.TheVariants.{LeafItem}

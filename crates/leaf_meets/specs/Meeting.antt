@@ -3,7 +3,7 @@ use Rattle.std.specs.Prelude.{◌≡◌, ℕ, Bool, true, not, List, [], ◌++�
 use Rattle.std.specs.List.{flat_map}
 use Rattle.key_orders.specs.declared.Tid.{Tid}
 use Rattle.tree_search.specs.Search.{tree_blocks}
-use Rattle.varlena_attrs.specs.Columns.{TreeColumns}
+use Rattle.key_attrs.specs.Columns.{TreeColumns}
 use Rattle.tree_image.specs.Image.{LeafEntry, entries_in, item_at, page_entries}
 use Rattle.bt_steps.specs.Pages.{is_live_leaf}
 use Rattle.row_slots.specs.Met.{Keyed, keyed, met_after}

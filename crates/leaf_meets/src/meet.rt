@@ -2,7 +2,7 @@
 ghost use Rattle.std.specs.Prelude.{◌≡◌, ◌≤◌, None, false, true};
 ghost use Rattle.page_layout.specs.Page.{count_of, page_rule_of};
 ghost use Rattle.page_layout.specs.View.{page_bytes};
-ghost use Rattle.varlena_attrs.specs.Columns.{tree_columns};
+ghost use Rattle.key_attrs.specs.Columns.{tree_columns};
 ghost use Rattle.tree_image.specs.Image.{entries_in, first_data, page_entries};
 ghost use Rattle.bt_tuples.specs.Items.{Posting};
 ghost use Rattle.bt_steps.specs.Entries.{IsRead};
@@ -12,12 +12,12 @@ ghost use Rattle.leaf_meets.specs.Meeting.{HaveMet, entries_at, leaf_entries};
 use crate::ahead::RowsAhead;
 use bt_steps::is_live_leaf;
 use bt_tuples::{Spot3, TidList, TreeItem, plain_entry, tree_item};
+use key_attrs::IndexColumns;
 use key_orders::KeyRefs;
 use page_layout::{PageKind, PageView};
 use row_slots::RowSlots;
 use stored_keys::RowValues;
 use tree_image::first_data;
-use varlena_attrs::IndexColumns;
 
 // Meets the rows that a list names, none of whose entries is killed.
 fn meet_list(slots: &mut RowSlots, key: &KeyRefs<'_>, tids: &TidList<'_>)

@@ -2,7 +2,7 @@
 ghost use Rattle.std.specs.Prelude.{◌≡◌, ◌≤◌, ◌<◌, ◌&&◌, None, nat_le, nat_lt, true};
 ghost use Rattle.page_layout.specs.Page.{count_of, page_rule_of};
 ghost use Rattle.page_layout.specs.View.{page_bytes};
-ghost use Rattle.varlena_attrs.specs.Columns.{tree_columns};
+ghost use Rattle.key_attrs.specs.Columns.{tree_columns};
 ghost use Rattle.tree_image.specs.Image.{page_entries};
 ghost use Rattle.bt_steps.specs.Pages.{IsReadable, is_live_leaf};
 ghost use Rattle.leaf_meets.specs.Meeting.{HaveMetSome, leaf_entries};
@@ -10,11 +10,11 @@ ghost use Rattle.leaf_meets.specs.Meeting.{HaveMetSome, leaf_entries};
 use crate::ahead::RowsAhead;
 use crate::meet::meet_item;
 use bt_steps::is_live_leaf;
+use key_attrs::IndexColumns;
 use key_orders::Tid;
 use page_layout::{PageKind, PageView};
 use row_slots::RowSlots;
 use tree_image::first_data;
-use varlena_attrs::IndexColumns;
 
 // No page of an index has more items.
 const MOST: usize = 512;

@@ -31,10 +31,10 @@ use Rattle.varlena_attrs.specs.Attributes.{As_null, Presence, Stored, presence_o
 use Rattle.varlena_attrs.specs.Forms as form
 use Rattle.varlena_attrs.specs.Attributes.{is_null as absent}
 use Rattle.varlena_attrs.specs.Forms.{Attribute}
-use Rattle.varlena_attrs.specs.Keyed.{InlineStep, attribute_value, attribute_values, first_packed, inline_step, key_values, put_before, read_inline, then_inline, unless_packed, values_by}
+use Rattle.key_attrs.specs.Keyed.{InlineStep, attribute_value, attribute_values, first_packed, inline_step, key_values, put_before, read_inline, then_inline, unless_packed, values_by}
 use Rattle.varlena_attrs.specs.Reading.{Step, attribute_at}
 use Rattle.varlena_attrs.proofs.Ends.{stored_there}
-use Rattle.varlena_attrs.proofs.Keying.{read_inline-cons, read_inline-nil}
+use Rattle.key_attrs.proofs.Keying.{read_inline-cons, read_inline-nil}
 use Rattle.page_write.specs.Bodies.{MayAllStand, MayStand, body_flags, flag_byte, has_null, index_body, is_null, null_part, number_bytes, octet_bytes, is_aligned_value, octets_are_aligned, padding_before, presence_bits, stored_value, varlena_bytes, with_value, with_values}
 use Rattle.key_orders.specs.declared.Tid.{Tid}
 use Rattle.page_write.specs.Tuples.{before_tid, index_size, nulls_part, padded_body, values_part}

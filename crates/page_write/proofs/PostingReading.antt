@@ -19,7 +19,7 @@ use Rattle.bt_tuples.specs.Items as item
 use Rattle.bt_tuples.specs.Rules.{are_not_rising, breaks_tids_by, includes_some}
 use Rattle.bt_tuples.specs.Tuples.{body_begin, has_null_bits, number_of, tid_at, tids_at, tids_in, values_in}
 use Rattle.varlena_attrs.specs.Forms.{bytes_between}
-use Rattle.varlena_attrs.specs.Keyed.{key_types, key_values, more_types}
+use Rattle.key_attrs.specs.Keyed.{key_types, key_values, more_types}
 use Rattle.page_write.specs.declared.index_tuples.BodyFlags.{BodyFlags}
 use Rattle.page_write.specs.Fields.{IsBody, IsTid}
 use Rattle.page_write.specs.Pages.{zeros}

@@ -27,7 +27,7 @@ use Rattle.bt_tuples.specs.Items as item
 use Rattle.bt_tuples.specs.Rules.{breaks_form, breaks_tids_by, includes_some}
 use Rattle.bt_tuples.specs.Tuples.{body_begin, body_end, columns_by, has_null_bits, keeps_tid, kept_tid, number_of, size_of, tid_at, values_in}
 use Rattle.varlena_attrs.specs.Forms.{bytes_between}
-use Rattle.varlena_attrs.specs.Keyed.{key_types, key_values, more_types}
+use Rattle.key_attrs.specs.Keyed.{key_types, key_values, more_types}
 use Rattle.page_write.specs.declared.index_tuples.BodyFlags.{BodyFlags}
 use Rattle.page_write.specs.Fields.{IsHeapHead, IsTid}
 use Rattle.page_write.specs.Pages.{zeros}

@@ -11,7 +11,7 @@ ghost use Rattle.key_orders.specs.declared.more.MoreSpec.{MoreSpec as More};
 ghost use Rattle.key_orders.specs.declared.Tid.{Tid as Place};
 ghost use Rattle.tuple_head.specs.declared.HeapHead.{HeapHead as Head};
 ghost use Rattle.tuple_head.specs.Head.{tuple_head_of};
-ghost use Rattle.varlena_attrs.specs.Keyed.{key_types, key_values, more_types};
+ghost use Rattle.key_attrs.specs.Keyed.{key_types, key_values, more_types};
 ghost use Rattle.bt_meta.specs.declared.records.Meta.{Meta as Numbers};
 ghost use Rattle.bt_meta.specs.declared.records.Opaque.{Opaque as Special};
 ghost use Rattle.bt_meta.specs.Pages.{meta_of, opaque_of};

@@ -12,7 +12,7 @@ use Rattle.key_orders.specs.declared.columns.Value.TheVariants.{Int}
 use Rattle.key_orders.specs.declared.Tid.{Tid}
 use Rattle.key_orders.specs.Values.{value_in}
 use Rattle.varlena_attrs.specs.Attributes.{is_null, presence_of}
-use Rattle.varlena_attrs.specs.Keyed.{key_values, read_inline}
+use Rattle.key_attrs.specs.Keyed.{key_values, read_inline}
 use Rattle.varlena_attrs.specs.Reading.{fixed_at, stored_at}
 use Rattle.bt_tuples.specs.declared.items.Spot3.TheVariants.{HighKey, Inner, LeafItem}
 use Rattle.bt_tuples.specs.Items.{Pivot, Plain, tuple_outcome}

@@ -5,7 +5,7 @@ ghost use Rattle.std.specs.List.Sorted.{IsPermutation};
 ghost use Rattle.outside.specs.declared.files.Part.TheVariants.{Segment, Slru};
 ghost use Rattle.key_orders.specs.declared.columns.ColType.TheVariants.{Int4, Int8};
 ghost use Rattle.key_orders.specs.declared.columns.Value.TheVariants.{Int};
-ghost use Rattle.varlena_attrs.specs.Keyed.{key_values};
+ghost use Rattle.key_attrs.specs.Keyed.{key_values};
 ghost use Rattle.bt_tuples.specs.declared.items.Spot3.TheVariants.{HighKey, Inner, LeafItem};
 ghost use Rattle.bt_tuples.specs.Items.{Pivot, Plain, tuple_outcome};
 ghost use Rattle.rel_build.specs.declared.rows.Row.{Row as Line};

@@ -13,8 +13,8 @@ use Rattle.key_orders.specs.declared.columns.Value.{Value}
 use Rattle.key_orders.specs.declared.more.MoreSpec.{MoreSpec}
 use Rattle.key_orders.specs.Orders.{fits_type}
 use Rattle.key_orders.specs.Types.{HasAlignment}
-use Rattle.varlena_attrs.specs.Columns.{TreeColumns}
-use Rattle.varlena_attrs.specs.Keyed.{fits_more, key_types, more_types}
+use Rattle.key_attrs.specs.Columns.{TreeColumns}
+use Rattle.key_attrs.specs.Keyed.{fits_more, key_types, more_types}
 use Rattle.case_file.specs.Record.{CaseRecord, IndexRecord}
 use Rattle.case_file.specs.Sound.{IsSound, IsSoundIndex, IsSoundKey, IsSoundMore}
 use Rattle.case_file.specs.declared.case.Column.{Column}

@@ -6,7 +6,7 @@ use Rattle.std.proofs.lemmas.List.{map-append, nil_from_length}
 use Rattle.outside.specs.Outside.{Names}
 use Rattle.key_orders.specs.declared.Tid.{Tid}
 use Rattle.key_orders.specs.declared.columns.Value.{Value}
-use Rattle.varlena_attrs.specs.Columns.{tree_columns}
+use Rattle.key_attrs.specs.Columns.{tree_columns}
 use Rattle.case_file.specs.Record.{CaseRecord}
 use Rattle.tree_image.specs.Image.{LeafEntry}
 use Rattle.reports.specs.Added.{doubt_at, joined, nothing, report_lists}

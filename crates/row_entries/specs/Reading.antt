@@ -2,8 +2,8 @@
 use Rattle.std.specs.Prelude.{◌≡◌, ℕ, ◌≤◌, true, List, length}
 use Rattle.key_orders.specs.declared.columns.Value.{Value}
 use Rattle.key_orders.specs.Keys.{IsKey}
-use Rattle.varlena_attrs.specs.Columns.{tree_columns}
-use Rattle.varlena_attrs.specs.Keyed.{fits_more}
+use Rattle.key_attrs.specs.Columns.{tree_columns}
+use Rattle.key_attrs.specs.Keyed.{fits_more}
 use Rattle.case_file.specs.Record.{CaseRecord}
 use Rattle.bt_levels.specs.Index.{case_columns, index_of}
 use Rattle.heap_check.specs.declared.row_cursor.RowCursor.{RowCursor}

@@ -3,8 +3,8 @@ ghost use Rattle.std.specs.Prelude.{◌≡◌, ◌≤◌, ◌∷◌, [], List, N
 ghost use Rattle.std.specs.Bool.{OnTrue};
 ghost use Rattle.outside.specs.Outside.{Names};
 ghost use Rattle.key_orders.specs.Keys.{IsKey};
-ghost use Rattle.varlena_attrs.specs.Columns.{tree_columns};
-ghost use Rattle.varlena_attrs.specs.Keyed.{fits_more};
+ghost use Rattle.key_attrs.specs.Columns.{tree_columns};
+ghost use Rattle.key_attrs.specs.Keyed.{fits_more};
 ghost use Rattle.tree_image.specs.Image.{leaf_entry};
 ghost use Rattle.bt_levels.specs.Index.{case_columns};
 ghost use Rattle.heap_check.specs.RowCursor.{IsAtRow, IsCursorOf, rows_ahead};
@@ -15,8 +15,8 @@ ghost use Rattle.row_entries.specs.Reading.{AreRowValues, IsAskedFor, IsReader};
 
 use case_file::Case;
 use heap_check::{CellRef, RowCursor};
+use key_attrs::IndexColumns;
 use key_orders::{KeyRefs, MoreRefs};
-use varlena_attrs::IndexColumns;
 
 /// An index of a case, for which rows are read.
 #[derive(Clone, Copy)]

@@ -16,7 +16,7 @@ use Rattle.key_orders.specs.declared.columns.Value.{Value}
 use Rattle.key_orders.specs.declared.more.MoreSpec.{MoreSpec}
 use Rattle.key_orders.specs.Keys.{fits_columns}
 use Rattle.key_orders.specs.Orders.{fits_type}
-use Rattle.varlena_attrs.specs.Columns.{TreeColumns}
+use Rattle.key_attrs.specs.Columns.{TreeColumns}
 use Rattle.case_file.specs.Record.{CaseRecord, IndexRecord}
 use Rattle.case_file.specs.Sound.{IsSound, IsSoundIndex, IsSoundKey, IsSoundMore}
 use Rattle.case_file.specs.declared.case.Column.{Column}

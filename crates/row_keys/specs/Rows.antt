@@ -1,7 +1,7 @@
 -- The row at which a cursor is, and the columns of an index among those that the cursor is asked for.
 use Rattle.std.specs.Prelude.{◌≡◌, ℕ, ◌∷◌, ◌++◌, List, drop, length, take}
 use Rattle.outside.specs.Outside.{Names}
-use Rattle.varlena_attrs.specs.Columns.{TreeColumns}
+use Rattle.key_attrs.specs.Columns.{TreeColumns}
 use Rattle.bt_levels.specs.Sound.{index_columns}
 use Rattle.heap_check.specs.declared.row_cursor.RowCursor.{RowCursor}
 use Rattle.heap_check.specs.declared.row_cursor.RowPlace.{RowPlace}

@@ -5,7 +5,7 @@ ghost use Rattle.std.specs.Bool.{OnTrue};
 ghost use Rattle.std.specs.Option.{option_map};
 ghost use Rattle.outside.specs.Outside.{Names};
 ghost use Rattle.key_orders.specs.Keys.{IsKey};
-ghost use Rattle.varlena_attrs.specs.Columns.{tree_columns};
+ghost use Rattle.key_attrs.specs.Columns.{tree_columns};
 ghost use Rattle.bt_levels.specs.Sound.{index_columns, more_of, specs_of};
 ghost use Rattle.heap_check.specs.RowCursor.{IsAtRow, IsCursorOf, rows_here};
 ghost use Rattle.heap_check.specs.declared.rows.LiveRow.{LiveRow as Row};
@@ -14,10 +14,10 @@ ghost use Rattle.row_keys.specs.Rows.{IsIndexAt, columns_in};
 
 use crate::joined::IndexedHeap;
 use heap_check::{CellRef, RowCursor};
+use key_attrs::IndexColumns;
 use key_orders::{KeyRefs, MAX_KEY_COLUMNS, MoreRefs};
 use outside::NoMemory;
 use std::alloc::Global;
-use varlena_attrs::IndexColumns;
 
 /// A heap and an index of it, and which of the values that a cursor over the heap is asked for is the index's first,
 /// counted from 0.

@@ -1,8 +1,8 @@
 -- What the body of an index tuple tells of its values.
 use Rattle.std.specs.Prelude.{◌≡◌, ◌+◌, ◌++◌, ℕ, List, length, None, Ok}
 use Rattle.key_orders.specs.declared.columns.Value.{Value}
-use Rattle.varlena_attrs.specs.Columns.{TreeColumns}
-use Rattle.varlena_attrs.specs.Keyed.{key_types, key_values, more_types}
+use Rattle.key_attrs.specs.Columns.{TreeColumns}
+use Rattle.key_attrs.specs.Keyed.{key_types, key_values, more_types}
 
 -- where the body of a tuple without null bits tells the values of all these columns, they are these
 abbrev pub TellsKey : TreeColumns → List ℕ → List Value → Type 0

@@ -4,7 +4,7 @@ ghost use Rattle.std.specs.Prelude.{IfOk, IfSome, OnErr, OnOk};
 ghost use Rattle.std.specs.Bool.{OnFalse, OnTrue};
 ghost use Rattle.key_orders.specs.declared.columns.Value.{Value as Shown};
 ghost use Rattle.stored_keys.specs.Rows.{row_values};
-ghost use Rattle.varlena_attrs.specs.Columns.{tree_columns};
+ghost use Rattle.key_attrs.specs.Columns.{tree_columns};
 ghost use Rattle.row_slots.specs.Met.{keyed, met_by};
 ghost use Rattle.row_slots.specs.Slots.{AreAllMet, HasBlock, IsBegun, SameRange, keys_in, keys_with, met_in};
 ghost use Rattle.row_slots.specs.Told.{TellsKey};
@@ -14,12 +14,12 @@ use crate::blocks::add_block_in;
 use crate::slots::{
     Kept, bytes_at, find, is_kept_in, is_met_in, meet_in, meet_plain_in, places_of, put_at,
 };
+use key_attrs::IndexColumns;
 use key_orders::Tid;
 use outside::NoMemory;
 use std::alloc::Global;
 use std::marker::Model;
 use stored_keys::RowValues;
-use varlena_attrs::IndexColumns;
 
 /// The rows of a range of heap blocks, each by the line pointer at which it is rooted, with its key and with whether an
 /// entry met it. Contracts see functions of a TID, and the blocks of the range.

@@ -5,16 +5,16 @@ ghost use Rattle.std.specs.Bool.{OnFalse, OnTrue};
 ghost use Rattle.key_orders.specs.declared.columns.Value.{Value as Shown};
 ghost use Rattle.stored_keys.specs.Rows.{row_values};
 ghost use Rattle.stored_keys.specs.Stored.{IsStorable, stored_key};
-ghost use Rattle.varlena_attrs.specs.Columns.{tree_columns};
+ghost use Rattle.key_attrs.specs.Columns.{tree_columns};
 ghost use Rattle.row_slots.specs.Met.{is_key, keyed, met_by};
 ghost use Rattle.row_slots.specs.Slots.{AreBits, AreStarts, found_slot, key_of, keys_of, mets_of};
 ghost use Rattle.row_slots.specs.Told.{TellsKey};
 
 use crate::bits::{is_set, set_bit};
+use key_attrs::{IndexColumns, has_stored_key};
 use key_orders::Tid;
 use outside::NoMemory;
 use stored_keys::{RowValues, is_stored, write_key};
-use varlena_attrs::{IndexColumns, has_stored_key};
 
 /// Which rows are kept, and their keys.
 #[derive(Clone, Copy)]

@@ -7,8 +7,8 @@ use Rattle.toml.specs.Data.{Members}
 use Rattle.case_file.specs.Case.{Meaning, case_of, document_of, first_broken, judged, meaning_of, record_of, rules_in_order}
 use Rattle.case_file.specs.Record.{CaseRecord}
 use Rattle.case_file.specs.Sound.{IsSound}
-use Rattle.case_file.specs.Spots.{Spot, spots}
-use Rattle.case_file.specs.declared.fault.CaseRule.{CaseRule}
+use Rattle.case_rules.specs.Spots.{Spot, spots}
+use Rattle.case_rules.specs.declared.fault.CaseRule.{CaseRule}
 use Rattle.case_file.proofs.Soundness.{sound_record}
 use Rattle.reports.specs.Lists.{Lists}
 use Rattle.reports.specs.declared.fault.CheckFault.{CheckFault}

@@ -3,8 +3,8 @@ use Rattle.std.specs.Prelude.{◌≡◌, ◌≢◌, ℕ, if◌then◌else◌, Li
 use Rattle.std.specs.Prelude.{Result, Ok, Err}
 use Rattle.outside.specs.Outside.{appended}
 use Rattle.key_orders.specs.declared.Tid.{Tid}
-use Rattle.case_file.specs.Rules.{rule_code}
-use Rattle.case_file.specs.declared.fault.CaseRule.{CaseRule}
+use Rattle.case_rules.specs.Rules.{rule_code}
+use Rattle.case_rules.specs.declared.fault.CaseRule.{CaseRule}
 use Rattle.reports.specs.Lists.{Lists}
 use Rattle.reports.specs.Texts.{report_text, verdict_of}
 use Rattle.bt_levels.specs.Lists.{is_quiet}

@@ -2,10 +2,10 @@
 use crate::steps::INT4;
 use crate::trees::page_bytes;
 use bt_tuples::{ItemKeys, Spot3};
+use key_attrs::IndexColumns;
 use page_layout::{PageKind, PageView};
 use std::test::Fail;
 use tree_image::{ItemPlaces, breaks_high_key, breaks_order, first_data, has_high_key, spot_of};
-use varlena_attrs::IndexColumns;
 
 // The two items of a page in order, and the last of them beside the high key, if there is one: whether
 // B10 is broken by the second, and whether B11 is broken. None where an item isn't in order by itself.

@@ -4,12 +4,12 @@ ghost use Rattle.key_orders.specs.Types.{HasAlignment};
 use crate::steps::INT4;
 use crate::trees::{THREE, leaf_bytes};
 use bt_tuples::{ItemFault, Spot3, TidList, TreeItem, plain_entry_prefix, tree_item};
+use key_attrs::IndexColumns;
 use key_orders::{ColType, KeySpec, MoreSpec, Tid, ValueRef};
 use page_layout::{PageKind, PageView, Rule};
 use std::process::Abort;
 use std::test::Fail;
 use test_files::Page;
-use varlena_attrs::IndexColumns;
 
 // The line pointers of the one item of a page: at byte 8128, normal, of 16, 24 and 32 bytes; dead, of
 // 16 and 32; at byte 8132; of 4 bytes; redirected; unused.

@@ -5,11 +5,11 @@ ghost use Rattle.key_orders.specs.Keys.{IsKey};
 
 use crate::trees::{LISTED, leaf_bytes, page_bytes};
 use bt_steps::{Place, Sought, Step, find_on, step_on};
+use key_attrs::IndexColumns;
 use key_orders::{ColType, KeyRefs, KeySpec, Tid, ValueRef, fits_columns};
 use page_layout::{PageKind, PageView};
 use std::alloc::Global;
 use std::test::Fail;
-use varlena_attrs::IndexColumns;
 
 /// A key column of int4.
 pub const INT4: KeySpec = KeySpec {

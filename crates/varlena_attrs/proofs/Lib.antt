@@ -5,8 +5,4 @@ pub mod Law
 pub mod Faults
 pub mod First
 pub mod Ends
-pub mod Keying
-pub mod PlainKeys
-pub mod StoredKeys
-pub mod KeyAttributes
 pub mod InTurn

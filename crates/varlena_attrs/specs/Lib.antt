@@ -5,9 +5,4 @@ pub mod Reading
 pub mod Shown
 pub mod Inline
 pub mod Laws
-pub mod Keyed
-pub mod Columns
-pub mod KeyedShown
-pub mod FirstValues
-pub mod KeyLaws
 pub mod InTurn

@@ -21,9 +21,9 @@ pub struct PlainPiece {
 }
 
 impl PlainPiece {
-    // The attribute that has these bytes.
+    /// The attribute that has these bytes.
     #[inline(always)]
-    pub(crate) fn found(self) -> Found
+    pub fn found(self) -> Found
         requires { self.start + self.len < 2 ^ 64 }
         ensures { result
             ≡ record { place = AttrPlace.Plain self.start self.len; next = self.start + self.len } }
@@ -77,10 +77,11 @@ fn fixed_piece(len: u16, body: &[u8], start: usize) -> Option<PlainPiece>
     Some(PlainPiece { start, len })
 }
 
-// The bytes of the stored value of a type from a place on, if they are found so.
+/// The bytes of the stored value of a type from a place on, if it is of a fixed length, or a varlena with a header of
+/// one byte, and ends within the body; `None` says nothing.
 #[inline(always)]
 #[tactic(auto, unfolding(crate::specs::Reading::stored_at))]
-pub(crate) fn plain_piece(ctype: ColType, body: &[u8], place: usize) -> Option<PlainPiece>
+pub fn plain_piece(ctype: ColType, body: &[u8], place: usize) -> Option<PlainPiece>
     requires known { HasAlignment ctype }
     requires within { place ≤ length body.now }
     ensures step { IfSome result (λ p. stored_at ctype body.now place

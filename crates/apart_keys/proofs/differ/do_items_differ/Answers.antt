@@ -3,7 +3,7 @@ use Rattle.std.specs.Prelude.{Bool}
 use Rattle.std.proofs.lemmas.Bool.{OnTrue_at}
 use Rattle.page_layout.specs.Page.{count_of}
 use Rattle.page_layout.specs.View.{page_bytes}
-use Rattle.varlena_attrs.specs.Columns.{TreeColumns, tree_columns}
+use Rattle.key_attrs.specs.Columns.{TreeColumns, tree_columns}
 use Rattle.tree_image.proofs.PageFields.{first_cases}
 use Rattle.apart_keys.specs.Items.{DifferTo, HasEntry, held}
 use Rattle.apart_keys.proofs.Steps.{differ-first, differ-next, differ-none}

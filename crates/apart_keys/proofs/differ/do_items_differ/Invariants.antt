@@ -1,5 +1,5 @@
 use Rattle.page_layout.specs.View.{page_bytes}
-use Rattle.varlena_attrs.specs.Columns.{tree_columns}
+use Rattle.key_attrs.specs.Columns.{tree_columns}
 use Rattle.apart_keys.specs.Items.{DifferTo, HasEntry, held}
 use Rattle.apart_keys.proofs.differ.do_items_differ.Given as goal
 

@@ -1,7 +1,7 @@
 use Rattle.std.proofs.Common.{subst}
 use Rattle.page_layout.specs.Page.{count_of}
 use Rattle.page_layout.specs.View.{page_bytes}
-use Rattle.varlena_attrs.specs.Columns.{tree_columns}
+use Rattle.key_attrs.specs.Columns.{tree_columns}
 use Rattle.apart_keys.specs.declared.rising.Rise.{Rise}
 use Rattle.apart_keys.specs.Items.{RisesTo}
 use Rattle.apart_keys.proofs.Steps.{differ-none}

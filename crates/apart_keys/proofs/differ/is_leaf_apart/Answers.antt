@@ -1,6 +1,6 @@
 use Rattle.std.proofs.lemmas.Bool.{OnTrue_at, OnTrue_from}
 use Rattle.page_layout.specs.View.{page_bytes}
-use Rattle.varlena_attrs.specs.Columns.{tree_columns}
+use Rattle.key_attrs.specs.Columns.{tree_columns}
 use Rattle.apart_keys.specs.Apart.{IsApart}
 use Rattle.apart_keys.proofs.Entries.{entries-differ}
 use Rattle.apart_keys.proofs.differ.is_leaf_apart.Goals as goal

@@ -5,7 +5,7 @@ use Rattle.std.proofs.lemmas.Bool.{OnTrue_at, OnTrue_from, both_ways}
 use Rattle.page_layout.specs.Page.{count_of, page_rule_of}
 use Rattle.page_layout.specs.declared.page.PageKind.TheVariants.{Tree}
 use Rattle.page_layout.specs.declared.rules.Rule.{Rule}
-use Rattle.varlena_attrs.specs.Columns.{TreeColumns, tree_columns}
+use Rattle.key_attrs.specs.Columns.{TreeColumns, tree_columns}
 use Rattle.bt_steps.specs.Pages.{is_live_leaf}
 use Rattle.apart_keys.specs.Apart.{IsApart}
 use Rattle.apart_keys.specs.Items.{RisesTo}

@@ -5,7 +5,7 @@ use Rattle.page_layout.specs.View.{page_bytes}
 use Rattle.tree_search.specs.Keys.{Separator}
 use Rattle.key_orders.specs.declared.columns.Value.{Value}
 use Rattle.key_orders.specs.declared.Tid.{Tid}
-use Rattle.varlena_attrs.specs.Columns.{TreeColumns, tree_columns}
+use Rattle.key_attrs.specs.Columns.{TreeColumns, tree_columns}
 use Rattle.bt_tuples.specs.declared.items.Spot3.TheVariants.{HighKey}
 use Rattle.bt_tuples.specs.Items.{Item}
 use Rattle.bt_tuples.specs.Keys.{first_key}

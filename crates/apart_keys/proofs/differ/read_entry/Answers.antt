@@ -5,7 +5,7 @@ use Rattle.tree_search.specs.Keys.{Separator}
 use Rattle.key_orders.specs.declared.columns.Value.{Value}
 use Rattle.key_orders.specs.declared.Tid.{Tid}
 use Rattle.key_orders.specs.Keys.{IsKey}
-use Rattle.varlena_attrs.specs.Columns.{TreeColumns, tree_columns}
+use Rattle.key_attrs.specs.Columns.{TreeColumns, tree_columns}
 use Rattle.bt_tuples.specs.Items.{Item}
 use Rattle.bt_tuples.specs.Keys.{first_key, last_key}
 use Rattle.bt_steps.proofs.Items.{item-good, item-is}

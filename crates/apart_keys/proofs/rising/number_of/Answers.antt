@@ -2,7 +2,7 @@ use Rattle.std.proofs.Common.{◌∙◌, [], ◌∷◌}
 use Rattle.page_layout.specs.Page.{item_of}
 use Rattle.key_orders.specs.Keys.{columns_of}
 use Rattle.key_orders.specs.Values.{value_shown}
-use Rattle.varlena_attrs.specs.Columns.{TreeColumns, tree_columns}
+use Rattle.key_attrs.specs.Columns.{TreeColumns, tree_columns}
 use Rattle.bt_tuples.specs.Items.{is_dead}
 use Rattle.apart_keys.proofs.Steps.{at-place, first-less}
 use Rattle.apart_keys.proofs.rising.number_of.Goals as goal

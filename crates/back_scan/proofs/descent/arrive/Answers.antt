@@ -1,5 +1,5 @@
 use Rattle.std.proofs.Common.{◌∙◌, ℕ, arith, subst, sym}
-use Rattle.varlena_attrs.specs.Columns.{tree_columns}
+use Rattle.key_attrs.specs.Columns.{tree_columns}
 use Rattle.tree_search.specs.Back.{Seeks}
 use Rattle.page_layout.specs.View.{page_bytes}
 use Rattle.bt_levels.specs.Sound.{index_columns}

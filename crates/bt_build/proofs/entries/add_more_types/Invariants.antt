@@ -1,5 +1,5 @@
 use Rattle.std.proofs.Common.{◌≡◌, ◌++◌, take}
-use Rattle.varlena_attrs.specs.Keyed.{more_types}
+use Rattle.key_attrs.specs.Keyed.{more_types}
 use Rattle.bt_build.proofs.entries.add_more_types.Given as goal
 
 abbrev pub invariant-loop-i : goal.invariant-loop-i

@@ -7,7 +7,7 @@ use Rattle.key_orders.specs.declared.columns.ColType.{ColType}
 use Rattle.key_orders.specs.Types.{HasAlignment}
 use Rattle.key_orders.specs.Values.{value_shown}
 use Rattle.stored_keys.specs.Stored.{values_read}
-use Rattle.varlena_attrs.specs.Keyed.{key_types}
+use Rattle.key_attrs.specs.Keyed.{key_types}
 use Rattle.page_write.specs.Bodies.{IsShortEnough, body_flags, index_body}
 use Rattle.page_write.specs.Tuples.{pivot_tuple}
 use Rattle.built_pages.specs.Items.{kept_types}

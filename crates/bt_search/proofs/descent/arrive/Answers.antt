@@ -1,5 +1,5 @@
 use Rattle.std.proofs.Common.{◌∙◌, ℕ, [], ap, arith, subst, sym}
-use Rattle.varlena_attrs.specs.Columns.{tree_columns}
+use Rattle.key_attrs.specs.Columns.{tree_columns}
 use Rattle.tree_search.specs.Search.{At}
 use Rattle.tree_image.specs.Image.{first_data}
 use Rattle.bt_levels.specs.Sound.{index_columns}

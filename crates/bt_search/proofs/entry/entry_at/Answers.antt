@@ -7,7 +7,7 @@ use Rattle.page_layout.specs.declared.page.PageKind.TheVariants.{Tree}
 use Rattle.tree_search.specs.Keys.{Entry}
 use Rattle.key_orders.specs.declared.columns.Value.{Value}
 use Rattle.key_orders.specs.declared.Tid.{Tid}
-use Rattle.varlena_attrs.specs.Columns.{tree_columns}
+use Rattle.key_attrs.specs.Columns.{tree_columns}
 use Rattle.bt_tuples.specs.Shown.{item_shown}
 use Rattle.bt_levels.specs.Sound.{index_columns}
 use Rattle.bt_steps.specs.Entries.{keys_at}

@@ -3,7 +3,7 @@ use Rattle.std.specs.Prelude.{slice_get}
 use Rattle.page_layout.specs.View.{page_bytes}
 use Rattle.key_orders.specs.Values.{value_shown}
 use Rattle.stored_keys.specs.Same.{same_key}
-use Rattle.varlena_attrs.specs.Columns.{tree_columns}
+use Rattle.key_attrs.specs.Columns.{tree_columns}
 use Rattle.bt_tuples.specs.Items.{Item}
 use Rattle.bt_tuples.specs.Shown.{item_shown}
 use Rattle.tree_image.specs.Image.{entries_in}

@@ -2,7 +2,7 @@ use Rattle.std.proofs.Common.{◌∙◌, ap, refl, subst, sym}
 use Rattle.page_layout.specs.View.{page_bytes}
 use Rattle.page_layout.specs.declared.page.LinePtr.{LinePtr}
 use Rattle.key_orders.specs.Scans.{back_of, scan_of}
-use Rattle.varlena_attrs.specs.Columns.{TreeColumns, tree_columns}
+use Rattle.key_attrs.specs.Columns.{TreeColumns, tree_columns}
 use Rattle.bt_tuples.specs.Items.{is_dead, item_outcome}
 use Rattle.bt_tuples.specs.Keys.{HasKeys}
 use Rattle.bt_tuples.specs.declared.items.Spot3.TheVariants.{LeafItem}

@@ -3,7 +3,7 @@ use Rattle.std.specs.Prelude.{IsSome, Result}
 use Rattle.std.specs.Borrow.{Bor}
 use Rattle.std.proofs.lemmas.Bool.{cases_eq}
 use Rattle.page_layout.specs.View.{page_bytes}
-use Rattle.varlena_attrs.specs.Columns.{tree_columns}
+use Rattle.key_attrs.specs.Columns.{tree_columns}
 use Rattle.bt_levels.specs.Sound.{block_count, fastroot_of, index_columns}
 use Rattle.bt_steps.specs.declared.inner.Step.TheVariants.{Lost, Read, To}
 use Rattle.bt_search.specs.Lookups.{IsLookedUp}

@@ -1,6 +1,6 @@
 use Rattle.std.proofs.Common.{◌∙◌, ap}
 use Rattle.page_layout.specs.View.{page_bytes}
-use Rattle.varlena_attrs.specs.Columns.{tree_columns}
+use Rattle.key_attrs.specs.Columns.{tree_columns}
 use Rattle.bt_tuples.specs.Keys.{first_key}
 use Rattle.bt_steps.proofs.Items.{at-spot, no-fault}
 use Rattle.bt_steps.proofs.inner.goes_right_of.Goals as goal

@@ -1,6 +1,6 @@
 use Rattle.std.proofs.Common.{◌≡◌, ◌∙◌, ap, arith, false, sym}
 use Rattle.page_layout.specs.View.{page_bytes}
-use Rattle.varlena_attrs.specs.Columns.{tree_columns}
+use Rattle.key_attrs.specs.Columns.{tree_columns}
 use Rattle.bt_meta.specs.Flags.{is_half_dead}
 use Rattle.bt_meta.specs.Pages.{opaque_of}
 use Rattle.bt_steps.specs.Ways.{Goes}

@@ -1,7 +1,7 @@
 use Rattle.std.proofs.Common.{◌≡◌, ◌+◌, ◌-◌, ◌<◌, ◌≤◌, true, false}
 use Rattle.page_layout.specs.Page.{count_of}
 use Rattle.page_layout.specs.View.{page_bytes}
-use Rattle.varlena_attrs.specs.Columns.{tree_columns}
+use Rattle.key_attrs.specs.Columns.{tree_columns}
 use Rattle.bt_meta.specs.Flags.{is_half_dead}
 use Rattle.bt_meta.specs.Pages.{opaque_of}
 use Rattle.tree_image.specs.Image.{first_data}

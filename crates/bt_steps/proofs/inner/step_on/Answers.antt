@@ -2,7 +2,7 @@ use Rattle.std.proofs.Common.{◌≡◌, ◌∙◌, ap, arith, false, sym, ℕ}
 use Rattle.std.specs.Prelude.{Some}
 use Rattle.std.proofs.lemmas.Bool.{or_parts}
 use Rattle.page_layout.specs.View.{page_bytes}
-use Rattle.varlena_attrs.specs.Columns.{tree_columns}
+use Rattle.key_attrs.specs.Columns.{tree_columns}
 use Rattle.tree_search.specs.Search.{right_of}
 use Rattle.tree_image.specs.Image.{page_image}
 use Rattle.bt_meta.specs.declared.records.Opaque.{Opaque}

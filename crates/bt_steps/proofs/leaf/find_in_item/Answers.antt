@@ -5,7 +5,7 @@ use Rattle.page_layout.specs.View.{page_bytes}
 use Rattle.tree_search.specs.Keys.{Entry}
 use Rattle.key_orders.specs.declared.columns.Value.{Value}
 use Rattle.key_orders.specs.declared.Tid.{Tid}
-use Rattle.varlena_attrs.specs.Columns.{TreeColumns, tree_columns}
+use Rattle.key_attrs.specs.Columns.{TreeColumns, tree_columns}
 use Rattle.bt_tuples.specs.declared.items.TreeItem.{TreeItem}
 use Rattle.bt_tuples.specs.Items.{Posting}
 use Rattle.bt_tuples.specs.Shown.{item_shown}

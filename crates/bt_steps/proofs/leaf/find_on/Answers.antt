@@ -1,6 +1,6 @@
 use Rattle.std.proofs.Common.{refl}
 use Rattle.page_layout.specs.View.{page_bytes}
-use Rattle.varlena_attrs.specs.Columns.{tree_columns}
+use Rattle.key_attrs.specs.Columns.{tree_columns}
 use Rattle.tree_search.proofs.Gather.{In-from_Contains}
 use Rattle.tree_image.specs.Image.{page_keys}
 use Rattle.bt_steps.specs.Entries.{keys_at}

@@ -1,6 +1,6 @@
 use Rattle.std.proofs.Common.{◌≡◌, ◌∙◌, ap, refl, subst, sym, ◌++◌, List, ℕ}
 use Rattle.std.specs.Prelude.{None, Ok}
-use Rattle.varlena_attrs.specs.Keyed.{key_types, key_values, more_types}
+use Rattle.key_attrs.specs.Keyed.{key_types, key_values, more_types}
 use Rattle.bt_meta.specs.declared.records.TreeHead.{TreeHead}
 use Rattle.bt_tuples.specs.Tuples.{plain_tid}
 use Rattle.bt_tuples.proofs.Plain.{outcome, values-are}

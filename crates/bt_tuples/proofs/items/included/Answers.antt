@@ -2,7 +2,7 @@ use Rattle.std.proofs.Common.{◌≡◌, ◌∙◌, ◌++◌, List, length, drop
 use Rattle.std.specs.Prelude.{Ok}
 use Rattle.std.proofs.Math.Seq.{drop-append_seam}
 use Rattle.key_orders.specs.declared.columns.Value.{Value}
-use Rattle.varlena_attrs.specs.Keyed.{KeyValues}
+use Rattle.key_attrs.specs.Keyed.{KeyValues}
 use Rattle.bt_tuples.proofs.items.included.Goals as goal
 
 same : (a b : List Value) → ◌≡◌ {A = KeyValues} (Ok a) (Ok b) → a ≡ b

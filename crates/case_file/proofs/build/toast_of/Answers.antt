@@ -1,6 +1,6 @@
 use Rattle.std.proofs.Common.{refl}
 use Rattle.case_file.specs.Case.{toast_of}
-use Rattle.case_file.specs.Tables.{number_in}
+use Rattle.case_rules.specs.Tables.{number_in}
 use Rattle.case_file.proofs.build.toast_of.Goals as goal
 
 pub returns-in_ok-file-in-Some-text_at : goal.returns-in_ok-file-in-Some-text_at

@@ -1,7 +1,7 @@
 use Rattle.std.proofs.Common.{◌≡◌, drop}
 use Rattle.toml.specs.View.{table_view}
 use Rattle.case_file.specs.Case.{first_broken}
-use Rattle.case_file.specs.Spots.{spots_view}
+use Rattle.case_rules.specs.Spots.{spots_view}
 use Rattle.case_file.proofs.find.first_broken.Given as goal
 
 abbrev pub invariant-loop-rule : goal.invariant-loop-rule

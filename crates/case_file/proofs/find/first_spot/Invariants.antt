@@ -1,8 +1,8 @@
 use Rattle.std.proofs.Common.{◌≡◌, drop}
 use Rattle.std.specs.List.{find}
 use Rattle.toml.specs.View.{table_view}
-use Rattle.case_file.specs.Rules.{breaks}
-use Rattle.case_file.specs.Spots.{spots_view}
+use Rattle.case_rules.specs.Rules.{breaks}
+use Rattle.case_rules.specs.Spots.{spots_view}
 use Rattle.case_file.proofs.find.first_spot.Given as goal
 
 abbrev pub invariant-loop-spot : goal.invariant-loop-spot

@@ -1,7 +1,7 @@
 use Rattle.std.proofs.Common.{◌∙◌, ◌++◌, ◌∷◌, [], Bool, ap, sym, false, true}
 use Rattle.std.proofs.lemmas.Bool.{OnTrue_at}
 use Rattle.page_layout.specs.View.{page_bytes}
-use Rattle.varlena_attrs.specs.Columns.{tree_columns}
+use Rattle.key_attrs.specs.Columns.{tree_columns}
 use Rattle.leaf_meets.specs.Meeting.{entries_at}
 use Rattle.tree_image.specs.Image.{leaf_entry}
 use Rattle.leaf_meets.proofs.Meets.{killed-one, one, same}

@@ -2,7 +2,7 @@ use Rattle.std.proofs.Common.{◌≡◌, ◌∙◌, ◌+◌, ◌-◌, ◌++◌, 
 use Rattle.std.specs.List.{flat_map}
 use Rattle.page_layout.specs.Page.{count_of}
 use Rattle.page_layout.specs.View.{page_bytes}
-use Rattle.varlena_attrs.specs.Columns.{tree_columns}
+use Rattle.key_attrs.specs.Columns.{tree_columns}
 use Rattle.tree_image.specs.Image.{LeafEntry, entries_in, first_data, item_at, numbers_from}
 use Rattle.bt_steps.proofs.OnLeaf.{item-read, live-parts}
 use Rattle.bt_steps.proofs.Places.{upto-two}

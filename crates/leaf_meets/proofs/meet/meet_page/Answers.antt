@@ -5,7 +5,7 @@ use Rattle.page_layout.specs.declared.page.PageKind.TheVariants.{Tree}
 use Rattle.tree_image.specs.Image.{page_entries}
 use Rattle.bt_steps.specs.Pages.{IsReadable, is_live_leaf}
 use Rattle.page_layout.specs.View.{page_bytes}
-use Rattle.varlena_attrs.specs.Columns.{tree_columns}
+use Rattle.key_attrs.specs.Columns.{tree_columns}
 use Rattle.row_slots.specs.Slots.{Tables}
 use Rattle.leaf_meets.specs.Meeting.{HaveMet, leaf_entries}
 use Rattle.leaf_meets.proofs.Meets.{a-leaf, no-leaf, none, same}

@@ -1,7 +1,7 @@
 use Rattle.std.proofs.Common.{◌≡◌, List, ℕ, [], None, Ok, length, refl, arith}
 use Rattle.bt_tuples.specs.declared.items.Spot3.TheVariants.{FirstInner, HighKey, Inner}
 use Rattle.bt_tuples.specs.Rules.{includes_some}
-use Rattle.varlena_attrs.specs.Keyed.{key_values, read_inline}
+use Rattle.key_attrs.specs.Keyed.{key_values, read_inline}
 use Rattle.page_write.specs.Tuples.{fixed_width}
 use Rattle.page_write.proofs.TupleReading.{first_form, high_key_form, pivot_means, plain_means}
 use Rattle.page_write.proofs.laws.index_tuples_read_back.Goals as goal

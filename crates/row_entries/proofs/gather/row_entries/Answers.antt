@@ -2,7 +2,7 @@ use Rattle.std.proofs.Common.{◌≡◌, ◌∙◌, ◌<◌, ℕ, List, [], leng
 use Rattle.std.specs.Prelude.{All}
 use Rattle.rel_files.specs.Relation.{count_of}
 use Rattle.case_file.specs.Record.{CaseRecord}
-use Rattle.varlena_attrs.specs.Columns.{TreeColumns, tree_columns}
+use Rattle.key_attrs.specs.Columns.{TreeColumns, tree_columns}
 use Rattle.bt_levels.specs.Index.{case_columns}
 use Rattle.heap_check.specs.declared.rows.LiveRow.{LiveRow}
 use Rattle.heap_check.specs.RowCursor.{rows_ahead}

@@ -3,7 +3,7 @@ use Rattle.std.specs.Prelude.{All}
 use Rattle.key_orders.specs.declared.columns.KeySpec.{KeySpec}
 use Rattle.key_orders.specs.declared.more.MoreSpec.{MoreSpec}
 use Rattle.key_orders.specs.Types.{HasAlignment}
-use Rattle.varlena_attrs.specs.Keyed.{key_types, more_types}
+use Rattle.key_attrs.specs.Keyed.{key_types, more_types}
 use Rattle.bt_levels.proofs.Keys.{aligned-keys, aligned-more, few-keys, few-more, index-has}
 use Rattle.row_entries.proofs.reader.columns_at.Goals as goal
 

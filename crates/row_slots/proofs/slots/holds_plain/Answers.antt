@@ -2,10 +2,10 @@ use Rattle.std.proofs.Common.{◌≡◌, ◌∙◌, ◌+◌, ℕ, subst, sym, ar
 use Rattle.std.specs.Prelude.{None, Ok}
 use Rattle.std.proofs.lemmas.Bool.{OnTrue_at, OnTrue_from}
 use Rattle.stored_keys.specs.Stored.{values_read}
-use Rattle.varlena_attrs.specs.Columns.{all_types}
-use Rattle.varlena_attrs.specs.Keyed.{key_values}
-use Rattle.varlena_attrs.proofs.Keying.{count_of_types}
-use Rattle.varlena_attrs.proofs.StoredKeys.{held_count}
+use Rattle.key_attrs.specs.Columns.{all_types}
+use Rattle.key_attrs.specs.Keyed.{key_values}
+use Rattle.key_attrs.proofs.Keying.{count_of_types}
+use Rattle.key_attrs.proofs.StoredKeys.{held_count}
 use Rattle.row_slots.proofs.WholeLaws.{plain_key}
 use Rattle.row_slots.proofs.slots.holds_plain.Goals as goal
 

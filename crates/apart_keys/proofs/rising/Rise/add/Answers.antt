@@ -1,5 +1,5 @@
 use Rattle.std.proofs.Common.{subst, sym}
-use Rattle.varlena_attrs.specs.Columns.{tree_columns}
+use Rattle.key_attrs.specs.Columns.{tree_columns}
 use Rattle.apart_keys.specs.declared.rising.Rise.{Rise}
 use Rattle.apart_keys.specs.Items.{RisesTo}
 use Rattle.apart_keys.proofs.rising.Rise.add.Goals as goal

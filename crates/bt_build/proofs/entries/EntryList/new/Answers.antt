@@ -1,5 +1,5 @@
 use Rattle.std.proofs.Common.{◌∙◌, ◌++◌, ap}
-use Rattle.varlena_attrs.specs.Keyed.{more_types}
+use Rattle.key_attrs.specs.Keyed.{more_types}
 use Rattle.bt_build.proofs.KeptLaws.{none_kept}
 use Rattle.bt_build.proofs.entries.EntryList.new.Goals as goal
 

@@ -1,7 +1,7 @@
 use Rattle.std.proofs.Common.{subst}
 use Rattle.std.specs.Prelude.{OnOk}
 use Rattle.page_layout.specs.Page.{count_of}
-use Rattle.varlena_attrs.specs.Columns.{TreeColumns, tree_columns}
+use Rattle.key_attrs.specs.Columns.{TreeColumns, tree_columns}
 use Rattle.apart_keys.specs.Items.{RisesTo}
 use Rattle.index_targets.proofs.check.Leaves.judge_page.Goals as goal
 

@@ -3,7 +3,7 @@ use Rattle.std.specs.Option.{option_copied}
 use Rattle.std.proofs.lemmas.Bool.{OnTrue_at}
 use Rattle.outside.proofs.Adding.{Adds-exit, Begins-none}
 use Rattle.page_layout.specs.Page.{count_of}
-use Rattle.varlena_attrs.specs.Columns.{TreeColumns, tree_columns}
+use Rattle.key_attrs.specs.Columns.{TreeColumns, tree_columns}
 use Rattle.bt_levels.specs.Files.{number_of}
 use Rattle.bt_levels.specs.Sound.{file_of, held_block, index_columns}
 use Rattle.bt_steps.specs.Pages.{is_live_leaf}

@@ -1,7 +1,7 @@
 use Rattle.std.proofs.Common.{◌∙◌, [], ◌∷◌, ap, subst, sym}
 use Rattle.outside.specs.Adds.{AddsIn}
 use Rattle.page_layout.specs.View.{page_bytes}
-use Rattle.varlena_attrs.specs.Columns.{tree_columns}
+use Rattle.key_attrs.specs.Columns.{tree_columns}
 use Rattle.tree_image.proofs.Rises.{IsGood}
 use Rattle.bt_tuples.specs.declared.items.TreeItem.{TreeItem}
 use Rattle.bt_tuples.specs.Shown.{item_shown}

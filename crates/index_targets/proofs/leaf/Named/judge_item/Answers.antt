@@ -6,7 +6,7 @@ use Rattle.reports.specs.Added.{joined, report_lists}
 use Rattle.reports.specs.Lists.{Lists}
 use Rattle.root_set.specs.Targets.{is_in}
 use Rattle.key_orders.specs.declared.Tid.{Tid}
-use Rattle.varlena_attrs.specs.Columns.{tree_columns}
+use Rattle.key_attrs.specs.Columns.{tree_columns}
 use Rattle.apart_keys.proofs.Steps.{rises-past}
 use Rattle.index_targets.proofs.Lists.{data-item, high-key, one-tid, plain-item}
 use Rattle.index_targets.proofs.leaf.Named.judge_item.Goals as goal

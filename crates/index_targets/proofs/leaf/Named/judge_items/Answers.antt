@@ -2,7 +2,7 @@ use Rattle.std.proofs.Common.{◌≡◌, ◌∙◌, ◌+◌, ◌-◌, ◌≤◌,
 use Rattle.outside.proofs.Adding.{Adds-exit}
 use Rattle.page_layout.specs.Page.{count_of}
 use Rattle.page_layout.specs.View.{page_bytes}
-use Rattle.varlena_attrs.specs.Columns.{TreeColumns, tree_columns}
+use Rattle.key_attrs.specs.Columns.{TreeColumns, tree_columns}
 use Rattle.tree_image.specs.Image.{first_data}
 use Rattle.bt_steps.specs.Entries.{IsRead}
 use Rattle.bt_steps.specs.Pages.{IsReadable, is_live_leaf}

@@ -1,6 +1,6 @@
 use Rattle.std.proofs.Common.{◌≡◌, true}
 use Rattle.page_layout.specs.View.{page_bytes}
-use Rattle.varlena_attrs.specs.Columns.{tree_columns}
+use Rattle.key_attrs.specs.Columns.{tree_columns}
 use Rattle.reports.specs.Added.{each_upto, joined, report_lists}
 use Rattle.bt_steps.specs.Pages.{IsReadable, is_live_leaf}
 use Rattle.root_set.specs.Targets.{is_in}

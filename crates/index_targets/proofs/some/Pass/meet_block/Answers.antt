@@ -1,5 +1,5 @@
 use Rattle.std.proofs.Common.{◌≢◌, ◌∙◌, ℕ, List, arith, subst}
-use Rattle.varlena_attrs.specs.Columns.{TreeColumns, tree_columns}
+use Rattle.key_attrs.specs.Columns.{TreeColumns, tree_columns}
 use Rattle.bt_levels.specs.Sound.{held_block, index_columns}
 use Rattle.leaf_meets.specs.Meeting.{HaveMetSome, leaf_entries}
 use Rattle.leaf_meets.proofs.Some.{some-none}

@@ -3,7 +3,7 @@ use Rattle.std.specs.Prelude.{slice_get}
 use Rattle.std.specs.List.{AllByRecursion}
 use Rattle.std.proofs.Math.ListN.{drop_of_length-le}
 use Rattle.key_orders.specs.Values.{value_shown}
-use Rattle.varlena_attrs.specs.Columns.{TreeColumns, tree_columns}
+use Rattle.key_attrs.specs.Columns.{TreeColumns, tree_columns}
 use Rattle.case_file.specs.Record.{CaseRecord}
 use Rattle.case_file.specs.Sound.{IsSoundMore}
 use Rattle.indexed_rules.specs.Rows.{more_numbers, values_at}

@@ -1,0 +1,4 @@
+pub mod Keying
+pub mod PlainKeys
+pub mod StoredKeys
+pub mod KeyAttributes

@@ -1,0 +1,5 @@
+pub mod Keyed
+pub mod Columns
+pub mod KeyedShown
+pub mod FirstValues
+pub mod KeyLaws
