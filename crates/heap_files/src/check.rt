@@ -1,13 +1,15 @@
 //! Judges a whole case but for its indexes: its visibility map, its heap and its TOAST table.
-ghost use Rattle.std.specs.Prelude.{◌≡◌, ◌↔◌, ◌⊎◌, None, IfErr, IfOk, IfSome, IsSome, OnOk};
+ghost use Rattle.std.specs.Prelude.{◌≡◌, ◌↔◌, [], ◌⊎◌, None, IfErr, IfOk, IfSome, IsSome, OnOk};
 ghost use Rattle.outside.specs.Adds.{AddsIn};
-ghost use Rattle.outside.specs.Outside.{Asked, IfTold, Tells};
+ghost use Rattle.outside.specs.Outside.{Asked, IfTold, Names, Tells};
+ghost use Rattle.rel_files.specs.Ahead.{IsAheadOf};
+ghost use Rattle.rel_files.specs.declared.relation.Relation.{Relation as Related};
 ghost use Rattle.liveness.specs.LogFiles.{log_files_of};
 ghost use Rattle.reports.specs.Added.{joined, nothing, report_lists};
 ghost use Rattle.heap_pages.specs.Found.{both_found};
 ghost use Rattle.heap_files.specs.Case.{heap_blocks, heap_page, log_files_in, oid_in};
-ghost use Rattle.heap_files.specs.Found.{IsQuiet, case_found, chunks_given, lists_in, map_found, parts_found};
-ghost use Rattle.heap_files.specs.Found.{toast_found};
+ghost use Rattle.heap_files.specs.Found.{IsQuiet, case_found, chunks_given, chunks_of, heap_found, lists_in};
+ghost use Rattle.heap_files.specs.Found.{map_found, parts_found, toast_found};
 ghost use Rattle.heap_files.specs.Relations.{segment_found};
 ghost use Rattle.heap_files.specs.Targets.{HasTargets};
 ghost use Rattle.heap_pages.specs.Table.{chunks_seen, toast_oid_seen};
@@ -175,6 +177,50 @@ fn put_together(map: Report, heap: Found, toast: Found) -> Result<Found, NoMemor
     })
 }
 
+// A case with the logs of its cluster, the files of its table, and the chunks that were found of its TOAST table.
+#[derive(Clone, Copy)]
+struct HeapOfCase<'a> {
+    case: &'a Case,
+    logs: &'a CaseLogs,
+    at: &'a HeapFiles,
+    chunks: &'a ToastMap,
+}
+
+// Judges the heap of a case, once the pages of its map were judged.
+fn judge_heap<F: Transactions>(
+    files: &mut F,
+    of: HeapOfCase<'_>,
+    hands: &mut Hands,
+) -> Result<(), PageFault>
+    requires told { IfTold F.seen files.old (λ names. AreFilesOf of.case.now names of.at.now) }
+    requires belong { BelongTo of.case.now of.at.now }
+    requires logs { log_files_kept of.logs.now ≡ log_files_in of.case.now }
+    requires chunks { IfTold F.seen files.old (λ names. of.chunks.now ≡ chunks_of of.case.now names) }
+    requires pages { (names : Names) (r : Related) → IsAheadOf names r hands.old.ahead }
+    requires map { IfTold F.seen files.old (λ names. IsOptionalMapInHand names of.at.now.map hands.old.map) }
+    ensures found { OnOk result (IfTold F.seen files.old (λ names.
+        hands.new.work.found ≡ both_found hands.old.work.found (heap_found of.entry.case.now names))) }
+    ensures targets { OnOk result (IfTold F.seen files.old (λ names. hands.old.targets ≡ []
+        → HasTargets (heap_page of.entry.case.now names) (heap_blocks of.entry.case.now names) hands.new.targets)) }
+    ensures asked { Asked F.seen files.old files.new result PageFault.ReadFault }
+{
+    let HeapOfCase {
+        case,
+        logs,
+        at,
+        chunks,
+    } = of;
+    case.sound();
+    let columns = ColumnLayout::new(case.column_types());
+    let table = heap_rules(&columns, toast_table(case, chunks), logs);
+    let file = TableFile {
+        relation: &at.heap,
+        map: at.map.as_ref(),
+    };
+    judge_table(files, &table, file, hands)?;
+    Ok(())
+}
+
 // What is found of the map, the heap and the TOAST table of a case, and what an index entry may name of the heap. The
 // TOAST table is judged first, since the heap's values are asked of its chunks, and comes last in the lists.
 fn judge_in_turn<F: Transactions>(
@@ -196,14 +242,14 @@ fn judge_in_turn<F: Transactions>(
     let mut hands = Hands::new(alloc)?;
     let mut listed = Report::new(alloc);
     judge_map(files, case, at, &mut hands.map, &mut listed)?;
-    case.sound();
-    let columns = ColumnLayout::new(case.column_types());
-    let table = heap_rules(&columns, toast_table(case, chunks_in(&toast)), logs);
-    let file = TableFile {
-        relation: &at.heap,
-        map: at.map.as_ref(),
+    let chunks = chunks_in(&toast);
+    let of = HeapOfCase {
+        case,
+        logs,
+        at,
+        chunks,
     };
-    judge_table(files, &table, file, &mut hands)?;
+    judge_heap(files, of, &mut hands)?;
     let heap = hands.into_judged();
     Ok(JudgedFile {
         found: put_together(listed, heap.found, toast)?,
