@@ -26,6 +26,9 @@ met-append keys (x ∷ xs) ys met = met-append keys xs ys (met_by keys met x)
 pub none : (t : Tables) → HaveMet [] t t
 none t = record { met = refl; keys = refl; range = record { first = refl; blocks = refl; has = refl } }
 
+pub range-then : (a b c : Tables) → SameRange a b → SameRange b c → SameRange a c
+range-then a b c h g = record { first = g.first ∙ h.first; blocks = g.blocks ∙ h.blocks; has = g.has ∙ h.has }
+
 pub met-then : (xs ys : List LeafEntry) (a b c : Tables) → HaveMet xs a b → HaveMet ys b c → HaveMet (xs ++ ys) a c
 met-then xs ys a b c h g = record {
   met =
@@ -34,7 +37,7 @@ met-then xs ys a b c h g = record {
       ∙ sym (met-append (keys_in a) (alive_in xs) (alive_in ys) (met_in a))
       ∙ ap (λ (l : List Keyed). met_after (keys_in a) l (met_in a)) (sym (alive-append xs ys));
   keys = g.keys ∙ h.keys;
-  range = record { first = g.range.first ∙ h.range.first; blocks = g.range.blocks ∙ h.range.blocks; has = g.range.has ∙ h.range.has };
+  range = range-then a b c h.range g.range;
 }
 
 -- the same entries by another list

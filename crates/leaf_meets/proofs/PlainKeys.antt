@@ -1,13 +1,13 @@
 -- An item of a leaf, by what was read of it, and one that is one entry, as its bytes lie.
 use Rattle.std.proofs.Common.{◌≡◌, ◌∙◌, ◌++◌, ℕ, Bool, List, [], ◌∷◌, length, take, drop, ap, sym}
-use Rattle.std.specs.Prelude.{Ok, false}
+use Rattle.std.specs.Prelude.{None, Ok, false}
 use Rattle.std.proofs.lemmas.Bool.{or_parts}
 use Rattle.std.proofs.lemmas.List.{take-append-drop}
 use Rattle.page_layout.specs.Page.{item_of}
 use Rattle.key_orders.specs.declared.columns.Value.{Value}
 use Rattle.key_orders.specs.declared.Tid.{Tid}
 use Rattle.key_attrs.specs.Columns.{TreeColumns}
-use Rattle.key_attrs.specs.Keyed.{KeyValues}
+use Rattle.key_attrs.specs.Keyed.{KeyValues, key_types, key_values, more_types}
 use Rattle.bt_meta.specs.Heads.{tree_head_of}
 use Rattle.bt_meta.specs.declared.records.HeadKind.{HeadKind}
 use Rattle.bt_tuples.specs.declared.items.Spot3.TheVariants.{LeafItem}
@@ -31,6 +31,7 @@ entries-are columns page i item is = ap entries_in (sym (item-is columns page i 
 pub record HasPlainKey (columns : TreeColumns) (page : List ℕ) (i : ℕ) (tid : Tid) (body : List ℕ) (killed : Bool) : Type 0 where
   pub key : List Value
   pub more : List Value
+  pub told : key_values (key_types columns.specs ++ more_types columns.more) body None ≡ Ok (key ++ more)
   pub tells : TellsKey columns body (key ++ more)
   pub is : entries_at columns page i ≡ leaf_entry key more tid killed ∷ []
 
@@ -49,13 +50,13 @@ plain-key columns page i tid body killed lies dead read =
     ap (λ (k : HeadKind). meaning_by k n tuple flag values) lies.tuple.kind in
     let told = told-values (values_in columns.specs columns.more tuple) (or_parts _ _ read.rules.values).1 read.plain in
     let all : values ≡ told.0 = ap (λ (v : KeyValues). values_or_none v) told.1 in
+    let both : told.0 ≡ take n values ++ drop n values = sym all ∙ sym (take-append-drop n values) in
+    let here : key_values (key_types columns.specs ++ more_types columns.more) body None ≡ Ok told.0 = sym (lies.tuple.values columns.specs columns.more) ∙ told.1 in
     record {
       key = take n values;
       more = drop n values;
-      tells = λ held here count.
-          same-told held told.0 (sym here ∙ sym (lies.tuple.values columns.specs columns.more) ∙ told.1)
-          ∙ sym all
-          ∙ sym (take-append-drop n values);
+      told = here ∙ ap (λ (vs : List Value). Ok vs) both;
+      tells = λ held other count. same-told held told.0 (sym other ∙ here) ∙ both;
       is =
           entries-are columns page i (meaning_of columns.specs columns.more tuple flag) (sym kept)
           ∙ ap entries_in means

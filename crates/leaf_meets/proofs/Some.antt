@@ -8,7 +8,7 @@ use Rattle.row_slots.specs.Met.{Keyed, Keys, Mets, meets, met_after}
 use Rattle.row_slots.specs.Slots.{Tables, keys_in, met_in}
 use Rattle.row_slots.proofs.MetLaws.{met_after_is}
 use Rattle.leaf_meets.specs.Meeting.{HaveMet, HaveMetSome, alive_in}
-use Rattle.leaf_meets.proofs.Meets.{alive-append}
+use Rattle.leaf_meets.proofs.Meets.{alive-append, range-then}
 
 -- some of the entries meets the row that is rooted there
 abbrev any : Keys → List Keyed → Tid → Bool
@@ -71,7 +71,7 @@ some-then es a b c h g = record {
         | inr one ↦ after-any (keys_in a) (alive_in es) (met_in a) tid one
       ];
   keys = g.keys ∙ h.keys;
-  range = record { first = g.range.first ∙ h.range.first; blocks = g.range.blocks ∙ h.range.blocks; has = g.range.has ∙ h.range.has };
+  range = range-then a b c h.range g.range;
 }
 
 -- the same entries by another list

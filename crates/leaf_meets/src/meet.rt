@@ -1,19 +1,23 @@
 //! The entries of a leaf, each of which meets the row that it names.
-ghost use Rattle.std.specs.Prelude.{◌≡◌, ◌≤◌, None, false, true};
+ghost use Rattle.std.specs.Prelude.{◌≡◌, ◌≤◌, List, None, Ok, false, true};
 ghost use Rattle.page_layout.specs.Page.{count_of, page_rule_of};
 ghost use Rattle.page_layout.specs.View.{page_bytes};
-ghost use Rattle.key_attrs.specs.Columns.{tree_columns};
+ghost use Rattle.key_orders.specs.declared.columns.Value.{Value as Shown};
+ghost use Rattle.key_attrs.specs.Columns.{all_types, tree_columns};
+ghost use Rattle.key_attrs.specs.Keyed.{key_values};
 ghost use Rattle.tree_image.specs.Image.{entries_in, first_data, page_entries};
 ghost use Rattle.bt_tuples.specs.Items.{Posting};
 ghost use Rattle.bt_steps.specs.Entries.{IsRead};
 ghost use Rattle.bt_steps.specs.Pages.{IsReadable, is_live_leaf};
+ghost use Rattle.row_slots.specs.Met.{keyed, met_by};
+ghost use Rattle.row_slots.specs.Slots.{SameRange, keys_in, met_in};
 ghost use Rattle.leaf_meets.specs.Meeting.{HaveMet, entries_at, leaf_entries};
 
 use crate::ahead::RowsAhead;
 use bt_steps::is_live_leaf;
 use bt_tuples::{Spot3, TidList, TreeItem, plain_entry, tree_item};
-use key_attrs::IndexColumns;
-use key_orders::KeyRefs;
+use key_attrs::{IndexColumns, read_entry_attributes, read_key_attributes};
+use key_orders::{KeyRefs, Tid};
 use page_layout::{PageKind, PageView};
 use row_slots::RowSlots;
 use stored_keys::RowValues;
@@ -69,6 +73,36 @@ fn meet_any_item(slots: &mut RowSlots, columns: &IndexColumns<'_>, page: PageVie
     }
 }
 
+// Meets the row that an entry without null bits names, by the values that are read of its body. It stays a call, since
+// most entries are told by their bytes; it does without the item that `meet_any_item` makes, which is large.
+#[inline(never)]
+fn meet_body(slots: &mut RowSlots, columns: &IndexColumns<'_>, tid: Tid, body: &[u8])
+    ensures met { (key : List Shown) → key_values (all_types columns.now) body.now None ≡ Ok key
+        → met_in slots.new ≡ met_by (keys_in slots.old) (met_in slots.old) (keyed tid key) }
+    ensures keys { keys_in slots.new ≡ keys_in slots.old }
+    ensures range { SameRange slots.old slots.new }
+{
+    let mut key = KeyRefs::new();
+    if columns.more.is_empty() {
+        let count = columns.specs.len() as u16;
+        if let Ok(()) = read_key_attributes(columns, body, None, count, &mut key) {
+            let values = RowValues {
+                key: key.as_slice(),
+                more: &[],
+            };
+            slots.meet(tid, values);
+        }
+        return;
+    }
+    if let Ok(more) = read_entry_attributes(columns, body, None, &mut key) {
+        let values = RowValues {
+            key: key.as_slice(),
+            more: more.as_slice(),
+        };
+        slots.meet(tid, values);
+    }
+}
+
 /// Meets the rows that a data item names.
 pub(crate) fn meet_item(
     slots: &mut RowSlots,
@@ -90,7 +124,7 @@ pub(crate) fn meet_item(
         return;
     }
     if !slots.meet_plain(entry.tid, columns, entry.body) {
-        meet_any_item(slots, columns, page, i);
+        meet_body(slots, columns, entry.tid, entry.body);
     }
 }
 
