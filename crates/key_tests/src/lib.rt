@@ -1,4 +1,4 @@
-//! The tests of the crates of values, attributes and keys: `key_orders` and `varlena_attrs`.
+//! The tests of the crates of values, attributes and keys: `key_orders`, `varlena_attrs` and `key_attrs`.
 #![tactic(auto)]
 
 #[cfg(test)]

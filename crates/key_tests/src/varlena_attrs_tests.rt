@@ -3,7 +3,7 @@ ghost use Rattle.std.specs.Prelude.{All};
 ghost use Rattle.key_orders.specs.Types.{HasAlignment};
 
 use crate::checks::{holds, same};
-use key_orders::{ColType, ValueRef};
+use key_orders::{ColType, ValueRef, value_of};
 use std::alloc::Global;
 use std::process::Abort;
 use std::test::Fail;
@@ -11,7 +11,7 @@ use varlena_attrs::AttrFault::{BadHeader, BadTag, PastEnd};
 use varlena_attrs::AttrPlace::{External, Missing, Null, Packed, Plain};
 use varlena_attrs::{
     Attr, AttrBuffer, AttrFault, AttrPlace, ColumnLayout, ToastPointer, TupleColumns, attributes,
-    pointer_at, value_of,
+    pointer_at,
 };
 
 // A body of two columns, and their attributes or the reason why there are none.
