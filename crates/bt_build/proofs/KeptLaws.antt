@@ -10,7 +10,7 @@ use Rattle.key_orders.specs.declared.more.MoreSpec.{MoreSpec}
 use Rattle.key_orders.specs.declared.columns.ColType.{ColType}
 use Rattle.tree_search.specs.Keys.{compare_values}
 use Rattle.key_orders.specs.Keys.{columns_of, fits_columns}
-use Rattle.key_orders.specs.Prefixes.{IsPrefix}
+use Rattle.key_prefixes.specs.Prefixes.{IsPrefix}
 use Rattle.stored_keys.specs.Stored.{IsStorable, key_read, stored_key}
 use Rattle.row_slots.specs.Slots.{LiesAt}
 use Rattle.row_slots.proofs.PutLaws.{lies_last, lies_more, read_there}

@@ -8,7 +8,7 @@ use Rattle.std.specs.Cmp.Lexicographic.{slice_cmp}
 use Rattle.std.specs.Int.{from_be_bytes, w32, w64}
 use Rattle.std.proofs.Common.{length-take-le}
 use Rattle.std.proofs.Math.Nat.{mul-le-mul_right, pow-suc}
-use Rattle.key_orders.specs.Prefixes.{eight_number}
+use Rattle.key_orders.specs.Leading.{eight_number}
 
 -- the number that so many first bytes are, the first one highest, with zeros for those that are missing
 abbrev pub leading : ℕ → List ℕ → ℕ
@@ -49,7 +49,7 @@ below_digits p x y l m Equal rest h small later lt = later (let same : x * p ≡
 below_digits p x y l m Greater rest h small later lt = absurd (let other = digit_decides p y x m l small h in omega arith)
 
 -- so numbers are compared by their first digits, and then by the second
-two_digits : (p x y l m : ℕ) → l < p → m < p → ordering_then (nat_cmp x y) (nat_cmp l m) ≡ nat_cmp (x * p + l) (y * p + m)
+pub two_digits : (p x y l m : ℕ) → l < p → m < p → ordering_then (nat_cmp x y) (nat_cmp l m) ≡ nat_cmp (x * p + l) (y * p + m)
 two_digits p x y l m left right = go (nat_cmp x y) (ranks x y)
   where
     shifted : (o : Ordering) → x ≡ y → MatchOrdering o (l < m) (l ≡ m) (m < l)

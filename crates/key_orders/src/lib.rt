@@ -8,7 +8,6 @@ mod laws;
 mod more;
 mod octets;
 mod orders;
-mod prefixes;
 mod refs;
 mod scans;
 mod separators;
@@ -23,7 +22,6 @@ pub use laws::{
 pub use more::{MAX_MORE_COLUMNS, MoreRefs, MoreSpec};
 pub use octets::Octets;
 pub use orders::{BoolOrder, BytesOrder, IntOrder, KeyOrder, NullPlace, Reversed};
-pub use prefixes::key_prefix;
 pub use refs::{KeyRefs, MAX_KEY_COLUMNS};
 pub use scans::{Scan, ScanFault, before_low, goes_right, matches, past_high, within};
 pub use separators::{SepRef, Separator};

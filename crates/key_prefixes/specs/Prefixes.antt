@@ -1,6 +1,7 @@
 -- A number for the first value of a key, which is smaller only where the key is lower.
 use Rattle.std.specs.Prelude.{◌≡◌, ◌-◌, ◌<◌, ℕ, negsuc, Bool, true, false, List, [], ◌∷◌, FitsSigned, ⊤, slice_index}
-use Rattle.std.specs.Int.{from_be_bytes, int_gap, w64}
+use Rattle.std.specs.Int.{int_gap, w64}
+use Rattle.key_orders.specs.Leading.{eight_number}
 use Rattle.key_orders.specs.declared.columns.KeySpec.{KeySpec}
 use Rattle.key_orders.specs.declared.columns.Value.{Value}
 use Rattle.key_orders.specs.declared.columns.Value.TheVariants.{Null, Bool as BoolValue, Int, Bytes}
@@ -8,10 +9,6 @@ use Rattle.key_orders.specs.declared.columns.Value.TheVariants.{Null, Bool as Bo
 -- the greatest number of 64 bits
 abbrev pub greatest : ℕ
 greatest = 18446744073709551615
-
--- the number that the first eight bytes are, the first one highest; zeros stand for those that are missing
-unfoldable pub eight_number : List ℕ → ℕ
-eight_number bytes = from_be_bytes w64 bytes
 
 -- false before true, how far a number is above the lowest of 64 bits with a sign, and the first bytes
 abbrev pub rising_number : Value → ℕ

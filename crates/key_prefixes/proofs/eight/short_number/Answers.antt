@@ -1,6 +1,6 @@
 use Rattle.std.proofs.Common.{◌∙◌}
 use Rattle.key_orders.proofs.Leading.{halves, first_half}
-use Rattle.key_orders.proofs.bytewise.short_number.Goals as goal
+use Rattle.key_prefixes.proofs.eight.short_number.Goals as goal
 
 pub returns-in-Some : goal.returns-in-Some
 returns-in-Some c =

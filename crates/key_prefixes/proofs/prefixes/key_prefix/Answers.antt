@@ -1,9 +1,9 @@
 use Rattle.std.proofs.Common.{map, arith}
 use Rattle.std.proofs.lemmas.Grind.{common_steps}
-use Rattle.key_orders.specs.Prefixes.{IsPrefix}
+use Rattle.key_prefixes.specs.Prefixes.{IsPrefix}
 use Rattle.key_orders.specs.Values.{value_shown}
-use Rattle.key_orders.proofs.PrefixLaws.{prefixes_rise}
-use Rattle.key_orders.proofs.prefixes.key_prefix.Goals as goal
+use Rattle.key_prefixes.proofs.PrefixLaws.{prefixes_rise}
+use Rattle.key_prefixes.proofs.prefixes.key_prefix.Goals as goal
 
 pub returns-clause-below : goal.returns-clause-below
 returns-clause-below c =

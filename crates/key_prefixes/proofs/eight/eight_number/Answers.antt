@@ -1,8 +1,8 @@
 use Rattle.std.proofs.Common.{◌∙◌, ap}
 use Rattle.std.specs.Int.{from_be_bytes, w64}
 use Rattle.key_orders.proofs.Leading.{first_chunk_number}
-use Rattle.key_orders.proofs.bytewise.eight_number.Goals as goal
+use Rattle.key_prefixes.proofs.eight.eight_number.Goals as goal
 
 pub returns-in-Some-clause-number : goal.returns-in-Some-clause-number
 returns-in-Some-clause-number c =
-    c.chunk_number.ensures.number ∙ ap (from_be_bytes w64) c.in-Some.ensures.cases.same ∙ first_chunk_number c.args.bytes.now c.in-Some.ensures.cases.enough
+    c.from_be_bytes.ensures ∙ ap (from_be_bytes w64) c.in-Some.ensures.cases.same ∙ first_chunk_number c.args.bytes.now c.in-Some.ensures.cases.enough

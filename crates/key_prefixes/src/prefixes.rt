@@ -5,11 +5,11 @@ ghost use Rattle.tree_search.specs.Keys.{compare_values};
 ghost use Rattle.key_orders.specs.declared.columns.Value.{Value as Shown};
 ghost use Rattle.key_orders.specs.Values.{value_shown};
 ghost use Rattle.key_orders.specs.Keys.{columns_of, fits_columns};
-ghost use Rattle.key_orders.specs.Prefixes.{IsHeld, IsPrefix, value_number};
-ghost use Rattle.key_orders.specs.Prefixes.{directed_number, null_number, rising_number};
+ghost use Rattle.key_prefixes.specs.Prefixes.{IsHeld, IsPrefix, value_number};
+ghost use Rattle.key_prefixes.specs.Prefixes.{directed_number, null_number, rising_number};
 
-use crate::bytewise::eight_number;
-use crate::columns::{KeySpec, ValueRef};
+use crate::eight::eight_number;
+use key_orders::{KeySpec, ValueRef};
 
 /// A number for the first value of a key: where that of one key is smaller than that of another, the
 /// first key is below the second in the order of keys, if both fit the columns. Equal numbers say

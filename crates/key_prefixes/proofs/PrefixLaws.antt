@@ -12,7 +12,7 @@ use Rattle.key_orders.specs.declared.types.ValueKind.TheVariants.{Flag, Number, 
 use Rattle.key_orders.specs.Types.{type_of}
 use Rattle.key_orders.specs.Orders.{value_order, directed, null_table, column_order, fits_kind, fits_type}
 use Rattle.key_orders.specs.Keys.{columns_of, fits_columns}
-use Rattle.key_orders.specs.Prefixes.{greatest, rising_number, directed_number, null_number, value_number, key_number, IsHeld, IsFirstHeld, IsPrefix}
+use Rattle.key_prefixes.specs.Prefixes.{greatest, rising_number, directed_number, null_number, value_number, key_number, IsHeld, IsFirstHeld, IsPrefix}
 use Rattle.std.proofs.lemmas.Bool.{and_parts}
 use Rattle.key_orders.proofs.Leading.{eight_below, eight_under}
 
