@@ -96,6 +96,14 @@ impl<'p> TidList<'p> {
     }
 }
 
+// A TID as one number, which rises as TIDs do.
+#[inline]
+fn number_of_tid(tid: Tid) -> u64
+    ensures { result ≡ tid.block * 65536 + tid.item }
+{
+    u64::from(tid.block) * 65536 + u64::from(tid.item)
+}
+
 // Whether a TID isn't above the one before it, if there is one.
 #[inline]
 fn is_not_above(before: Option<Tid>, tid: Tid) -> bool
@@ -103,11 +111,7 @@ fn is_not_above(before: Option<Tid>, tid: Tid) -> bool
 {
     match before {
         None => false,
-        Some(before) => !before
-            .block
-            .cmp(&tid.block)
-            .then(before.item.cmp(&tid.item))
-            .is_lt(),
+        Some(before) => number_of_tid(tid) <= number_of_tid(before),
     }
 }
 
