@@ -17,7 +17,7 @@ use Rattle.bt_levels.specs.declared.files.TreeFile.{TreeFile}
 use Rattle.bt_levels.specs.declared.sound.SoundTree.{SoundTree}
 use Rattle.bt_levels.proofs.LevelLaws.{empty_quiet, quiet_empty}
 use Rattle.indexed_rules.specs.Lists.{indexed_lists}
-use Rattle.heap_indexed.specs.declared.joined.IndexedTable.{IndexedTable}
+use Rattle.row_keys.specs.declared.joined.IndexedTable.{IndexedTable}
 use Rattle.heap_indexed.specs.Meetings.{HoldIt}
 use Rattle.amcheck.specs.Numbered.{join_found}
 use Rattle.amcheck.specs.Tables.{IsHeapOf, IsTreeOf, trees_found}

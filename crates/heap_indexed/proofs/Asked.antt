@@ -1,14 +1,13 @@
 -- Keys are asked where nothing else is found of an index.
 use Rattle.std.proofs.Common.{◌≡◌, ◌∙◌, ◌+◌, ◌<◌, ◌≤◌, ◌⊎◌, ◌++◌, inl, inr, ℕ, zero, suc, Bool, true, false, List, [], ◌∷◌, length, drop, get_or, map, refl, ap, sym, arith, add-one, drop-cons}
-use Rattle.std.specs.Prelude.{Err, Ok, OnOk, Option, Result, Some, ◌↔◌, take}
+use Rattle.std.specs.Prelude.{Option, Some, ◌↔◌, take}
 use Rattle.std.specs.Option.{option_to_list}
 use Rattle.std.proofs.lemmas.List.{map-append, take_more}
 use Rattle.std.proofs.lemmas.Bool.{false≢true}
 use Rattle.std.proofs.lemmas.List.{nil_from_length}
-use Rattle.outside.specs.Adds.{AddsIn}
 use Rattle.outside.specs.Outside.{Names}
 use Rattle.case_file.specs.Record.{CaseRecord}
-use Rattle.reports.specs.Added.{joined, report_lists}
+use Rattle.reports.specs.Added.{joined}
 use Rattle.reports.specs.Lists.{Lists}
 use Rattle.reports.specs.declared.places.Finding.{Finding}
 use Rattle.reports.specs.declared.places.UnjudgedPlace.{UnjudgedPlace}
@@ -67,8 +66,3 @@ next-done f xs k x at lt =
     ap (λ y. map f (take k xs) ++ f y ∷ []) at
     ∙ sym (map-append f (take k xs) (get_or xs k x ∷ []))
     ∙ ap (map f) (sym (take_more xs k x lt))
-
--- what is added to an empty report
-pub added : {T E : Type 0} (r : Result T E) (old new owed all : Lists) → length old.findings ≡ 0 → length old.unjudged ≡ 0 → owed ≡ all → AddsIn report_lists r old new owed → OnOk r (new ≡ all)
-added (Ok t) old new owed all none sure is adds = adds ∙ joined-nothing old owed none sure ∙ is
-added (Err e) old new owed all none sure is adds = tt

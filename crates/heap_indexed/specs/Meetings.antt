@@ -19,7 +19,7 @@ use Rattle.indexed_rules.specs.Rows.{key_numbers, more_numbers, values_at}
 use Rattle.apart_keys.specs.Apart.{AreApart}
 use Rattle.index_targets.specs.Passes.{strays_of}
 use Rattle.row_slots.specs.Slots.{Tables, keys_in, keys_with, met_in}
-use Rattle.heap_indexed.specs.declared.joined.IndexedTable.{IndexedTable}
+use Rattle.row_keys.specs.declared.joined.IndexedTable.{IndexedTable}
 use Rattle.row_keys.specs.declared.keys.KeyedHeap.{KeyedHeap}
 use Rattle.heap_indexed.specs.declared.meeting.Meeting.{Meeting}
 use Rattle.heap_indexed.specs.declared.ranges.Ranges.{Ranges}

@@ -125,26 +125,6 @@ pub fn probe_rows<F: Files>(
     Ok(())
 }
 
-// Adds what is found of the live rows (X1, U6) by look-ups, and then of what the entries name (X2).
-fn check_joined<F: Files>(
-    alloc: Global,
-    files: &mut F,
-    at: IndexedHeap<'_>,
-    report: &mut Report,
-) -> Result<(), CheckFault>
-    requires belong { BelongTogether at.case.now at.heap.now at.tree.now }
-    requires hold { IfTold F.seen files.old (λ names. HoldTogether names at.case.now at.heap.now at.tree.now) }
-    ensures lists { IfTold F.seen files.old (λ names. AddsIn report_lists result report.old report.new
-        (joined_lists at.entry.case.now names (number_of (file_of at.entry.tree.now)))) }
-    ensures only { IfErr result (λ e. e ≡ CheckFault.ReadFault ⊎ e ≡ CheckFault.NoMemory) }
-    ensures asked { Asked F.seen files.old files.new result CheckFault.ReadFault }
-{
-    let mut look_ups = LookUps::new(alloc)?;
-    probe_rows(alloc, files, at, &mut look_ups, report)?;
-    check_strays(alloc, files, at, report)?;
-    Ok(())
-}
-
 // Whether nothing is in a report.
 fn is_empty(report: &Report) -> bool
     ensures { (result ≡ true) ↔ (length report.now.findings ≡ 0) × (length report.now.unjudged ≡ 0) }
@@ -175,10 +155,12 @@ pub(crate) fn add_duplicates<F: Files>(
     if !is_empty(report) {
         return Ok(());
     }
-    check_duplicates(alloc, files, at, apart, report)
+    let _looks = check_duplicates(alloc, files, at, apart, report)?;
+    Ok(())
 }
 
-// The report on a heap and an index of it, told by look-ups.
+// The report on a heap and an index of it: what is found of the live rows (X1, U6) by look-ups, then of what the
+// entries name (X2), and where nothing is there of equal keys (X3).
 pub(crate) fn index_report<F: Files>(
     alloc: Global,
     files: &mut F,
@@ -191,8 +173,10 @@ pub(crate) fn index_report<F: Files>(
     ensures only { IfErr result (λ e. e ≡ CheckFault.ReadFault ⊎ e ≡ CheckFault.NoMemory) }
     ensures asked { Asked F.seen files.old files.new result CheckFault.ReadFault }
 {
+    let mut look_ups = LookUps::new(alloc)?;
     let mut report = Report::new(alloc);
-    check_joined(alloc, files, at, &mut report)?;
+    probe_rows(alloc, files, at, &mut look_ups, &mut report)?;
+    check_strays(alloc, files, at, &mut report)?;
     add_duplicates(alloc, files, at, false, &mut report)?;
     Ok(report)
 }

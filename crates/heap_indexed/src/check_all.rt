@@ -14,7 +14,6 @@ ghost use Rattle.heap_indexed.specs.Meetings.{columns_of_all};
 ghost use Rattle.row_keys.specs.Rows.{columns_in};
 
 use crate::check::{add_duplicates, index_report};
-use crate::joined::IndexedTable;
 use crate::meeting::Meeting;
 use crate::ranges::Ranges;
 use bt_levels::SoundTree;
@@ -23,7 +22,7 @@ use key_attrs::IndexColumns;
 use outside::{Files, NoMemory};
 use reports::{CheckFault, PageFault, Report};
 use root_set::set_tells_of_pages;
-use row_keys::{IndexedHeap, columns_of};
+use row_keys::{IndexedHeap, IndexedTable, columns_of};
 use std::alloc::Global;
 use std::collections::VecDeque;
 

@@ -1,4 +1,4 @@
-//! What is judged together, and what look-ups go through.
+//! What look-ups go through.
 ghost use Rattle.std.specs.Prelude.{◌≡◌, ◌≤◌, ◌+◌, IfOk, length, map};
 ghost use Rattle.outside.specs.Outside.{Asked, IfTold, Names as Held, Tells};
 ghost use Rattle.rel_files.specs.Faults.{read_fault};
@@ -12,9 +12,7 @@ ghost use Rattle.heap_indexed.specs.Looking.{AreOf, has_entry, look_length};
 use bt_levels::{SoundTree, sound_trees_are_searchable};
 use bt_search::{PageCache, Spot, Visits, find, has_included};
 use bt_steps::Sought;
-use case_file::Case;
 use heap_check::RowPlace;
-use heap_files::SoundHeap;
 use key_orders::{KeyRefs, ValueRef, keys_are_searchable};
 use outside::{Files, NoMemory};
 use rel_files::ReadFault;
@@ -22,14 +20,6 @@ use std::alloc::Global;
 
 // How many pages of an index are kept.
 const CACHE_PAGES: usize = 64;
-
-/// The heap of a case and indexes of it, in all of which nothing was found.
-#[derive(Clone, Copy)]
-pub struct IndexedTable<'a> {
-    pub case: &'a Case,
-    pub heap: &'a SoundHeap,
-    pub trees: &'a [SoundTree],
-}
 
 /// A row, by its place, with the values that it has in an index: those of its key, and those of the columns that the
 /// index includes.

@@ -16,4 +16,4 @@ mod row_judge;
 
 pub use check::{check_indexed, probe_rows};
 pub use check_all::{check_indexes, meet_indexes};
-pub use joined::{IndexedTable, LookUps};
+pub use joined::LookUps;

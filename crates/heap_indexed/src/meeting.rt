@@ -1,12 +1,11 @@
 //! The rows of a range of heap blocks against one index: its entries meet them, and those that none met are looked up.
-ghost use Rattle.std.specs.Prelude.{◌≡◌, ◌∷◌, ◌++◌, ◌-◌, ◌<◌, ◌≤◌, [], IfOk, List, None, OnErr, OnOk, length};
+ghost use Rattle.std.specs.Prelude.{◌≡◌, ◌∷◌, ◌++◌, ◌-◌, ◌<◌, ◌≤◌, [], IfOk, List, OnErr, OnOk};
 ghost use Rattle.std.specs.Prelude.{true, false};
 ghost use Rattle.std.specs.Option.{option_copied};
 ghost use Rattle.outside.specs.Outside.{Asked, IfTold, Names};
 ghost use Rattle.rel_files.specs.Relation.{count_of};
 ghost use Rattle.reports.specs.Added.{joined, nothing};
 ghost use Rattle.reports.specs.Lists.{Lists};
-ghost use Rattle.stored_keys.specs.Rows.{row_values};
 ghost use Rattle.bt_levels.specs.declared.sound.SoundTree.{SoundTree as Tree};
 ghost use Rattle.bt_levels.specs.Sound.{HoldsTree, block_count, held_block, index_columns};
 ghost use Rattle.heap_files.specs.Files.{heap_in};
@@ -14,11 +13,10 @@ ghost use Rattle.heap_check.specs.RowCursor.{IsAtRow, IsCursorOf, IsSameCursor, 
 ghost use Rattle.heap_check.specs.declared.rows.LiveRow.{LiveRow as Row};
 ghost use Rattle.index_targets.specs.Passes.{strays_of};
 ghost use Rattle.leaf_meets.specs.Meeting.{HaveMetSome, all_entries};
-ghost use Rattle.row_slots.specs.Slots.{AreAllMet, IsBegun, keys_in, keys_with, met_in};
+ghost use Rattle.row_slots.specs.Slots.{AreAllMet, IsBegun, met_in};
 ghost use Rattle.heap_indexed.specs.Looking.{AreOf};
 ghost use Rattle.heap_indexed.specs.Judging.{IsBehind, IsReadyBehind};
 ghost use Rattle.heap_indexed.specs.Meetings.{InWork, IsKept, IsPut, IsToFinish};
-ghost use Rattle.row_keys.specs.Joined.{BelongTogether};
 ghost use Rattle.row_keys.specs.Rows.{IsFound, IsIndexAt};
 ghost use Rattle.heap_indexed.specs.Rows.{owed_for, rows_from};
 
@@ -26,20 +24,16 @@ use crate::joined::LookUps;
 use crate::row_judge::RowJudge;
 use bt_levels::SoundTree;
 use duplicate_keys::is_unique;
-use heap_check::{RowCursor, RowPlace};
+use heap_check::{CellRef, RowCursor, RowPlace};
 use index_targets::{Leaves, Spans, meet_some};
-use key_orders::{KeyRefs, MoreRefs, Tid, ValueRef};
+use key_orders::Tid;
 use leaf_meets::HeapRange;
 use outside::{Files, NoMemory};
 use reports::{PageFault, Report};
 use root_set::RootSet;
-use row_keys::{IndexedHeap, KeyedHeap};
+use row_keys::KeyedHeap;
 use row_slots::RowSlots;
 use std::alloc::Global;
-use stored_keys::RowValues;
-
-// A longer value, in bytes, stands in no index, since no page holds it. A row with one isn't kept.
-const LONGEST_VALUE: usize = 8192;
 
 /// What is in work for one index while the rows of its heap are gone through.
 #[derive(Drop)]
@@ -60,34 +54,8 @@ pub struct Meeting {
     pub spans: Spans,
 }
 
-// Whether an index may have these values, by their lengths.
-fn may_be_indexed(values: &[ValueRef<'_>]) -> bool {
-    for i in 0..values.len() {
-        if let ValueRef::Bytes(bytes) = values[i] {
-            if LONGEST_VALUE < bytes.len() {
-                return false;
-            }
-        }
-    }
-    true
-}
-
-// Keeps the values of the row that is rooted at a line pointer; whether they are kept.
-fn keep_values(slots: &mut RowSlots, root: Tid, values: RowValues<'_>) -> Result<bool, NoMemory>
-    requires few { length (row_values values) < 256 }
-    ensures kept { IfOk result (λ kept. kept ≡ true
-        → keys_in slots.new ≡ keys_with (keys_in slots.old) root (row_values values.entry)) }
-    ensures fresh { IfOk result (λ kept. kept ≡ true → keys_in slots.old root ≡ None) }
-    ensures met { met_in slots.new ≡ met_in slots.old }
-{
-    if !may_be_indexed(values.key) || !may_be_indexed(values.more) {
-        return Ok(false);
-    }
-    slots.put(root, values)
-}
-
 // Keeps the row at which a cursor is under its root, with its values; whether it is kept. One of which a value is
-// compressed isn't. Only an index that includes many columns asks for places of their own for their values.
+// compressed isn't, nor one with a value that is longer than those of an index.
 fn keep_row_at(
     slots: &mut RowSlots,
     index: KeyedHeap<'_>,
@@ -101,37 +69,27 @@ fn keep_row_at(
         → IsPut (index_columns index.entry.at.tree.now) slots.old slots.new root row) }
     ensures met { met_in slots.new ≡ met_in slots.old }
 {
-    let mut values = KeyRefs::new();
-    if !index.read_key(cursor, &mut values) {
+    let count = index.value_count();
+    let Ok(number) = u8::try_from(count) else {
         return Ok(false);
-    }
-    if index.is_narrow() {
-        if !index.read_beside(cursor, &mut values) {
-            return Ok(false);
+    };
+    let begun = slots.begin_row(root, number)?;
+    let Some(row) = begun else {
+        return Ok(false);
+    };
+    for k in 0..count {
+        match index.value(cursor, k) {
+            CellRef::Held(v) => {
+                let added = slots.add_value(v)?;
+                if !added {
+                    return Ok(false);
+                }
+            }
+            CellRef::Packed => return Ok(false),
         }
-        let key = values.as_slice();
-        let kept = keep_values(slots, root, RowValues { key, more: &[] })?;
-        return Ok(kept);
     }
-    let mut more = MoreRefs::new();
-    if !index.read_more(cursor, &mut more) {
-        return Ok(false);
-    }
-    let key = values.as_slice();
-    let more = more.as_slice();
-    let kept = keep_values(slots, root, RowValues { key, more })?;
-    Ok(kept)
-}
-
-// Whether it is asked that no two entries of an index have the same values: of a unique one, by the pass over its
-// leaves that asks what they name.
-fn asks_keys(targets: Option<&RootSet>, at: IndexedHeap<'_>) -> bool
-    requires belong { BelongTogether at.case.now at.heap.now at.tree.now }
-{
-    if targets.is_none() {
-        return false;
-    }
-    is_unique(at)
+    slots.keep_row(row);
+    Ok(true)
 }
 
 impl Meeting {
@@ -234,8 +192,8 @@ impl Meeting {
         self.is_whole = true;
     }
 
-    // In a later range, where it isn't asked what entries name, has entries of those leaves meet the rows of the range
-    // that may name them; whether each row is kept and was met.
+    // In a later range, where it isn't asked what entries name and each row is kept, has entries of those leaves meet
+    // the rows of the range that may name them; whether each was met.
     fn meet_near<F: Files>(
         &mut self,
         files: &mut F,
@@ -252,7 +210,7 @@ impl Meeting {
         ensures same { self.new ≡ record self.old { slots = self.new.slots } }
         ensures asked { Asked F.seen files.old files.new result PageFault.ReadFault }
     {
-        if targets.is_some() {
+        if targets.is_some() || !self.is_whole {
             return Ok(false);
         }
         meet_some(files, tree, &self.spans, range, &mut self.slots)?;
@@ -297,7 +255,7 @@ impl Meeting {
         let leaves = Leaves {
             tree: index.at.tree,
             targets,
-            apart: asks_keys(targets, index.at),
+            apart: targets.is_some() && is_unique(index.at),
         };
         let apart = leaves.check_entries(
             files,

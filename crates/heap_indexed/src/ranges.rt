@@ -18,18 +18,17 @@ ghost use Rattle.heap_indexed.specs.Meetings.{IsOfTable};
 ghost use Rattle.row_keys.specs.Rows.{IsFound};
 ghost use Rattle.heap_indexed.specs.Rows.{owed_for, rows_from};
 
-use crate::joined::IndexedTable;
 use crate::meeting::Meeting;
 use heap_check::{RowCursor, RowPlace};
 use outside::{Files, NoMemory};
 use page_layout::MAX_ITEMS;
 use reports::PageFault;
 use root_set::RootSet;
-use row_keys::{IndexedHeap, KeyedHeap};
+use row_keys::{IndexedHeap, IndexedTable, KeyedHeap};
 
-// The bytes that the rows of a range may use for all indexes together before the range ends with a block: 50 MiB, or
+// The bytes that the rows of a range may use for all indexes together before the range ends with a block: 100 MiB, or
 // 256 for each block of the heap, a 32nd of its bytes, where that is more. So the number of ranges is bounded.
-const RANGE_BYTES: usize = 52_428_800;
+const RANGE_BYTES: usize = 104_857_600;
 
 const RANGE_BYTES_A_BLOCK: usize = 256;
 

@@ -56,7 +56,7 @@ pub asked-count : (n first : ℕ) (columns : List ℕ) (asked : AskedColumns) (k
 asked-count n first columns Every k are lt = absurd are
 asked-count n first columns (Only numbers) k are lt = enough first columns numbers.items k are lt
 
-asked-column : (first : ℕ) (columns : List ℕ) (asked : AskedColumns) (k : ℕ) → AreAskedFrom first columns asked → k < length columns → column_asked asked (first + k) ≡ get_or columns k 0
+pub asked-column : (first : ℕ) (columns : List ℕ) (asked : AskedColumns) (k : ℕ) → AreAskedFrom first columns asked → k < length columns → column_asked asked (first + k) ≡ get_or columns k 0
 asked-column first columns Every k are lt = absurd are
 asked-column first columns (Only numbers) k are lt =
     sym (get_or-drop first numbers.items k 0) ∙ sym (get_or-take (length columns) (drop first numbers.items) k 0 lt) ∙ ap (λ (ns : List ℕ). get_or ns k 0) are
@@ -134,10 +134,33 @@ pub so-far-all : {all : Option (List Value)} (numbers : List ℕ) (cells : List 
 so-far-all numbers cells k values end was =
     ap Some (sym (append-nil values)) ∙ ap (λ (ns : List ℕ). option_map (λ vs. values ++ vs) (values_at ns cells)) (sym end) ∙ was
 
--- values behind others are both
-pub beside : (values all : List Value) (o : Option (List Value)) → Some all ≡ option_map (λ vs. values ++ vs) o → (vs : List Value) × (o ≡ Some vs) × (all ≡ values ++ vs)
-beside values all None is = absurd cc
-beside values all (Some vs) is = (vs, refl, cc)
+-- the values of a key, and those of included columns behind them
+pub record AreBoth (key_columns more_columns : List ℕ) (cells : List Cell) (values : List Value) : Type 0 where
+  pub key : List Value
+  pub more : List Value
+  pub of_key : values_at key_columns cells ≡ Some key
+  pub included : values_at more_columns cells ≡ Some more
+  pub are : values ≡ key ++ more
+
+pub both-parts : (ns ms : List ℕ) (cells : List Cell) (values : List Value) → Some values ≡ values_at (ns ++ ms) cells → AreBoth ns ms cells values
+both-parts [] ms cells values e = record { key = []; more = values; of_key = refl; included = sym e; are = refl }
+both-parts (n ∷ ns) ms cells values e = by (slice_get cells n) (values_at (ns ++ ms) cells) refl refl (λ vs h. both-parts ns ms cells vs h) e
+  where
+    by : (c : Option Cell) (o : Option (List Value)) → slice_get cells n ≡ c → values_at (ns ++ ms) cells ≡ o
+        → ((vs : List Value) → Some vs ≡ values_at (ns ++ ms) cells → AreBoth ns ms cells vs) → Some values ≡ with_value c o → AreBoth (n ∷ ns) ms cells values
+    by None o p q parts h = absurd cc
+    by (Some Packed) o p q parts h = absurd cc
+    by (Some (Held v)) None p q parts h = absurd cc
+    by (Some (Held v)) (Some vs) p q parts h =
+        let all : values ≡ v ∷ vs = cc in
+        let rest = parts vs (sym q) in
+        record {
+          key = v ∷ rest.key;
+          more = rest.more;
+          of_key = λ i. with_value (p i) (rest.of_key i);
+          included = rest.included;
+          are = all ∙ ap (λ ws. v ∷ ws) rest.are;
+        }
 
 -- as many as there are columns
 pub values-many : (numbers : List ℕ) (cells : List Cell) (values : List Value) → values_at numbers cells ≡ Some values → length values ≡ length numbers

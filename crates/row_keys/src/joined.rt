@@ -11,3 +11,11 @@ pub struct IndexedHeap<'a> {
     pub heap: &'a SoundHeap,
     pub tree: &'a SoundTree,
 }
+
+/// The heap of a case and indexes of it, in all of which nothing was found.
+#[derive(Clone, Copy)]
+pub struct IndexedTable<'a> {
+    pub case: &'a Case,
+    pub heap: &'a SoundHeap,
+    pub trees: &'a [SoundTree],
+}

@@ -1,13 +1,13 @@
 //! The values that a row of a heap has in an index.
-ghost use Rattle.std.specs.Prelude.{◌≡◌, ◌∷◌, ◌++◌, ◌+◌, ◌≤◌, [], IfOk, List, None, Some, false, true};
-ghost use Rattle.std.specs.Prelude.{if◌then◌else◌, length};
+ghost use Rattle.std.specs.Prelude.{◌≡◌, ◌<◌, ◌∷◌, [], IfOk, List, None, Some, false, get_or};
+ghost use Rattle.std.specs.Prelude.{if◌then◌else◌, length, slice_get};
 ghost use Rattle.std.specs.Bool.{OnTrue};
-ghost use Rattle.std.specs.Option.{option_map};
 ghost use Rattle.outside.specs.Outside.{Names};
 ghost use Rattle.key_orders.specs.Keys.{IsKey};
 ghost use Rattle.key_attrs.specs.Columns.{tree_columns};
 ghost use Rattle.bt_levels.specs.Sound.{index_columns, more_of, specs_of};
 ghost use Rattle.heap_check.specs.RowCursor.{IsAtRow, IsCursorOf, rows_here};
+ghost use Rattle.heap_check.specs.RowValues.{cell_lent};
 ghost use Rattle.heap_check.specs.declared.rows.LiveRow.{LiveRow as Row};
 ghost use Rattle.indexed_rules.specs.Rows.{key_numbers, more_numbers, values_at};
 ghost use Rattle.row_keys.specs.Rows.{IsIndexAt, columns_in};
@@ -15,7 +15,7 @@ ghost use Rattle.row_keys.specs.Rows.{IsIndexAt, columns_in};
 use crate::joined::IndexedHeap;
 use heap_check::{CellRef, RowCursor};
 use key_attrs::IndexColumns;
-use key_orders::{KeyRefs, MAX_KEY_COLUMNS, MoreRefs};
+use key_orders::{KeyRefs, MoreRefs};
 use outside::NoMemory;
 use std::alloc::Global;
 
@@ -60,34 +60,25 @@ impl KeyedHeap<'_> {
         true
     }
 
-    /// Whether the values of its key and of the columns that it includes are no more than the values of a key may be.
-    pub fn is_narrow(self) -> bool
-        ensures { result ≡ true
-            → length (specs_of self.entry.at.tree.now) + length (more_of self.entry.at.tree.now) ≤ MAX_KEY_COLUMNS }
+    /// How many values a row has in the index: those of its key, and those of the columns that it includes.
+    pub fn value_count(self) -> usize
+        ensures { result ≡ length (columns_in (index_columns self.entry.at.tree.now)) }
     {
-        self.at.tree.specs().len() + self.at.tree.more().len() <= MAX_KEY_COLUMNS
+        self.at.tree.specs().len() + self.at.tree.more().len()
     }
 
-    /// Reads the values of the columns that the index includes, of the row at which a cursor is, behind those of its
-    /// key; false where one of them is compressed.
-    pub fn read_beside<'c>(self, cursor: &'c RowCursor<'_>, values: &mut KeyRefs<'c>) -> bool
+    /// One of these values, counted from 0, of the row at which a cursor is.
+    #[inline]
+    pub fn value<'c>(self, cursor: &'c RowCursor<'_>, k: usize) -> CellRef<'c>
         requires index { IsIndexAt self cursor.now }
         requires at { IsAtRow cursor.now }
-        requires room { length values.old + length (more_of self.at.tree.now) ≤ MAX_KEY_COLUMNS }
+        requires inside { k < length (columns_in (index_columns self.at.tree.now)) }
         ensures { (names : Names) (row : Row) (rows : List Row) → IsCursorOf names cursor.now
             → rows_here names cursor.now ≡ row ∷ rows
-            → (if result then Some values.new else None) ≡ option_map (λ more. values.old ++ more)
-            (values_at (more_numbers (index_columns self.entry.at.tree.now)) row.cells) }
+            → slice_get row.cells (get_or (columns_in (index_columns self.entry.at.tree.now)) k 0)
+            ≡ Some (cell_lent result) }
     {
-        let columns = self.at.tree.columns();
-        let first = self.first + columns.specs.len();
-        for k in 0..columns.more.len() {
-            match cursor.value(first + k) {
-                CellRef::Held(v) => values.push(v),
-                CellRef::Packed => return false,
-            }
-        }
-        true
+        cursor.value(self.first + k)
     }
 
     /// Whether the index includes columns.

@@ -4,5 +4,5 @@
 mod joined;
 mod keys;
 
-pub use joined::IndexedHeap;
+pub use joined::{IndexedHeap, IndexedTable};
 pub use keys::{KeyedHeap, columns_of};

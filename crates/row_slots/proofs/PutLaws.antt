@@ -1,16 +1,20 @@
 -- A key that is put behind the others.
-use Rattle.std.proofs.Common.{◌≡◌, ◌∙◌, ℕ, ◌+◌, ◌-◌, ◌<◌, Bool, true, false, List, [], ◌++◌, length, get_or, drop, take, refl, ap, sym, subst, arith, inl, inr, append_assoc, append-nil}
+use Rattle.std.proofs.Common.{◌≡◌, ◌∙◌, ℕ, ◌+◌, ◌-◌, ◌<◌, Bool, true, false, List, [], ◌∷◌, ◌++◌, length, get_or, drop, take, refl, ap, sym, subst, arith, inl, inr, append_assoc, append-nil}
 use Rattle.std.proofs.Common.{get_or-set_other, get_or-set_same}
 use Rattle.std.specs.Prelude.{All, cond, Some, None, slice_set}
 use Rattle.std.proofs.lemmas.Bool.{cases_eq, eq-eqb, ne_eqb}
+use Rattle.std.specs.List.{flat_map}
 use Rattle.std.proofs.lemmas.List.{drop_all, length-set, take_all}
+use Rattle.std.proofs.lemmas.List.Concat.{flat_map-append}
+use Rattle.std.proofs.lemmas.List.Elements.{All-append, All-cons, All-nil}
 use Rattle.std.proofs.Math.Seq.{drop-append_seam}
 use Rattle.key_orders.specs.declared.Tid.{Tid}
 use Rattle.key_orders.specs.declared.columns.Value.{Value}
-use Rattle.stored_keys.specs.Stored.{IsStorable, key_read, stored_key}
+use Rattle.stored_keys.specs.Stored.{IsStorable, key_read, stored_key, stored_value}
 use Rattle.stored_keys.proofs.StoredLaws.{key_back}
 use Rattle.row_slots.specs.Met.{same_tid}
-use Rattle.row_slots.specs.Slots.{AreBits, AreKept, AreStarts, LiesAt, found_slot, is_within, key_of, keys_of, keys_with, slot_of}
+use Rattle.row_slots.specs.declared.slots.BegunRow.{BegunRow}
+use Rattle.row_slots.specs.Slots.{AreBits, AreKept, AreStarts, IsBegunRow, LiesAt, Tables, found_slot, is_within, key_of, keys_of, keys_with, slot_of}
 use Rattle.row_slots.proofs.SlotLaws.{Within, found_below, found_some, is_within_tells, slot_test, tid_is}
 
 abbrev as_number : Bool → ℕ
@@ -69,28 +73,72 @@ still records arena more k kept = elim (cases_eq (get_or records k 0) 0) [
       ∙ (key_of_some (arena ++ more) r (lies_more arena more r lies) ∙ (sym (key_of_some arena r lies) ∙ (λ i. key_of arena (sym e i))))
 ]
 
-pub kept_more : (records arena : List ℕ) (key : List Value) (slot at : ℕ) → slot < length records → at ≡ length arena → All IsStorable key
-    → AreKept records arena → AreKept (slice_set records slot (at + 1)) (arena ++ stored_key key)
+-- bytes that come behind change nothing of it
+pub kept_grow : (records arena more : List ℕ) → AreKept records arena → AreKept records (arena ++ more)
 unfolding AreKept
-kept_more records arena key slot at within at_is storable kept = λ k r e. elim (cases_eq k slot) [
+kept_grow records arena more kept = λ k r e. lies_more arena more r (kept k r e)
+
+pub keys_grow : (first : ℕ) (starts records arena more : List ℕ) → AreKept records arena
+    → keys_of first starts records (arena ++ more) ≡ keys_of first starts records arena
+unfolding keys_of
+keys_grow first starts records arena more kept = λ i t. cond (is_within first starts t) (still records arena more (slot_of first starts t) kept i) None
+
+-- A row that is begun, and kept
+
+pub no_values : (t : Tables) (row : BegunRow) (tid : Tid) (before : List ℕ) (count : ℕ) → Some row.slot ≡ found_slot t.first t.starts tid
+    → get_or t.records row.slot 0 ≡ 0 → row.place ≡ length before + 1 → t.arena ≡ before ++ count ∷ [] → IsBegunRow t row tid count []
+no_values t row tid before count slot free place bytes = record {
+  slot_is = slot;
+  free = free;
+  before = before;
+  place_is = place;
+  storable = All-nil IsStorable;
+  bytes = bytes;
+}
+
+pub one_value : (t : Tables) (arena : List ℕ) (row : BegunRow) (tid : Tid) (count : ℕ) (values : List Value) (v : Value) → IsStorable v
+    → arena ≡ t.arena ++ stored_value v → IsBegunRow t row tid count values → IsBegunRow (record t { arena = arena }) row tid count (values ++ v ∷ [])
+one_value t arena row tid count values v storable is begun = record {
+  slot_is = begun.slot_is;
+  free = begun.free;
+  before = begun.before;
+  place_is = begun.place_is;
+  storable = All-append IsStorable values (v ∷ []) begun.storable (All-cons IsStorable v [] storable (All-nil IsStorable));
+  bytes =
+      is ∙ ap (λ w. w ++ stored_value v) begun.bytes
+      ∙ append_assoc begun.before (count ∷ flat_map stored_value values) (stored_value v)
+      ∙ ap (λ w. begun.before ++ (count ∷ w)) (sym (flat_map-append stored_value values (v ∷ []) ∙ ap (λ w. flat_map stored_value values ++ w) (append-nil (stored_value v))));
+}
+
+abbrev pub lies_written : (t : Tables) (row : BegunRow) (tid : Tid) (values : List Value) (begun : IsBegunRow t row tid (length values) values) → LiesAt t.arena (length begun.before)
+lies_written t row tid values begun = record {
+  before = begun.before;
+  key = values;
+  rest = [];
+  storable = begun.storable;
+  at_is = refl;
+  bytes = begun.bytes ∙ ap (λ w. begun.before ++ w) (sym (append-nil (stored_key values)));
+}
+
+pub kept_set : (records arena : List ℕ) (slot place r : ℕ) → slot < length records → place ≡ r + 1 → LiesAt arena r
+    → AreKept records arena → AreKept (slice_set records slot place) arena
+unfolding AreKept
+kept_set records arena slot place r within is lies kept = λ k q e. elim (cases_eq k slot) [
   | inl same ↦
-      let here : get_or (slice_set records slot (at + 1)) k 0 ≡ at + 1 = ap (λ j. get_or (slice_set records slot (at + 1)) j 0) same ∙ get_or-set_same records slot (at + 1) 0 within in
-      let there : length arena ≡ r = omega arith in
-      subst (LiesAt (arena ++ stored_key key)) there (lies_last arena key storable)
-  | inr other ↦ lies_more arena (stored_key key) r (kept k r (sym (get_or-set_other records slot k (at + 1) 0 other) ∙ e))
+      let here : get_or (slice_set records slot place) k 0 ≡ place = ap (λ j. get_or (slice_set records slot place) j 0) same ∙ get_or-set_same records slot place 0 within in
+      let there : r ≡ q = omega arith in
+      subst (LiesAt arena) there lies
+  | inr other ↦ kept k q (sym (get_or-set_other records slot k place 0 other) ∙ e)
 ]
 
-pub keys_more : (first : ℕ) (starts records arena : List ℕ) (tid : Tid) (key : List Value) (slot at : ℕ)
-    → AreStarts starts records → AreKept records arena → Some slot ≡ found_slot first starts tid → at ≡ length arena → All IsStorable key
-    → keys_of first starts (slice_set records slot (at + 1)) (arena ++ stored_key key) ≡ keys_with (keys_of first starts records arena) tid key
+pub keys_set : (first : ℕ) (starts records arena : List ℕ) (tid : Tid) (slot place r : ℕ) → AreStarts starts records
+    → Some slot ≡ found_slot first starts tid → place ≡ r + 1 → (lies : LiesAt arena r)
+    → keys_of first starts (slice_set records slot place) arena ≡ keys_with (keys_of first starts records arena) tid lies.key
 unfolding keys_of
-keys_more first starts records arena tid key slot at are kept e at_is storable = λ i t. by t (is_within first starts t) refl i
+keys_set first starts records arena tid slot place r are e place_is lies = λ i t. by t (is_within first starts t) refl i
   where
     new : List ℕ
-    new = slice_set records slot (at + 1)
-
-    more : List ℕ
-    more = arena ++ stored_key key
+    new = slice_set records slot place
 
     fact : (is_within first starts tid ≡ true) × (slot ≡ slot_of first starts tid)
     fact = found_some first starts tid slot e
@@ -105,10 +153,10 @@ keys_more first starts records arena tid key slot at are kept e at_is storable =
         at_test false h = h
         at_test true h = h ∙ (sym fact.0 ∙ (ap (is_within first starts) (sym (tid_is t tid h)) ∙ out))
 
-    value : key_of more (get_or new slot 0) ≡ Some key
+    value : key_of arena (get_or new slot 0) ≡ Some lies.key
     value =
-        (λ i. key_of more ((get_or-set_same records slot (at + 1) 0 (found_below first starts records tid slot are e) ∙ ap (λ n. n + 1) at_is) i))
-        ∙ key_of_some more (length arena) (lies_last arena key storable)
+        (λ i. key_of arena ((get_or-set_same records slot place 0 (found_below first starts records tid slot are e) ∙ place_is) i))
+        ∙ key_of_some arena r lies
 
     differs : (t : Tid) → Within first starts t → same_tid t tid ≡ false → slot_of first starts t ≡ slot → ⊥
     differs t w h same =
@@ -116,26 +164,25 @@ keys_more first starts records arena tid key slot at are kept e at_is storable =
         absurd (omega (arith, ap as_number it))
 
     inside : (t : Tid) → Within first starts t → (b : Bool) → same_tid t tid ≡ b
-        → key_of more (get_or new (slot_of first starts t) 0) ≡ cond (same_tid t tid) (Some key) (key_of arena (get_or records (slot_of first starts t) 0))
+        → key_of arena (get_or new (slot_of first starts t) 0) ≡ cond (same_tid t tid) (Some lies.key) (key_of arena (get_or records (slot_of first starts t) 0))
     inside t w true h =
-        (λ i. key_of more (get_or new ((ap (slot_of first starts) (tid_is t tid h) ∙ sym fact.1) i) 0))
-        ∙ (value ∙ sym (λ i. cond (h i) (Some key) (key_of arena (get_or records (slot_of first starts t) 0))))
+        (λ i. key_of arena (get_or new ((ap (slot_of first starts) (tid_is t tid h) ∙ sym fact.1) i) 0))
+        ∙ (value ∙ sym (λ i. cond (h i) (Some lies.key) (key_of arena (get_or records (slot_of first starts t) 0))))
     inside t w false h =
-        (λ i. key_of more (get_or-set_other records slot (slot_of first starts t) (at + 1) 0 (differs t w h) i))
-        ∙ (still records arena (stored_key key) (slot_of first starts t) kept
-        ∙ sym (λ i. cond (h i) (Some key) (key_of arena (get_or records (slot_of first starts t) 0))))
+        (λ i. key_of arena (get_or-set_other records slot (slot_of first starts t) place 0 (differs t w h) i))
+        ∙ sym (λ i. cond (h i) (Some lies.key) (key_of arena (get_or records (slot_of first starts t) 0)))
 
     by : (t : Tid) (b : Bool) → is_within first starts t ≡ b
-        → cond (is_within first starts t) (key_of more (get_or new (slot_of first starts t) 0)) None
-        ≡ cond (same_tid t tid) (Some key) (cond (is_within first starts t) (key_of arena (get_or records (slot_of first starts t) 0)) None)
+        → cond (is_within first starts t) (key_of arena (get_or new (slot_of first starts t) 0)) None
+        ≡ cond (same_tid t tid) (Some lies.key) (cond (is_within first starts t) (key_of arena (get_or records (slot_of first starts t) 0)) None)
     by t true w =
-        (λ i. cond (w i) (key_of more (get_or new (slot_of first starts t) 0)) None)
+        (λ i. cond (w i) (key_of arena (get_or new (slot_of first starts t) 0)) None)
         ∙ (inside t (is_within_tells first starts t w) (same_tid t tid) refl
-        ∙ sym (λ i. cond (same_tid t tid) (Some key) (cond (w i) (key_of arena (get_or records (slot_of first starts t) 0)) None)))
+        ∙ sym (λ i. cond (same_tid t tid) (Some lies.key) (cond (w i) (key_of arena (get_or records (slot_of first starts t) 0)) None)))
     by t false w =
-        (λ i. cond (w i) (key_of more (get_or new (slot_of first starts t) 0)) None)
-        ∙ (sym (λ i. cond (misses t w i) (Some key) None)
-        ∙ sym (λ i. cond (same_tid t tid) (Some key) (cond (w i) (key_of arena (get_or records (slot_of first starts t) 0)) None)))
+        (λ i. cond (w i) (key_of arena (get_or new (slot_of first starts t) 0)) None)
+        ∙ (sym (λ i. cond (misses t w i) (Some lies.key) None)
+        ∙ sym (λ i. cond (same_tid t tid) (Some lies.key) (cond (w i) (key_of arena (get_or records (slot_of first starts t) 0)) None)))
 
 -- A slot that is set
 

@@ -67,3 +67,15 @@ unfolding key_of
 empty_slot first starts records arena tid slot e none =
     key_there first starts records arena tid slot e
     ∙ ap (λ b. cond b None (Some (key_read (drop (get_or records slot 0 - 1) arena)))) (eq-eqb (get_or records slot 0) 0 none)
+
+-- one that has a row
+pub full_slot : (first : ℕ) (starts records arena : List ℕ) (tid : Tid) (slot : ℕ) → Some slot ≡ found_slot first starts tid → get_or records slot 0 ≢ 0
+    → keys_of first starts records arena tid ≢ None
+unfolding key_of
+full_slot first starts records arena tid slot e some none =
+    absurd (omega (
+      arith,
+      ap as_number (sym none
+          ∙ key_there first starts records arena tid slot e
+          ∙ ap (λ b. cond b None (Some (key_read (drop (get_or records slot 0 - 1) arena)))) (ne_eqb (get_or records slot 0) 0 some)),
+    ))

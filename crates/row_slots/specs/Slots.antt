@@ -3,10 +3,12 @@
 use Rattle.std.specs.Prelude.{◌≡◌, ◌≢◌, ◌+◌, ◌-◌, ◌*◌, ◌<◌, ◌≤◌, ◌==◌, ◌&&◌, ◌||◌, ◌∷◌, ◌++◌, [], ℕ}
 use Rattle.std.specs.Prelude.{All, Bool, List, None, Option, Some, cond, drop, false, get_or, length, nat_le, nat_lt}
 use Rattle.std.specs.Prelude.{replicate, true}
+use Rattle.std.specs.List.{flat_map}
 use Rattle.key_orders.specs.declared.Tid.{Tid}
 use Rattle.key_orders.specs.declared.columns.Value.{Value}
-use Rattle.stored_keys.specs.Stored.{IsStorable, key_read, stored_key}
+use Rattle.stored_keys.specs.Stored.{IsStorable, key_read, stored_key, stored_value}
 use Rattle.root_set.specs.Packed.{is_set}
+use Rattle.row_slots.specs.declared.slots.BegunRow.{BegunRow}
 use Rattle.row_slots.specs.Met.{Keys, Mets, same_tid}
 
 -- the line pointer is an item of that block, which has so many
@@ -99,6 +101,22 @@ keys_in t = keys_of t.first t.starts t.records t.arena
 
 abbrev pub met_in : Tables → Mets
 met_in t = mets_of t.first t.starts t.bits
+
+-- A row whose values are written one after another behind the keys of others, to be rooted at a line pointer: its slot,
+-- which has no row yet, what that will say, and of so many values the first.
+pub record IsBegunRow (t : Tables) (row : BegunRow) (tid : Tid) (count : ℕ) (values : List Value) : Type 0 where
+  pub slot_is : Some row.slot ≡ found_slot t.first t.starts tid
+  pub free : get_or t.records row.slot 0 ≡ 0
+  pub before : List ℕ
+  pub place_is : row.place ≡ length before + 1
+  pub storable : All IsStorable values
+  pub bytes : t.arena ≡ before ++ (count ∷ flat_map stored_value values)
+
+-- all of its values are written
+pub record IsWrittenRow (t : Tables) (row : BegunRow) : Type 0 where
+  pub tid : Tid
+  pub values : List Value
+  pub is : IsBegunRow t row tid (length values) values
 
 -- the same blocks with the same slots
 pub record SameRange (old new : Tables) : Type 0 where

@@ -10,3 +10,4 @@ mod slots;
 
 pub use laws::met_are_those_with_an_entry;
 pub use rows::RowSlots;
+pub use slots::BegunRow;

@@ -1,25 +1,31 @@
 //! The slots of a range of heap blocks.
-ghost use Rattle.std.specs.Prelude.{◌≡◌, ◌<◌, List, None, Ok, Some, false, length, true};
+ghost use Rattle.std.specs.Prelude.{◌≡◌, ◌≢◌, ◌∷◌, ◌++◌, [], ℕ, List, None, Some, length, nat_le, true};
 ghost use Rattle.std.specs.Prelude.{IfOk, IfSome, OnErr, OnOk};
 ghost use Rattle.std.specs.Bool.{OnFalse, OnTrue};
+ghost use Rattle.key_orders.specs.declared.Tid.{Tid as Place};
 ghost use Rattle.key_orders.specs.declared.columns.Value.{Value as Shown};
+ghost use Rattle.key_orders.specs.Values.{value_shown};
 ghost use Rattle.stored_keys.specs.Rows.{row_values};
+ghost use Rattle.stored_keys.specs.Stored.{shown_bytes};
 ghost use Rattle.key_attrs.specs.Columns.{tree_columns};
 ghost use Rattle.row_slots.specs.Met.{keyed, met_by};
-ghost use Rattle.row_slots.specs.Slots.{AreAllMet, HasBlock, IsBegun, SameRange, keys_in, keys_with, met_in};
+ghost use Rattle.row_slots.specs.declared.slots.BegunRow.{BegunRow as Row};
+ghost use Rattle.row_slots.specs.Slots.{AreAllMet, HasBlock, IsBegun, IsBegunRow, IsWrittenRow, SameRange};
+ghost use Rattle.row_slots.specs.Slots.{has_in, keys_in, keys_with, met_in};
 ghost use Rattle.row_slots.specs.Told.{TellsKey};
 
 use crate::bits::are_all_set;
 use crate::blocks::add_block_in;
 use crate::slots::{
-    Kept, bytes_at, find, is_kept_in, is_met_in, meet_in, meet_plain_in, places_of, put_at,
+    BegunRow, Kept, begin_at, bytes_at, find, is_kept_in, is_met_in, meet_in, meet_plain_in,
+    places_of,
 };
 use key_attrs::IndexColumns;
-use key_orders::Tid;
+use key_orders::{Tid, ValueRef};
 use outside::NoMemory;
 use std::alloc::Global;
 use std::marker::Model;
-use stored_keys::RowValues;
+use stored_keys::{LONGEST_VALUE, RowValues, push_value};
 
 /// The rows of a range of heap blocks, each by the line pointer at which it is rooted, with its key and with whether an
 /// entry met it. Contracts see functions of a TID, and the blocks of the range.
@@ -101,26 +107,50 @@ impl RowSlots {
         Ok(())
     }
 
-    /// Keeps the key of the row that is rooted at a line pointer; `false` where the range has no such line pointer, or
-    /// a row is kept there already, and then nothing changes. After `NoMemory` all is as it was.
-    pub fn put(&mut self, tid: Tid, values: RowValues<'_>) -> Result<bool, NoMemory>
-        requires few { length (row_values values) < 256 }
-        ensures kept { IfOk result (λ kept. kept ≡ true → keys_in self.new ≡ keys_with (keys_in self.old) tid
-            (row_values values.entry)) }
-        ensures fresh { IfOk result (λ kept. kept ≡ true → keys_in self.old tid ≡ None) }
-        ensures full { IfOk result (λ kept. kept ≡ false → keys_in self.new ≡ keys_in self.old) }
-        ensures err { OnErr result (keys_in self.new ≡ keys_in self.old) }
+    /// Begins to write the values of the row that is rooted at a line pointer, which will be so many; none exactly
+    /// where the range has no such line pointer, or a row is kept there already. No row is kept by this.
+    pub fn begin_row(&mut self, tid: Tid, count: u8) -> Result<Option<BegunRow>, NoMemory>
+        ensures begun { IfOk result (λ found. IfSome found (λ row. IsBegunRow self.new row tid count [])) }
+        ensures fresh { IfOk result (λ found. IfSome found (λ row. keys_in self.old tid ≡ None)) }
+        ensures none { IfOk result (λ found. found ≡ None → has_in self.old tid ≡ true → keys_in self.old tid ≢ None) }
+        ensures keys { keys_in self.new ≡ keys_in self.old }
         ensures met { met_in self.new ≡ met_in self.old }
         ensures range { SameRange self.old self.new }
     {
         let Some(slot) = find(self.first, &self.starts, tid) else {
-            return Ok(false);
+            return Ok(None);
         };
         if self.records[slot] != 0 {
-            return Ok(false);
+            return Ok(None);
         }
-        put_at(slot, &mut self.records, &mut self.arena, values)?;
-        Ok(true)
+        let row = begin_at(slot, &mut self.arena, count)?;
+        Ok(Some(row))
+    }
+
+    /// Writes one more value of the row that was begun last; `false` exactly where it is longer than a value of an
+    /// index.
+    pub fn add_value(&mut self, value: ValueRef<'_>) -> Result<bool, NoMemory>
+        ensures added { IfOk result (λ added. added ≡ true
+            → (row : Row) (tid : Place) (count : ℕ) (values : List Shown) → IsBegunRow self.old row tid count values
+            → IsBegunRow self.new row tid count (values ++ value_shown value.entry ∷ [])) }
+        ensures fits { IfOk result (λ added. added ≡ nat_le (length (shown_bytes value.entry)) LONGEST_VALUE) }
+        ensures keys { keys_in self.new ≡ keys_in self.old }
+        ensures met { met_in self.new ≡ met_in self.old }
+        ensures range { SameRange self.old self.new }
+    {
+        let added = push_value(&mut self.arena, value)?;
+        Ok(added)
+    }
+
+    /// Keeps the row that was begun last, all of whose values are written.
+    pub fn keep_row(&mut self, row: BegunRow)
+        requires { IsWrittenRow self.old row }
+        ensures kept { (tid : Place) (values : List Shown) → IsBegunRow self.old row tid (length values) values
+            → keys_in self.new ≡ keys_with (keys_in self.old) tid values }
+        ensures met { met_in self.new ≡ met_in self.old }
+        ensures range { SameRange self.old self.new }
+    {
+        self.records[row.slot] = row.place;
     }
 
     /// Reads what looks for the rows that are rooted at these line pointers will read, of the first 512 of them, so

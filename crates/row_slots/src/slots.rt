@@ -1,10 +1,9 @@
 //! Steps over the tables.
-ghost use Rattle.std.specs.Prelude.{◌≡◌, ◌+◌, ◌++◌, ◌<◌, ◌≤◌, ◌^◌, [], All, List, drop, length, slice_set};
-ghost use Rattle.std.specs.Prelude.{None, Ok, OnErr, OnOk, true};
+ghost use Rattle.std.specs.Prelude.{◌≡◌, ◌+◌, ◌∷◌, ◌++◌, ◌≤◌, [], List, drop, length};
+ghost use Rattle.std.specs.Prelude.{IfOk, None, Ok, OnErr, OnOk, true};
 ghost use Rattle.std.specs.Bool.{OnFalse, OnTrue};
 ghost use Rattle.key_orders.specs.declared.columns.Value.{Value as Shown};
 ghost use Rattle.stored_keys.specs.Rows.{row_values};
-ghost use Rattle.stored_keys.specs.Stored.{IsStorable, stored_key};
 ghost use Rattle.key_attrs.specs.Columns.{tree_columns};
 ghost use Rattle.row_slots.specs.Met.{is_key, keyed, met_by};
 ghost use Rattle.row_slots.specs.Slots.{AreBits, AreStarts, found_slot, key_of, keys_of, mets_of};
@@ -14,7 +13,7 @@ use crate::bits::{is_set, set_bit};
 use key_attrs::{IndexColumns, has_stored_key};
 use key_orders::Tid;
 use outside::NoMemory;
-use stored_keys::{RowValues, is_stored, write_key};
+use stored_keys::{RowValues, is_stored};
 
 /// Which rows are kept, and their keys.
 #[derive(Clone, Copy)]
@@ -200,23 +199,23 @@ pub(crate) fn is_kept_in(kept: Kept<'_>, tid: Tid, values: RowValues<'_>) -> boo
     }
 }
 
-/// Writes a key behind the others, and its place into a slot.
-pub(crate) fn put_at(
-    slot: usize,
-    records: &mut [u32],
-    arena: &mut Vec<u8>,
-    values: RowValues<'_>,
-) -> Result<(), NoMemory>
-    requires slot { slot < length records.old }
-    requires few { length (row_values values) < 256 }
-    ensures records { OnOk result (records.new ≡ slice_set records.old slot (length arena.old.items + 1)) }
-    ensures arena { OnOk result (arena.new.items ≡ arena.old.items ++ stored_key (row_values values.entry)) }
-    ensures storable { OnOk result (All IsStorable (row_values values.entry)) }
-    ensures none { OnErr result (records.new ≡ records.old) }
+/// A row whose values are written behind the keys of others: its slot, and what that will say.
+#[derive(Clone, Copy)]
+pub struct BegunRow {
+    pub(crate) slot: usize,
+    pub(crate) place: u32,
+}
+
+/// Writes behind the keys how many values the row of a slot will have.
+pub(crate) fn begin_at(slot: usize, arena: &mut Vec<u8>, count: u8) -> Result<BegunRow, NoMemory>
+    ensures slot { IfOk result (λ row. row.slot ≡ slot) }
+    ensures place { IfOk result (λ row. row.place ≡ length arena.old.items + 1) }
+    ensures arena { OnOk result (arena.new.items ≡ arena.old.items ++ count ∷ []) }
     ensures same { OnErr result (arena.new.items ≡ arena.old.items) }
 {
-    let at = arena.len();
-    write_key(arena, values)?;
-    records[slot] = at as u32 + 1;
-    Ok(())
+    let Ok(place) = u32::try_from(arena.len() + 1) else {
+        return Err(NoMemory);
+    };
+    arena.push(count)?;
+    Ok(BegunRow { slot, place })
 }

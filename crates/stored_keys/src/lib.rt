@@ -12,4 +12,4 @@ pub use laws::keys_are_read_back;
 pub use read::read_value;
 pub use same::{after_value, is_stored, same_values};
 pub use values::RowValues;
-pub use write::write_key;
+pub use write::{LONGEST_VALUE, push_value, write_key};

@@ -2,6 +2,7 @@
 ghost use Rattle.std.specs.Prelude.{◌≡◌, IfSome, is_some, length, map};
 ghost use Rattle.std.specs.Bool.{OnTrue};
 ghost use Rattle.key_orders.specs.Values.{value_shown};
+ghost use Rattle.key_orders.specs.declared.columns.Value.TheVariants as Shown;
 ghost use Rattle.stored_keys.specs.Same.{same_key, same_value};
 ghost use Rattle.stored_keys.specs.Rows.{row_values};
 ghost use Rattle.stored_keys.specs.Stored.{key_read, value_read, values_left, values_read};
@@ -79,12 +80,31 @@ pub fn is_stored(bytes: &[u8], values: RowValues<'_>) -> bool
     }
 }
 
-/// What is left behind the value at the beginning, if it is this one.
+// What is left behind these bytes, if they stand at the beginning as fewer than 256 bytes do.
+#[inline(always)]
+#[tactic(auto, unfolding(crate::specs::Stored::value_read))]
+fn after_short<'s>(stored: &'s [u8], content: &[u8]) -> Option<&'s [u8]>
+    ensures value { IfSome result (λ rest. (value_read stored.now).0 ≡ Shown.Bytes content.now) }
+    ensures rest { IfSome result (λ rest. rest.now ≡ (value_read stored.now).1) }
+{
+    let (tag, left) = stored.split_first()?;
+    let (len, left) = left.split_first()?;
+    if *tag != 5 || *len as usize != content.len() {
+        return None;
+    }
+    let (held, rest) = left.split_at_checked(content.len())?;
+    if held == content { Some(rest) } else { None }
+}
+
+/// What is left behind the value at the beginning, if it is this one. `None` says nothing.
 #[inline(always)]
 pub fn after_value<'s>(stored: &'s [u8], value: ValueRef<'_>) -> Option<&'s [u8]>
     ensures value { IfSome result (λ rest. (value_read stored.now).0 ≡ value_shown value.entry) }
     ensures rest { IfSome result (λ rest. rest.now ≡ (value_read stored.now).1) }
 {
+    if let ValueRef::Bytes(content) = value {
+        return after_short(stored, content);
+    }
     let (held, rest) = read_value(stored);
     if same_value(held, value) {
         Some(rest)

@@ -1,6 +1,6 @@
 //! Keys, written behind one another.
 ghost use Rattle.std.specs.Prelude.{◌≡◌, ◌+◌, ◌<◌, ◌≤◌, ◌^◌, ◌++◌, All, length, vec_capacity, vec_len};
-ghost use Rattle.std.specs.Prelude.{IfSome, OnErr, OnOk};
+ghost use Rattle.std.specs.Prelude.{[], if◌then◌else◌, IfOk, IfSome, OnErr, OnOk, nat_le, true};
 ghost use Rattle.std.specs.List.{flat_map};
 ghost use Rattle.key_orders.specs.Values.{value_shown};
 ghost use Rattle.stored_keys.specs.Rows.{row_values};
@@ -12,6 +12,9 @@ use outside::NoMemory;
 
 // How many bytes there may be, so that each has a place in 32 bits.
 const MOST: usize = 0xffff_fff0;
+
+/// How many bytes a value takes at most that an index may have: no page holds a longer one.
+pub const LONGEST_VALUE: usize = 8197;
 
 // The first number that doesn't fit in 4 bytes.
 const LARGE: u64 = 0x1_0000_0000;
@@ -148,4 +151,22 @@ pub fn write_key(arena: &mut Vec<u8>, values: RowValues<'_>) -> Result<(), NoMem
     write_values(arena, values.key);
     write_values(arena, values.more);
     Ok(())
+}
+
+/// Adds one value behind the bytes, as the values of a key lie, if memory is there. `false` exactly where it takes more
+/// bytes than a value of an index, and then nothing changes.
+pub fn push_value(arena: &mut Vec<u8>, value: ValueRef<'_>) -> Result<bool, NoMemory>
+    ensures pushed { IfOk result (λ pushed.
+        arena.new.items ≡ arena.old.items ++ (if pushed then shown_bytes value.entry else [])) }
+    ensures fits { IfOk result (λ pushed. pushed ≡ nat_le (length (shown_bytes value.entry)) LONGEST_VALUE) }
+    ensures storable { IfOk result (λ pushed. pushed ≡ true → IsStorable (value_shown value.entry)) }
+    ensures err { OnErr result (arena.new.items ≡ arena.old.items) }
+{
+    let len = stored_len(value);
+    if LONGEST_VALUE < len {
+        return Ok(false);
+    }
+    arena.reserve(len)?;
+    write_value(arena, value);
+    Ok(true)
 }

@@ -85,6 +85,16 @@ fn entries_against_a_heap(rt: HostRuntime) -> Result<(), Fail> {
 // Rows at items of block 0, with their keys: those of the leaf, but that the last has another.
 const ROWS: [(u16, i64); 4] = [(1, 5), (2, 7), (3, 7), (4, 8)];
 
+// Keeps a row with one value.
+fn keep(slots: &mut RowSlots, tid: Tid, value: ValueRef<'_>) -> Result<(), NoMemory> {
+    if let Some(row) = slots.begin_row(tid, 1)? {
+        if slots.add_value(value)? {
+            slots.keep_row(row);
+        }
+    }
+    Ok(())
+}
+
 // Which of the rows entries of the leaf met that may name blocks of a range, from the first up to the end.
 fn met(alloc: Global, first: u32, end: u32) -> Result<[bool; 4], Fail> {
     let targets = targets_of(alloc, [3, 3, 3, 3])?;
@@ -94,12 +104,7 @@ fn met(alloc: Global, first: u32, end: u32) -> Result<[bool; 4], Fail> {
     let mut slots = RowSlots::new(alloc, 0)?;
     slots.add_block(4)?;
     for (item, key) in ROWS {
-        let key = [ValueRef::Int(key)];
-        let values = RowValues {
-            key: &key,
-            more: &[],
-        };
-        slots.put(Tid { block: 0, item }, values)?;
+        keep(&mut slots, Tid { block: 0, item }, ValueRef::Int(key))?;
     }
     meet_some(
         &mut files,

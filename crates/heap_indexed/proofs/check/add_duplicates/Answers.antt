@@ -4,7 +4,7 @@ use Rattle.bt_levels.specs.Files.{number_of}
 use Rattle.bt_levels.specs.Sound.{file_of}
 use Rattle.bt_pages.specs.Broken.{AreEmpty}
 use Rattle.indexed_rules.specs.Lists.{duplicates_lists, indexed_lists}
-use Rattle.heap_indexed.proofs.Asked.{added, asked, not-asked, nothing-there, some-of}
+use Rattle.heap_indexed.proofs.Asked.{asked, joined-nothing, not-asked, nothing-there, some-of}
 use Rattle.heap_indexed.proofs.check.add_duplicates.Goals as goal
 
 pub returns-then-not-is_empty-clause-lists : goal.returns-then-not-is_empty-clause-lists
@@ -31,4 +31,4 @@ returns-clause-lists g c = λ names told.
     let counts = c.is_empty.ensures.0 c.if-not-is_empty.false in
     let owed : duplicates_lists case names n ≡ indexed_lists case names n =
     sym (asked case names n (ap (λ (l : Lists). length l.findings) (sym was) ∙ counts.0) (ap (λ (l : Lists). length l.unjudged) (sym was) ∙ counts.1)) in
-    added c.check_duplicates.result c.args.report.now c.check_duplicates.new.report (duplicates_lists case names n) (indexed_lists case names n) counts.0 counts.1 owed (c.check_duplicates.ensures.lists names told)
+    c.in_ok-_looks.ensures.lists names told ∙ joined-nothing c.args.report.now (duplicates_lists case names n) counts.0 counts.1 ∙ owed

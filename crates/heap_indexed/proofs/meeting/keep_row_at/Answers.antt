@@ -1,36 +1,68 @@
-use Rattle.std.proofs.Common.{◌∙◌, ◌++◌, List, append-nil, arith, sym, ap}
+use Rattle.std.proofs.Common.{◌≡◌, ◌∙◌, ◌∷◌, ◌++◌, ◌+◌, ◌<◌, ◌≤◌, [], List, length, length-append, refl, sym, ap, subst, arith}
+use Rattle.std.specs.Prelude.{IfSome, None, Option}
+use Rattle.std.proofs.Math.ListN.{drop_of_length-le}
 use Rattle.key_orders.specs.declared.columns.Value.{Value}
-use Rattle.row_slots.specs.Slots.{keys_in, keys_with}
-use Rattle.row_keys.proofs.KeyLaws.{beside}
+use Rattle.key_orders.specs.Values.{value_shown}
+use Rattle.bt_levels.specs.Sound.{index_columns}
+use Rattle.indexed_rules.specs.Rows.{values_at}
+use Rattle.row_slots.specs.declared.slots.BegunRow.{BegunRow}
+use Rattle.row_slots.specs.Slots.{IsBegunRow, IsWrittenRow, keys_in, keys_with, met_in}
+use Rattle.row_keys.specs.Rows.{columns_in}
+use Rattle.row_keys.proofs.KeyLaws.{both-parts, so-far-all, so-far-next, so-far-none}
 use Rattle.heap_indexed.proofs.meeting.keep_row_at.Goals as goal
 
-pub read_beside-requires-clause-room : goal.read_beside-requires-clause-room
-read_beside-requires-clause-room c =
-    omega (arith, (c.if-not-read_key.ensures.fits).whole, c.is_narrow.ensures c.if-is_narrow.true)
+pub loop-k-init : goal.loop-k-init
+loop-k-init c = record {
+  values = [];
+  written = subst (λ (o : Option BegunRow). IfSome o (λ row. IsBegunRow c.begin_row.new.self row c.args.root c.in-Ok.number [])) c.in-Some.is c.in_ok-begun.ensures.begun;
+  many = refl;
+  so_far = λ names row rows are is. so-far-none (columns_in (index_columns c.args.index.at.tree.now)) row.cells;
+  keys = refl;
+  met = refl;
+}
 
-pub returns-then-is_narrow-clause-kept : goal.returns-then-is_narrow-clause-kept
-returns-then-is_narrow-clause-kept c = λ kept names row rows are is.
-    let values : List Value = c.read_beside.new.values in
-    let both = beside c.read_key.new.key values _ (c.if-not-read_beside.ensures names row rows are is) in
+pub value-requires-clause-inside : goal.value-requires-clause-inside
+value-requires-clause-inside c = omega (arith, c.value_count-count.ensures)
+
+pub loop-k-preserved : goal.loop-k-preserved
+loop-k-preserved c =
+    let k = c.loop-k.k in
+    let was = c.loop-k.invariant in
+    let v : Value = value_shown c.in-Held.v in
+    let columns = columns_in (index_columns c.args.index.at.tree.now) in
     record {
-      key = c.read_key.new.key;
-      more = both.0;
-      values = record {
-        of_key = sym (c.if-not-read_key.ensures.key names row rows are is);
-        included = both.1;
-      };
-      put = c.in_ok-kept.ensures.kept kept ∙ ap (λ (vs : List Value). keys_with (keys_in c.args.slots.now) c.args.root vs) (append-nil _ ∙ c.as_slice-key.ensures.values ∙ both.2);
-      fresh = c.in_ok-kept.ensures.fresh kept;
+      values = was.values ++ v ∷ [];
+      written = c.in_ok-added-in-Held.ensures.added c.if-not-added.false c.in-Some.row c.args.root c.in-Ok.number was.values was.written;
+      many = length-append was.values (v ∷ []) ∙ ap (λ n. n + 1) was.many;
+      so_far = λ names row rows are is. so-far-next columns row.cells k was.values v (omega (arith, c.value_count-count.ensures)) (c.in-Held.ensures names row rows are is) (was.so_far names row rows are is);
+      keys = c.add_value.ensures.keys ∙ was.keys;
+      met = c.add_value.ensures.met ∙ was.met;
+    }
+
+pub keep_row-requires : goal.keep_row-requires
+keep_row-requires c =
+    let was = c.loop-k.invariant in
+    let many : length was.values ≡ c.in-Ok.number = omega (arith, was.many, c.loop-k-test.false) in
+    record {
+      tid = c.args.root;
+      values = was.values;
+      is = subst (λ n. IsBegunRow c.loop-k.slots c.in-Some.row c.args.root n was.values) (sym many) was.written;
     }
 
 pub returns-clause-kept : goal.returns-clause-kept
-returns-clause-kept c = λ kept names row rows are is. record {
-  key = c.read_key.new.key;
-  more = c.read_more.new.more;
-  values = record {
-    of_key = sym (c.if-not-read_key.ensures.key names row rows are is);
-    included = sym (c.if-not-read_more.ensures.more names row rows are is);
-  };
-  put = c.in_ok-kept-2.ensures.kept kept ∙ (λ i. keys_with (keys_in c.args.slots.now) c.args.root (c.as_slice-key-2.ensures.values i ++ c.as_slice-more.ensures.values i));
-  fresh = c.in_ok-kept-2.ensures.fresh kept;
-}
+returns-clause-kept c = λ kept names row rows are is.
+    let was = c.loop-k.invariant in
+    let columns = index_columns c.args.index.at.tree.now in
+    let many : length was.values ≡ c.in-Ok.number = omega (arith, was.many, c.loop-k-test.false) in
+    let end : length (columns_in columns) ≤ c.loop-k.k = omega (arith, c.value_count-count.ensures, c.loop-k-test.false) in
+    let all = so-far-all (columns_in columns) row.cells c.loop-k.k was.values (drop_of_length-le (columns_in columns) end) (was.so_far names row rows are is) in
+    let both = both-parts _ _ row.cells was.values all in
+    record {
+      key = both.key;
+      more = both.more;
+      values = record { of_key = both.of_key; included = both.included };
+      put =
+          c.keep_row.ensures.kept c.args.root was.values (subst (λ n. IsBegunRow c.loop-k.slots c.in-Some.row c.args.root n was.values) (sym many) was.written)
+          ∙ (λ i. keys_with ((was.keys ∙ c.begin_row.ensures.keys) i) c.args.root (both.are i));
+      fresh = subst (λ (o : Option BegunRow). IfSome o (λ row. keys_in c.args.slots.now c.args.root ≡ None)) c.in-Some.is c.in_ok-begun.ensures.fresh;
+    }
