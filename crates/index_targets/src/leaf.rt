@@ -20,12 +20,15 @@ use bt_steps::is_live_leaf;
 use bt_tuples::{Spot3, TidList, TreeItem, plain_entry, tree_item};
 use key_attrs::IndexColumns;
 use key_orders::Tid;
-use leaf_meets::RowsAhead;
+use leaf_meets::{RowsAhead, glanced_tid};
 use outside::NoMemory;
 use page_layout::{PageKind, PageView, Rule};
 use reports::{Place, Report};
 use root_set::RootSet;
 use tree_image::first_data;
+
+// What the set has of so many blocks is at hand without further ado, once a few of them were asked for.
+const NEAR: u32 = 64;
 
 /// An index, by its number in the case, from 1, and its columns; and the set of what its entries may name.
 #[derive(Clone, Copy)]
@@ -47,6 +50,8 @@ pub struct Seen {
     /// Whether no two entries of the index have the same values, as far as the leaves were looked at; `false` where it
     /// isn't asked.
     pub apart: bool,
+    // What was looked at ahead, which means nothing.
+    touched: bool,
 }
 
 // How keys stand before the first item of a leaf, where that is asked.
@@ -69,6 +74,7 @@ impl Seen {
             rise: Rise::Untold,
             span: Span::none(),
             apart,
+            touched: false,
         }
     }
 
@@ -225,6 +231,36 @@ impl Named<'_> {
         Ok(())
     }
 
+    // Asks the set for what the items of a page name, as a glance at each tells it. What it has means nothing.
+    fn touch(self, page: PageView<'_>) -> bool
+        requires { page_rule_of PageKind.Tree (page_bytes page) ≡ None }
+    {
+        let mut odd = false;
+        for k in 0..page.item_count() {
+            if let Some(tid) = glanced_tid(page, k + 1) {
+                odd = odd != self.targets.has(tid);
+            }
+        }
+        odd
+    }
+
+    // Where the entries of a leaf name blocks far from each other, has the set at hand for all of them before the first
+    // is judged, so that none is waited for alone. What it finds means nothing.
+    fn look_ahead(self, page: PageView<'_>) -> bool
+        requires { page_rule_of PageKind.Tree (page_bytes page) ≡ None }
+    {
+        let count = page.item_count();
+        if count < 3 {
+            return false;
+        }
+        match (glanced_tid(page, 2), glanced_tid(page, count)) {
+            (Some(first), Some(last)) => {
+                NEAR < first.block.abs_diff(last.block) && self.touch(page)
+            }
+            _ => false,
+        }
+    }
+
     /// Judges the entries of a page, if it is a leaf in use that isn't half-dead, killed entries among them,
     /// and adds each that names what it may not. What they name is told ahead to the look at rows, and the numbers of
     /// their keys to what is known of them.
@@ -248,6 +284,7 @@ impl Named<'_> {
         if !is_live_leaf(page) || page.page_rule(PageKind::Tree).is_some() {
             return Ok(());
         }
+        seen.touched = self.look_ahead(page);
         self.judge_items(page, block, seen, report)
     }
 }

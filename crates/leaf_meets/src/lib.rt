@@ -7,4 +7,4 @@ mod near;
 
 pub use ahead::RowsAhead;
 pub use meet::meet_page;
-pub use near::{HeapRange, Near, meet_near};
+pub use near::{HeapRange, Near, glanced_tid, meet_near};
