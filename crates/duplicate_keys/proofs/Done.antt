@@ -1,5 +1,6 @@
 -- The end of the walk over the entries.
-use Rattle.std.proofs.Common.{◌≡◌, ◌∙◌, List, ap, subst}
+use Rattle.std.proofs.Common.{◌≡◌, ◌≤◌, ◌∙◌, ℕ, List, ap, length, subst, sym, true}
+use Rattle.std.specs.Prelude.{All}
 use Rattle.outside.specs.Outside.{Names}
 use Rattle.tree_search.specs.Keys.{Entry}
 use Rattle.tree_search.specs.Search.{IsWanted}
@@ -10,10 +11,13 @@ use Rattle.bt_levels.specs.Sound.{image_of, specs_of}
 use Rattle.bt_steps.specs.Pages.{is_killed}
 use Rattle.bt_search.specs.Spots.{scan_on}
 use Rattle.case_file.specs.declared.case.Unique.{Unique}
+use Rattle.heap_check.specs.Rows.{rows_of}
 use Rattle.row_keys.specs.declared.joined.IndexedHeap.{IndexedHeap}
 use Rattle.duplicate_keys.specs.declared.roots.Roots.{Roots}
 use Rattle.duplicate_keys.specs.Groups.{Group, closed, entries_met, first_group, later_rows}
-use Rattle.duplicate_keys.specs.Tables.{IsDone, IsWalked, no_bounds, table_for}
+use Rattle.duplicate_keys.specs.Roots.{is_root_in}
+use Rattle.duplicate_keys.specs.Tables.{AreFewLooks, AreLooks, IsDone, IsWalked, no_bounds, table_for}
+use Rattle.duplicate_keys.proofs.Looks.{few-looks}
 use denote.Bor.{Bor}
 
 pub done : (names : Names) (at : IndexedHeap) (unique : Unique) (roots : Bor Roots) (scan : Bor Bounds) → scan.now ≡ no_bounds → (first walked ended : Group) → first ≡ first_group unique
@@ -32,3 +36,23 @@ pub later-is : (names : Names) (at : IndexedHeap) (unique : Unique) (roots : Roo
     → group.met.later ≡ later_rows (table_for names at unique roots) es
 unfolding later_rows table_for
 later-is names at unique roots es group is = ap (λ (g : Group). g.met.later) is
+
+module _ (names : Names) (at : IndexedHeap) (unique : Unique) (roots : Roots) (group : Group) (looks : ℕ) (are : looks ≡ group.looks) where
+  pub few-looks-done : IsDone names at unique roots group → AreFewLooks names at looks
+  few-looks-done done =
+      let t = table_for names at unique roots in
+      record {
+        entries = done.entries;
+        wanted = done.wanted;
+        few = subst (λ (n : ℕ). n ≤ length done.entries) (sym (are ∙ ap (λ (g : Group). g.looks) done.is)) (few-looks t unique done.entries);
+      }
+
+  pub looks-done : All (λ row. is_root_in roots row.root ≡ true) (rows_of at.case.now names) → IsDone names at unique roots group → AreLooks names at unique looks
+  unfolding table_for
+  looks-done all done = record {
+    may_root = is_root_in roots;
+    roots = all;
+    entries = done.entries;
+    wanted = done.wanted;
+    are = are ∙ ap (λ (g : Group). g.looks) done.is;
+  }

@@ -10,3 +10,4 @@ pub mod Done
 pub mod NotUnique
 pub mod RowEntries
 pub mod NoneTwice
+pub mod Looks

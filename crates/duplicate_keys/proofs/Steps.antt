@@ -4,6 +4,7 @@ use Rattle.std.specs.Prelude.{Option, Some, cond, ◌==◌, ◌&&◌, ◌||◌, 
 use Rattle.std.specs.List.{list_any}
 use Rattle.std.proofs.lemmas.Bool.Decides.{nat_tests}
 use Rattle.std.proofs.lemmas.Bool.{and_from, and_left, and_right, cond-false, cond-true, le-leb, le-ltb}
+use Rattle.outside.specs.Counting.{one_more}
 use Rattle.outside.specs.Outside.{Names}
 use Rattle.key_orders.specs.declared.columns.Value.{Value}
 use Rattle.key_orders.specs.declared.Tid.{Tid}
@@ -64,7 +65,7 @@ lt-true a b lt = grind (arith, nat_tests, lt)
 
 -- the same group with what it is after a row
 pub same-met : (g : Group) (m : Met) → g.met ≡ m → g ≡ record g { met = m }
-same-met g m e = λ i. record { key = g.key; counted = g.counted; count = g.count; block = g.block; met = e i }
+same-met g m e = λ i. record { key = g.key; counted = g.counted; count = g.count; block = g.block; met = e i; looks = g.looks }
 
 module _ (names : Names) (grouping : Grouping) where
   abbrev cells_key : LiveRow → Option (List Value)
@@ -92,40 +93,56 @@ none-left (x ∷ xs) le = absurd (omega arith)
 
 -- A block
 
-pub block-past : (names : Names) (grouping : Grouping) (g : Group) → count_of (heap_in grouping.index.at.heap.now) ≤ g.block → g ≡ record g { met = block_met (table_seen names grouping) g }
+block-skipped : (names : Names) (grouping : Grouping) (g : Group) → count_of (heap_in grouping.index.at.heap.now) ≤ g.block → g ≡ record g { met = block_met (table_seen names grouping) g }
 unfolding table_for
-block-past names grouping g past =
+block-skipped names grouping g past =
     let blocks = count_of (heap_in grouping.index.at.heap.now) in
     same-met g _ (ap (λ (b : Bool). rows_met (table_seen names grouping) g.key (cond b (block_rows grouping.index.at.case.now names g.block) []) g.met) (sym (le-ltb g.block blocks past)))
 
-pub block-here : (names : Names) (grouping : Grouping) (g new : Group) (rows : List LiveRow) → g.block < count_of (heap_in grouping.index.at.heap.now) → rows ≡ block_rows grouping.index.at.case.now names g.block
+block-gone : (names : Names) (grouping : Grouping) (g new : Group) (rows : List LiveRow) → g.block < count_of (heap_in grouping.index.at.heap.now) → rows ≡ block_rows grouping.index.at.case.now names g.block
     → new ≡ group_after (table_seen names grouping) g rows → new ≡ record g { met = block_met (table_seen names grouping) g }
 unfolding table_for
-block-here names grouping g new rows inside are is =
+block-gone names grouping g new rows inside are is =
     let blocks = count_of (heap_in grouping.index.at.heap.now) in
     let all : rows ≡ cond (nat_lt g.block blocks) (block_rows grouping.index.at.case.now names g.block) [] = are ∙ sym (cond-true (nat_lt g.block blocks) (block_rows grouping.index.at.case.now names g.block) [] (lt-true g.block blocks inside)) in
     is ∙ ap (λ (rs : List LiveRow). group_after (table_seen names grouping) g rs) all
 
+-- where it is counted first
+pub block-past : (names : Names) (grouping : Grouping) (g m : Group) → m ≡ record g { looks = one_more g.looks } → count_of (heap_in grouping.index.at.heap.now) ≤ g.block
+    → m ≡ record g { met = block_met (table_seen names grouping) g; looks = one_more g.looks }
+block-past names grouping g m is past = is ∙ block-skipped names grouping (record g { looks = one_more g.looks }) past
+
+pub block-here : (names : Names) (grouping : Grouping) (g m new : Group) (rows : List LiveRow) → m ≡ record g { looks = one_more g.looks } → g.block < count_of (heap_in grouping.index.at.heap.now)
+    → rows ≡ block_rows grouping.index.at.case.now names g.block → new ≡ group_after (table_seen names grouping) m rows → new ≡ record g { met = block_met (table_seen names grouping) g; looks = one_more g.looks }
+block-here names grouping g m new rows is inside are after =
+    block-gone names grouping (record g { looks = one_more g.looks }) new rows inside are (after ∙ ap (λ (n : Group). group_after (table_seen names grouping) n rows) is)
+
 -- A group
 
 module _ (t : Table) where
-  pub closed-more : (g : Group) → nat_lt 1 g.count ≡ true → record g { met = block_met t g } ≡ closed t g
+  pub closed-more : (g : Group) → nat_lt 1 g.count ≡ true → record g { met = block_met t g; looks = one_more g.looks } ≡ closed t g
   unfolding closed
-  closed-more g more = λ i. record g { met = sym (cond-true (nat_lt 1 g.count) (block_met t g) g.met more) i }
+  closed-more g more = λ i. record g {
+    met = sym (cond-true (nat_lt 1 g.count) (block_met t g) g.met more) i;
+    looks = sym (cond-true (nat_lt 1 g.count) (one_more g.looks) g.looks more) i;
+  }
 
   pub closed-few : (g : Group) → nat_lt 1 g.count ≡ false → g ≡ closed t g
   unfolding closed
-  closed-few g few = same-met g _ (sym (cond-false (nat_lt 1 g.count) (block_met t g) g.met few))
+  closed-few g few = λ i. record g {
+    met = sym (cond-false (nat_lt 1 g.count) (block_met t g) g.met few) i;
+    looks = sym (cond-false (nat_lt 1 g.count) (one_more g.looks) g.looks few) i;
+  }
 
   pub opened-same : (g : Group) (key : List Value) → same_key g.key key ≡ true → g ≡ opened t key g
   unfolding opened
   opened-same g key is = sym (cond-true (same_key g.key key) g (begun t key (closed t g)) is)
 
   pub opened-new : (g m : Group) (key : List Value) (unique : Unique) → same_key g.key key ≡ false → m ≡ closed t g → unique ≡ t.unique
-      → record { key = key; counted = counts unique key; count = 0; block = m.block; met = record { some = false; later = m.met.later } } ≡ opened t key g
+      → record { key = key; counted = counts unique key; count = 0; block = m.block; met = record { some = false; later = m.met.later }; looks = m.looks } ≡ opened t key g
   unfolding opened
   opened-new g m key unique is closes kind =
-      (λ i. record { key = key; counted = counts (kind i) key; count = 0; block = (closes i).block; met = record { some = false; later = (closes i).met.later } })
+      (λ i. record { key = key; counted = counts (kind i) key; count = 0; block = (closes i).block; met = record { some = false; later = (closes i).met.later }; looks = (closes i).looks })
       ∙ sym (cond-false (same_key g.key key) g (begun t key (closed t g)) is)
 
   pub tid-uncounted : (g : Group) (tid : Tid) → g.counted ≡ false → g ≡ tid_met t tid g
@@ -140,12 +157,19 @@ module _ (t : Table) where
   unfolding tid_met
   named-is g tid counted may = sym (cond-true (g.counted && t.may_root tid) (named t tid g) g (and_from g.counted (t.may_root tid) counted may))
 
-  pub tid-leaves : (g m : Group) (tid : Tid) → g.counted ≡ true → t.may_root tid ≡ true → leaves_block tid.block g ≡ true → m ≡ record g { met = block_met t g }
+  pub tid-leaves : (g m : Group) (tid : Tid) → g.counted ≡ true → t.may_root tid ≡ true → leaves_block tid.block g ≡ true → m ≡ record g { met = block_met t g; looks = one_more g.looks }
       → record m { count = next_count m.count; block = tid.block } ≡ tid_met t tid g
   unfolding named
   tid-leaves g m tid counted may leaves is =
       ap (λ (n : Group). record n { count = next_count n.count; block = tid.block }) is
-      ∙ (λ i. record { key = g.key; counted = g.counted; count = next_count g.count; block = tid.block; met = sym (cond-true (leaves_block tid.block g) (block_met t g) g.met leaves) i })
+      ∙ (λ i. record {
+        key = g.key;
+        counted = g.counted;
+        count = next_count g.count;
+        block = tid.block;
+        met = sym (cond-true (leaves_block tid.block g) (block_met t g) g.met leaves) i;
+        looks = sym (cond-true (leaves_block tid.block g) (one_more g.looks) g.looks leaves) i;
+      })
       ∙ named-is g tid counted may
 
   pub tid-stays : (g m : Group) (tid : Tid) → g.counted ≡ true → t.may_root tid ≡ true → leaves_block tid.block g ≡ false → m ≡ g
@@ -153,7 +177,14 @@ module _ (t : Table) where
   unfolding named
   tid-stays g m tid counted may stays is =
       ap (λ (n : Group). record n { count = next_count n.count; block = tid.block }) is
-      ∙ (λ i. record { key = g.key; counted = g.counted; count = next_count g.count; block = tid.block; met = sym (cond-false (leaves_block tid.block g) (block_met t g) g.met stays) i })
+      ∙ (λ i. record {
+        key = g.key;
+        counted = g.counted;
+        count = next_count g.count;
+        block = tid.block;
+        met = sym (cond-false (leaves_block tid.block g) (block_met t g) g.met stays) i;
+        looks = sym (cond-false (leaves_block tid.block g) (one_more g.looks) g.looks stays) i;
+      })
       ∙ named-is g tid counted may
 
   pub entry-is : (e : Entry Value Tid) (g m new : Group) (key : List Value) (tid : Tid) → key ≡ e.values → tid ≡ e.tid → m ≡ opened t key g → new ≡ tid_met t tid m → new ≡ entry_met t e g

@@ -2,6 +2,7 @@
 -- kept of the entries with one key while one after another comes, and of which rows an earlier one was met.
 use Rattle.std.specs.Prelude.{ℕ, ◌+◌, ◌*◌, Bool, true, false, not, cond, ◌==◌, ◌&&◌, nat_lt, List, [], ◌∷◌, ◌++◌}
 use Rattle.std.specs.Prelude.{Option, Some, None}
+use Rattle.outside.specs.Counting.{one_more}
 use Rattle.tree_search.specs.Keys.{Entry}
 use Rattle.key_orders.specs.declared.columns.Value.{Value}
 use Rattle.key_orders.specs.declared.Tid.{Tid}
@@ -29,13 +30,14 @@ pub record Met : Type 0 where
 
 -- The entries of one key so far: the key, whether the index may have it once alone, how many of them may name the root
 -- of a row (0, 1, or 2 for more), and the block that the last of these names. The rows of the blocks before that were
--- met.
+-- met. The looks are how many times the rows of a block were gone over, for this group and for those before.
 pub record Group : Type 0 where
   pub key : List Value
   pub counted : Bool
   pub count : ℕ
   pub block : ℕ
   pub met : Met
+  pub looks : ℕ
 
 -- what the index and its heap are: the keys of rows, the rows of each block, and what may be the root of one
 pub record Table : Type 0 where
@@ -67,11 +69,18 @@ rows_met t key (row ∷ rows) m = rows_met t key rows (row_met t key row m)
 abbrev pub block_met : Table → Group → Met
 block_met t g = rows_met t g.key (t.rows_in g.block) g.met
 
+-- how many looks there are, where there may be one more
+abbrev pub looks_after : Bool → ℕ → ℕ
+looks_after more looks = cond more (one_more looks) looks
+
 -- Entries
 
 -- the end of a group: where more than one entry may name a root, the rows of the last block are met too
 unfoldable pub closed : Table → Group → Group
-closed t g = record g { met = cond (nat_lt 1 g.count) (block_met t g) g.met }
+closed t g = record g {
+  met = cond (nat_lt 1 g.count) (block_met t g) g.met;
+  looks = looks_after (nat_lt 1 g.count) g.looks;
+}
 
 -- the beginning of one
 abbrev pub begun : Table → List Value → Group → Group
@@ -81,6 +90,7 @@ begun t key g = record {
   count = 0;
   block = g.block;
   met = record { some = false; later = g.met.later };
+  looks = g.looks;
 }
 
 -- the group of an entry
@@ -102,6 +112,7 @@ named t tid g = record {
   count = next_count g.count;
   block = tid.block;
   met = cond (leaves_block tid.block g) (block_met t g) g.met;
+  looks = looks_after (leaves_block tid.block g) g.looks;
 }
 
 unfoldable pub tid_met : Table → Tid → Group → Group
@@ -123,6 +134,7 @@ first_group unique = record {
   count = 0;
   block = 0;
   met = record { some = false; later = [] };
+  looks = 0;
 }
 
 -- the numbers of the rows before which one of their key came

@@ -1,5 +1,5 @@
 -- An index and its heap, as the code goes through them.
-use Rattle.std.specs.Prelude.{◌≡◌, ℕ, cond, nat_lt, true, List, [], None, Option, Some}
+use Rattle.std.specs.Prelude.{◌≡◌, ◌≤◌, ℕ, All, Bool, cond, nat_lt, true, length, List, [], None, Option, Some}
 use Rattle.outside.specs.Outside.{Names}
 use Rattle.rel_files.specs.Relation.{count_of}
 use Rattle.tree_search.specs.Keys.{Entry}
@@ -15,7 +15,7 @@ use Rattle.bt_search.specs.Descents.{ComesTo}
 use Rattle.bt_search.specs.Spots.{left_at, left_from, rest_at, rest_from, scan_on}
 use Rattle.heap_files.specs.Files.{heap_in}
 use Rattle.heap_check.specs.declared.rows.LiveRow.{LiveRow}
-use Rattle.heap_check.specs.Rows.{block_rows}
+use Rattle.heap_check.specs.Rows.{block_rows, rows_of}
 use Rattle.indexed_rules.specs.Rows.{key_numbers, values_at}
 use Rattle.duplicate_keys.specs.declared.grouping.Grouping.{Grouping}
 use Rattle.row_keys.specs.declared.joined.IndexedHeap.{IndexedHeap}
@@ -29,13 +29,17 @@ abbrev pub rows_within : CaseRecord → Names → (blocks : ℕ) → ℕ → Lis
 rows_within case names blocks b = cond (nat_lt b blocks) (block_rows case names b) []
 
 -- an index and its heap, and what may be the root of a row
-unfoldable pub table_for : Names → IndexedHeap → Unique → Roots → Table
-table_for names at unique roots = record {
+abbrev pub table_with : Names → IndexedHeap → Unique → (Tid → Bool) → Table
+table_with names at unique may_root = record {
   unique = unique;
   key_in = λ row. values_at (key_numbers (index_columns at.tree.now)) row.cells;
   rows_in = rows_within at.case.now names (count_of (heap_in at.heap.now));
-  may_root = is_root_in roots;
+  may_root = may_root;
 }
+
+-- the same, where what is in a set may be one
+unfoldable pub table_for : Names → IndexedHeap → Unique → Roots → Table
+table_for names at unique roots = table_with names at unique (is_root_in roots)
 
 abbrev pub table_seen : Names → Grouping → Table
 table_seen names grouping = table_for names grouping.index.at grouping.unique grouping.roots.now
@@ -79,3 +83,20 @@ pub record IsDone (names : Names) (at : IndexedHeap) (unique : Unique) (roots : 
       (scan_on at.tree.now no_bounds) entries
   pub is : group ≡ closed (table_for names at unique roots)
       (entries_met (table_for names at unique roots) entries (first_group unique))
+
+-- the looks are no more than the unkilled entries of the index
+pub record AreFewLooks (names : Names) (at : IndexedHeap) (looks : ℕ) : Type 0 where
+  pub entries : List (Entry Value Tid)
+  pub wanted : IsWanted (order_of (specs_of at.tree.now)) is_killed (image_of names at.tree.now)
+      (scan_on at.tree.now no_bounds) entries
+  pub few : looks ≤ length entries
+
+-- they are those that these entries lead to, where each root of a row is among what may be one
+pub record AreLooks (names : Names) (at : IndexedHeap) (unique : Unique) (looks : ℕ) : Type 0 where
+  pub may_root : Tid → Bool
+  pub roots : All (λ row. may_root row.root ≡ true) (rows_of at.case.now names)
+  pub entries : List (Entry Value Tid)
+  pub wanted : IsWanted (order_of (specs_of at.tree.now)) is_killed (image_of names at.tree.now)
+      (scan_on at.tree.now no_bounds) entries
+  pub are : looks ≡ (closed (table_with names at unique may_root)
+      (entries_met (table_with names at unique may_root) entries (first_group unique))).looks

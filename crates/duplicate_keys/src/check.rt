@@ -1,5 +1,5 @@
 //! The check of the keys of a unique index.
-ghost use Rattle.std.specs.Prelude.{◌≡◌, ◌<◌, ◌≤◌, ◌^◌, All, IfOk, OnOk, length, true};
+ghost use Rattle.std.specs.Prelude.{◌≡◌, ◌<◌, ◌≤◌, ◌^◌, ◌⊎◌, All, IfOk, OnOk, false, length, true};
 ghost use Rattle.outside.specs.Adds.{AddsIn};
 ghost use Rattle.outside.specs.Outside.{Asked, IfTold, Names, Tells};
 ghost use Rattle.reports.specs.Added.{nothing, report_lists};
@@ -15,12 +15,13 @@ ghost use Rattle.apart_keys.specs.Apart.{AreApart};
 ghost use Rattle.duplicate_keys.specs.Groups.{is_asked};
 ghost use Rattle.duplicate_keys.specs.Later.{later_lists};
 ghost use Rattle.duplicate_keys.specs.Roots.{is_root_in};
-ghost use Rattle.duplicate_keys.specs.Tables.{IsDone};
+ghost use Rattle.duplicate_keys.specs.Tables.{AreFewLooks, AreLooks, IsDone};
 
 use crate::group::KeyGroup;
 use crate::grouping::Grouping;
 use crate::roots::Roots;
 use apart_keys::apart_leaves_have_no_equal_keys;
+use bt_search::searches_go_in_steps;
 use case_file::{Case, Unique};
 use heap_check::{RowCursor, rows_are_live_tuples};
 use key_orders::{Scan, Tid, key_orders_are_total};
@@ -143,22 +144,33 @@ fn group_rows<F: Files>(
     Ok(group)
 }
 
-// The numbers of the rows before which one with the same key stands, rising.
+// The rows before which one with the same key stands.
+#[derive(Drop)]
+struct Later {
+    // Their numbers, rising.
+    numbers: Vec<u64>,
+    // How many times the rows of a block were gone over.
+    looks: u64,
+}
+
+// Goes over the leaves of an index, for the rows before which one with the same key stands.
 fn later_rows<F: Files>(
     alloc: Global,
     files: &mut F,
     at: IndexedHeap<'_>,
     unique: Unique,
-) -> Result<Vec<u64>, PageFault>
+) -> Result<Later, PageFault>
     requires belong { BelongTogether at.case.now at.heap.now at.tree.now }
     requires hold { IfTold F.seen files.old (λ names. HoldTogether names at.case.now at.heap.now at.tree.now) }
     requires joined { IfTold F.seen files.old (λ names.
         AreJoined at.case.now names (number_of (file_of at.tree.now))) }
     requires kind { unique ≡ unique_of at.case.now (number_of (file_of at.tree.now)) }
-    ensures tids { IfOk result (λ later. All (λ n. n < 2 ^ 48) later.items) }
+    ensures tids { IfOk result (λ later. All (λ n. n < 2 ^ 48) later.numbers.items) }
     ensures lists { Tells F.seen files.old result (λ later names.
-        later_lists (number_of (file_of at.entry.tree.now)) later.items
+        later_lists (number_of (file_of at.entry.tree.now)) later.numbers.items
         ≡ duplicates_lists at.entry.case.now names (number_of (file_of at.entry.tree.now))) }
+    ensures few { Tells F.seen files.old result (λ later names. AreFewLooks names at.entry later.looks) }
+    ensures looks { Tells F.seen files.old result (λ later names. AreLooks names at.entry unique later.looks) }
     ensures asked { Asked F.seen files.old files.new result PageFault.ReadFault }
 {
     rows_are_live_tuples();
@@ -166,10 +178,11 @@ fn later_rows<F: Files>(
     at.case.sound();
     let roots = roots_of(alloc, files, at)?;
     let group = group_rows(alloc, files, at, unique, &roots)?;
-    let mut later = group.into_later();
-    later.sort_unstable();
-    later.dedup();
-    Ok(later)
+    let looks = group.looks();
+    let mut numbers = group.into_later();
+    numbers.sort_unstable();
+    numbers.dedup();
+    Ok(Later { numbers, looks })
 }
 
 /// Adds to the report each live row of a heap that has, in a unique index of it, the key of a row with a lower TID
@@ -180,6 +193,8 @@ fn later_rows<F: Files>(
 ///
 /// The heap is read once for the roots of its rows, and the leaves of the index once along their chain. Of the entries
 /// that have one key and may be of a row, where they are more than one, each block that they name is read once more.
+/// The answer is how many times the rows of a block were gone over so: at most once for each unkilled entry of the
+/// index, and 0 where nothing is read.
 ///
 /// `ReadFault` comes only where the count of the files' faults rose. After an error the report has a first part of what
 /// it would have got.
@@ -189,7 +204,7 @@ pub fn check_duplicates<F: Files>(
     at: IndexedHeap<'_>,
     apart: bool,
     report: &mut Report,
-) -> Result<(), PageFault>
+) -> Result<u64, PageFault>
     requires belong { BelongTogether at.case.now at.heap.now at.tree.now }
     requires hold { IfTold F.seen files.old (λ names. HoldTogether names at.case.now at.heap.now at.tree.now) }
     requires joined { IfTold F.seen files.old (λ names.
@@ -197,18 +212,25 @@ pub fn check_duplicates<F: Files>(
     requires apart { IfTold F.seen files.old (λ names. apart ≡ true → AreApart names at.tree.now) }
     ensures lists { IfTold F.seen files.old (λ names. AddsIn report_lists result report.old report.new
         (duplicates_lists at.entry.case.now names (number_of (file_of at.entry.tree.now)))) }
+    ensures few { Tells F.seen files.old result (λ looks names. AreFewLooks names at.entry looks) }
+    ensures looks { Tells F.seen files.old result (λ looks names. apart ≡ false
+        → is_asked (unique_of at.entry.case.now (number_of (file_of at.entry.tree.now))) ≡ true
+        → AreLooks names at.entry (unique_of at.entry.case.now (number_of (file_of at.entry.tree.now))) looks) }
+    ensures none { IfOk result (λ looks. apart ≡ true
+        ⊎ is_asked (unique_of at.entry.case.now (number_of (file_of at.entry.tree.now))) ≡ false → looks ≡ 0) }
     ensures asked { Asked F.seen files.old files.new result PageFault.ReadFault }
 {
+    searches_go_in_steps();
     if apart {
         no_row_is_second(at);
-        return Ok(());
+        return Ok(0);
     }
     let index = at.tree.index();
     let unique = unique_of(at.case, index);
     if let Unique::No = unique {
-        return Ok(());
+        return Ok(0);
     }
     let later = later_rows(alloc, files, at, unique)?;
-    add_later(&later, index, report)?;
-    Ok(())
+    add_later(&later.numbers, index, report)?;
+    Ok(later.looks)
 }

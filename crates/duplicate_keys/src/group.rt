@@ -1,6 +1,7 @@
 //! What is kept of the entries with one key while one after another comes.
 ghost use Rattle.std.specs.Prelude.{◌≡◌, ◌<◌, ◌^◌, [], All, false, length, map, OnOk};
 ghost use Rattle.std.specs.List.{list_any};
+ghost use Rattle.outside.specs.Counting.{one_more};
 ghost use Rattle.key_orders.specs.Values.{value_shown};
 ghost use Rattle.stored_keys.specs.Same.{same_key};
 ghost use Rattle.indexed_rules.specs.Unique.{counts, is_null};
@@ -28,6 +29,8 @@ pub(crate) struct KeyGroup {
     some: bool,
     // The numbers of the rows before which one was met.
     later: Vec<u64>,
+    // How many times the rows of a block were gone over.
+    looks: u64,
 }
 
 impl Model for KeyGroup {
@@ -43,6 +46,7 @@ impl Model for KeyGroup {
       count = g.count;
       block = g.block;
       met = record { some = g.some; later = g.later.items };
+      looks = g.looks;
     } };
 
     // Each is the number of a TID.
@@ -90,6 +94,7 @@ impl KeyGroup {
             block: 0,
             some: false,
             later: Vec::new(alloc),
+            looks: 0,
         }
     }
 
@@ -137,6 +142,7 @@ impl KeyGroup {
           count = 0;
           block = self.old.block;
           met = record { some = false; later = self.old.met.later };
+          looks = self.old.looks;
         }) }
     {
         keys_are_read_back();
@@ -154,6 +160,20 @@ impl KeyGroup {
     {
         self.count = if self.count == 0 { 1 } else { 2 };
         self.block = block;
+    }
+
+    /// Counts that the rows of a block are gone over.
+    pub(crate) fn look(&mut self)
+        ensures { self.new ≡ record self.old { looks = one_more self.old.looks } }
+    {
+        self.looks = self.looks.saturating_add(1);
+    }
+
+    /// How many times the rows of a block were gone over.
+    pub(crate) fn looks(&self) -> u64
+        ensures { result ≡ self.now.looks }
+    {
+        self.looks
     }
 
     /// Takes a row that has the key.

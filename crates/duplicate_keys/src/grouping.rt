@@ -1,5 +1,6 @@
 //! The entries of an index one after another, and the rows that have the same key as each other.
 ghost use Rattle.std.specs.Prelude.{◌≡◌, ◌≢◌, ◌∷◌, ◌≤◌, ◌<◌, ◌+◌, ◌^◌, [], List, OnOk, false, length, map, true};
+ghost use Rattle.outside.specs.Counting.{one_more};
 ghost use Rattle.outside.specs.Outside.{Asked, IfTold, Names, Tells};
 ghost use Rattle.rel_files.specs.Relation.{count_of};
 ghost use Rattle.tree_search.specs.Keys.{Entry as Item};
@@ -114,7 +115,7 @@ impl Grouping<'_> {
         Ok(())
     }
 
-    // Meets the rows of the block that the group has come to, those that have its key.
+    // Goes over the rows of the block that the group has come to, and meets those that have its key.
     fn meet_block<F: Files>(
         self,
         files: &mut F,
@@ -124,13 +125,17 @@ impl Grouping<'_> {
         requires index { IsIndexAt self.index cursor.old }
         requires told { IfTold F.seen files.old (λ names. IsCursorOf names cursor.old) }
         ensures met { OnOk result (IfTold F.seen files.old (λ names.
-            group.new ≡ record group.old { met = block_met (table_seen names self.entry) group.old })) }
+            group.new ≡ record group.old {
+              met = block_met (table_seen names self.entry) group.old;
+              looks = one_more group.old.looks;
+            })) }
         ensures told { IfTold F.seen files.old (λ names. IsCursorOf names cursor.new) }
         ensures same { IsSameCursor cursor.old cursor.new }
         ensures asked { Asked F.seen files.old files.new result PageFault.ReadFault }
     {
         let blocks = self.index.at.heap.heap().blocks();
         let block = group.block();
+        group.look();
         if blocks <= block {
             return Ok(());
         }

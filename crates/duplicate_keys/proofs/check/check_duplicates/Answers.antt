@@ -5,6 +5,7 @@ use Rattle.bt_levels.specs.Files.{number_of}
 use Rattle.bt_levels.specs.Sound.{file_of}
 use Rattle.indexed_rules.specs.Lists.{duplicates_lists}
 use Rattle.indexed_rules.specs.Unique.{unique_of}
+use Rattle.duplicate_keys.specs.Tables.{no_bounds}
 use Rattle.duplicate_keys.proofs.NotUnique.{nothing-added, nothing-with}
 use Rattle.duplicate_keys.proofs.check.check_duplicates.Goals as goal
 
@@ -28,3 +29,17 @@ returns-then-apart-clause-lists g c = λ names told.
     let case = c.args.at.case.now in
     let none = c.no_row_is_second.ensures names (c.requires.hold names told) (c.requires.joined names told) (c.requires.apart names told c.if-apart.true) in
     nothing-with case names (number_of (file_of c.args.at.tree.now)) none c.args.report.now
+
+pub returns-then-apart-clause-few : goal.returns-then-apart-clause-few
+returns-then-apart-clause-few g c = λ names told. record {
+  entries = _;
+  wanted = (c.searches_go_in_steps.ensures names c.args.at.tree.now no_bounds (c.requires.hold names told).tree).wanted;
+  few = omega arith;
+}
+
+pub returns-in-No-clause-few : goal.returns-in-No-clause-few
+returns-in-No-clause-few g c = λ names told. record {
+  entries = _;
+  wanted = (c.searches_go_in_steps.ensures names c.args.at.tree.now no_bounds (c.requires.hold names told).tree).wanted;
+  few = omega arith;
+}

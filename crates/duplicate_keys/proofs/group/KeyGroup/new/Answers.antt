@@ -10,4 +10,5 @@ returns c = λ i. record {
   count = 0;
   block = 0;
   met = record { some = false; later = c.new-2.ensures.items i };
+  looks = 0;
 }

@@ -12,7 +12,7 @@ use Rattle.duplicate_keys.proofs.grouping.Grouping.meet_block.Goals as goal
 pub returns-then-blocks-block-clause-met : goal.returns-then-blocks-block-clause-met
 returns-then-blocks-block-clause-met g c = λ names told.
     let blocks = c.blocks-blocks.ensures ∙ ap count_of c.heap.ensures in
-    block-past names c.args.self c.args.group.now (omega (arith, blocks, c.block-block.ensures, c.if-blocks-block.true))
+    block-past names c.args.self c.args.group.now c.look.new.self c.look.ensures (omega (arith, blocks, c.block-block.ensures, c.if-blocks-block.true))
 
 pub take_block-requires-clause-told : goal.take_block-requires-clause-told
 take_block-requires-clause-told g c = λ names told. c.go_to.ensures.told names (c.requires.told names told)
@@ -35,7 +35,7 @@ returns-clause-met g c =
     on_ok_weaker c.meet_rows.result (λ met names told.
     let rows : rows_here names c.take_block.new.self ≡ block_rows c.args.self.index.at.case.now names c.args.group.now.block =
     c.in_ok-take_block.ensures.here names told ∙ (λ i. block_rows (case i) names (at i)) in
-    block-here names c.args.self c.args.group.now c.meet_rows.new.group (rows_here names c.take_block.new.self) inside rows (met names (c.take_block.ensures.asked.same ∙ told)))
+    block-here names c.args.self c.args.group.now c.look.new.self c.meet_rows.new.group (rows_here names c.take_block.new.self) c.look.ensures inside rows (met names (c.take_block.ensures.asked.same ∙ told)))
     c.meet_rows.ensures.met
 
 pub returns-clause-told : goal.returns-clause-told

@@ -12,5 +12,5 @@ returns-clause-met g c = λ names told.
     let key = map value_shown c.args.key.now in
     let m = c.close.new.group in
     c.in_ok-begin.ensures.ok
-    ∙ ((λ i. record { key = key; counted = c.counts-counted.ensures i; count = 0; block = m.block; met = record { some = false; later = m.met.later } })
+    ∙ ((λ i. record { key = key; counted = c.counts-counted.ensures i; count = 0; block = m.block; met = record { some = false; later = m.met.later }; looks = m.looks })
     ∙ opened-new (table_seen names c.args.self) c.args.group.now m key c.args.self.unique (sym c.has_key.ensures ∙ c.if-has_key.false) (c.in_ok-close.ensures.met names told) (kind-is names c.args.self))
