@@ -36,7 +36,10 @@ use Rattle.heap_pages.proofs.PageLaws.{each_passes, page_is_quiet}
 use Rattle.heap_pages.proofs.StateLaws.{passes_there, states_are_there}
 use Rattle.heap_files.specs.Case.{case_bits, heap_blocks, oid_in, table_of}
 use Rattle.heap_files.specs.Found.{IsQuiet, chunks_of}
+use Rattle.rel_files.specs.Blocks.{block_of}
+use Rattle.attach_files.specs.Refusals.{IsNamed}
 use Rattle.heap_files.specs.Files.{IsToastNamed, heap_in}
+use Rattle.heap_files.specs.TableFiles.{pages_in}
 use Rattle.heap_check.specs.declared.row_page.RowPage.{RowPage}
 use Rattle.heap_check.specs.declared.rows.LiveRow.{LiveRow}
 use Rattle.heap_check.specs.declared.row_cursor.RowCursor.{RowCursor}
@@ -186,6 +189,10 @@ unread_same names old new done case next none =
 
 pub nothing_in_hand : (case : CaseRecord) (names : Names) (toast : Option Relation) (chunks : List Chunk) (page : RowPage) → page.count ≡ 0 → IsInHand case names toast chunks page
 nothing_in_hand case names toast chunks page none = λ i first last. absurd (omega (arith, first, last, none))
+
+-- the pages of a case's heap are those of its relation
+pub page_is : (case : CaseRecord) (names : Names) (r : Relation) (block : ℕ) → IsNamed case.heap_file case.segment_blocks r → pages_in names r block ≡ heap_page case names block
+page_is case names r block named = λ i. block_of names (named.named i) (named.sized i) block
 
 pub heap_count : (case : CaseRecord) (names : Names) (n : ℕ) (r : Relation) → IsRelationOf names case.heap_file case.segment_blocks heap_limit r → n < blocks_in_relation r → n < heap_blocks case names
 unfolding heap_blocks

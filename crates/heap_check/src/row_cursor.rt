@@ -189,7 +189,7 @@ impl<'a> RowCursor<'a> {
         let blocks = heap.heap().blocks();
         let next = self.next;
         prove!(next < blocks);
-        self.page.take(files, &table, heap.heap(), next)?;
+        self.page.take(files, &table, heap, next)?;
         self.next = next + 1;
         Ok(())
     }

@@ -3,29 +3,31 @@ ghost use Rattle.std.specs.Prelude.{◌≡◌, ◌<◌, ◌≤◌, [], List, ℕ
 ghost use Rattle.std.specs.Prelude.{IfOk, IfSome, OnErr, OnOk};
 ghost use Rattle.std.specs.Option.{IsSomeAnd, option_copied};
 ghost use Rattle.outside.specs.Outside.{Asked, IfTold, Tells};
-ghost use Rattle.rel_files.specs.Relation.{IsAttached, base_of, count_of, size_of};
-ghost use Rattle.rel_files.specs.Blocks.{block_of};
+ghost use Rattle.rel_files.specs.Relation.{IsAttached, count_of};
 ghost use Rattle.page_layout.specs.Page.{item_of};
 ghost use Rattle.varlena_attrs.specs.Forms.{Attribute};
 ghost use Rattle.varlena_attrs.specs.InTurn.{AreRead};
 ghost use Rattle.key_orders.specs.Types.{HasAlignment};
 ghost use Rattle.hot_chains.specs.Chains.{is_live_tuple, item_at};
 ghost use Rattle.case_file.specs.Record.{CaseRecord};
+ghost use Rattle.heap_pages.specs.Quiet.{IsPlain};
 ghost use Rattle.heap_pages.specs.Table.{table_seen};
+ghost use Rattle.heap_files.specs.Files.{heap_in, is_plain_in};
+ghost use Rattle.heap_files.specs.TableFiles.{pages_in};
 ghost use Rattle.heap_check.specs.RowPages.{HasAttributes, IsBodyOf};
 ghost use Rattle.heap_check.specs.RowValues.{AreValuesOf, IsReadableValue};
 ghost use Rattle.heap_check.specs.Rows.{item_rows};
 
 use crate::row_roots::Roots;
-use crate::row_states::{are_plain, find_states, line_pointer};
+use crate::row_states::{find_states, line_pointer};
 use crate::row_values::{RowTuple, RowValues, ValueSources};
+use heap_files::SoundHeap;
 use heap_pages::TableRules;
 use heap_tuples::{tuple_columns, tuple_in};
 use key_orders::ColType;
 use liveness::{ItemState, Life};
 use outside::Files;
 use page_layout::{LinePtr, MAX_ITEMS, PageKind, PageView};
-use rel_files::Relation;
 use reports::PageFault;
 use std::alloc::Global;
 use varlena_attrs::TupleColumns;
@@ -59,7 +61,7 @@ pub(crate) struct RowPage {
     pub(crate) bytes: [u8; 8192],
     /// How many items are known.
     pub(crate) count: u16,
-    /// Whether each of its tuples is live and its own root, as on most pages: their states aren't kept then.
+    /// Whether it is known to be plain, as most pages are: the states of its items aren't kept then.
     pub(crate) plain: bool,
     /// The states of its items, where it isn't plain.
     pub(crate) states: Vec<ItemState>,
@@ -118,9 +120,17 @@ impl RowPage {
         }
     }
 
-    // Finds what is known of the items of the page in hand, of which nothing is known.
-    fn know<F: Files>(&mut self, files: &mut F, table: &TableRules<'_>) -> Result<(), PageFault>
+    // Finds what is known of the items of the page in hand, of which nothing is known but that it is plain, where it is
+    // known to be.
+    fn know<F: Files>(
+        &mut self,
+        files: &mut F,
+        table: &TableRules<'_>,
+        plain: bool,
+    ) -> Result<(), PageFault>
         requires none { self.old.count ≡ 0 }
+        requires plain { IfTold F.seen files.old (λ names. plain ≡ true
+            → IsPlain (table_seen names table.now) self.old.bytes) }
         ensures known { OnOk result (IfTold F.seen files.old (λ names.
             AreKnown (table_seen names table.now) self.old.block self.new)) }
         ensures few { self.new.count ≤ 2042 }
@@ -133,13 +143,12 @@ impl RowPage {
             return Ok(());
         }
         let count = page.item_count();
-        if are_plain(page) {
-            self.plain = true;
+        self.plain = plain;
+        if plain {
             self.roots.clear();
             self.count = count;
             return Ok(());
         }
-        self.plain = false;
         find_states(self.alloc, files, &table.logs, page, &mut self.states)?;
         self.roots.find(self.block, &self.states)?;
         self.count = count;
@@ -152,16 +161,18 @@ impl RowPage {
         &mut self,
         files: &mut F,
         table: &TableRules<'_>,
-        heap: &Relation,
+        heap: &SoundHeap,
         block: u32,
     ) -> Result<(), PageFault>
-        requires attached { IfTold F.seen files.old (λ names. IsAttached names heap.now) }
-        requires inside { block < count_of heap.now }
+        requires attached { IfTold F.seen files.old (λ names. IsAttached names (heap_in heap.now)) }
+        requires inside { block < count_of (heap_in heap.now) }
+        requires plain { IfTold F.seen files.old (λ names. is_plain_in heap.now block ≡ true
+            → IsPlain (table_seen names table.now) (pages_in names (heap_in heap.now) block)) }
         ensures block { OnOk result (self.new.block ≡ block) }
         ensures done { OnOk result (self.new.done ≡ 0) }
         ensures found { self.new.found ≡ false }
         ensures bytes { OnOk result (IfTold F.seen files.old (λ names.
-            self.new.bytes ≡ block_of names (base_of heap.now) (size_of heap.now) block)) }
+            self.new.bytes ≡ pages_in names (heap_in heap.now) block)) }
         ensures known { OnOk result (IfTold F.seen files.old (λ names.
             AreKnown (table_seen names table.now) block self.new)) }
         ensures few { self.new.count ≤ 2042 }
@@ -172,8 +183,8 @@ impl RowPage {
         self.count = 0;
         self.done = 0;
         self.found = false;
-        heap.read_block(files, block, &mut self.bytes)?;
-        self.know(files, table)
+        heap.heap().read_block(files, block, &mut self.bytes)?;
+        self.know(files, table, heap.is_plain(block))
     }
 
     /// Whether an item of the page in hand is a live tuple, by its line pointer where the page is plain, and

@@ -1,6 +1,5 @@
 //! The items of a page of a heap in which nothing is found: where they lie, and their states.
-ghost use Rattle.std.specs.Prelude.{◌≡◌, ◌≤◌, Some, false, true, length, IfSome, OnOk};
-ghost use Rattle.std.specs.Option.{option_copied};
+ghost use Rattle.std.specs.Prelude.{◌≡◌, ◌≤◌, false, true, length, OnOk};
 ghost use Rattle.outside.specs.Outside.{Asked, IfTold, Tells};
 ghost use Rattle.page_layout.specs.Items.{is_misplaced_heap_item, is_normal};
 ghost use Rattle.page_layout.specs.Page.{HasItems, count_of, item_of, piece_of, upper_of};
@@ -11,7 +10,7 @@ ghost use Rattle.liveness.specs.LogFiles.{log_files_of, logs_of};
 ghost use Rattle.liveness.specs.declared.states.ItemState.TheVariants.{Tuple};
 ghost use Rattle.heap_pages.specs.States.{AreStatesOf, IsStateOf};
 ghost use Rattle.heap_pages.specs.Table.{Table, logs_in};
-ghost use Rattle.heap_check.specs.RowStates.{AreInPlace, ArePlain, is_plain, is_plain_head};
+ghost use Rattle.heap_check.specs.RowStates.{AreInPlace};
 
 use heap_pages::push_state;
 use heap_tuples::tuple_in;
@@ -20,7 +19,7 @@ use outside::Files;
 use page_layout::{LineFlag, LinePtr, PageView};
 use reports::PageFault;
 use std::alloc::Global;
-use tuple_head::{HeapHead, heap_head};
+use tuple_head::heap_head;
 
 /// The line pointer of an item, counted from 1, of whatever page: it asks nothing of the page's header.
 pub(crate) fn line_pointer(page: &[u8; 8192], item: u16) -> LinePtr
@@ -29,60 +28,6 @@ pub(crate) fn line_pointer(page: &[u8; 8192], item: u16) -> LinePtr
     ensures { result ≡ item_of page.now item }
 {
     PageView::new(page).line_pointer(item)
-}
-
-// Whether hint bits alone say that a tuple is live, and it is its own root: its inserter committed, what stands
-// in its xmax doesn't count or only locks, and index entries name it.
-fn is_plain_head(head: HeapHead) -> bool
-    ensures { result ≡ is_plain_head head }
-{
-    head.xmin_seen() != 0
-        && head.is_xmin_committed()
-        && (head.is_xmax_invalid() || head.locked_only())
-        && !head.heap_only()
-}
-
-// Whether the tuple that a line pointer points to is such a one.
-fn is_plain_tuple(page: PageView<'_>, pointer: LinePtr) -> bool
-    ensures { result ≡ true
-        → is_plain_head (tuple_head_of (piece_of (page_bytes page.entry) pointer.off pointer.len)) ≡ true }
-{
-    match tuple_in(page, pointer) {
-        Some(tuple) => is_plain_head(heap_head(tuple)),
-        None => false,
-    }
-}
-
-// Whether an item needs no look at the logs or at other items: it is no redirect, and if it is a tuple, it is
-// a live one that is its own root.
-#[tactic(auto, unfolding(crate::specs::RowStates::is_plain))]
-fn is_plain(page: PageView<'_>, item: u16) -> bool
-    requires page { HasItems (page_bytes page) }
-    requires first { 1 ≤ item }
-    requires last { item ≤ count_of (page_bytes page) }
-    ensures { result ≡ true → is_plain (page_bytes page.entry) item ≡ true }
-{
-    let pointer = page.item(item);
-    match pointer.flag {
-        LineFlag::Normal => is_plain_tuple(page, pointer),
-        LineFlag::Unused => true,
-        LineFlag::Dead => true,
-        LineFlag::Redirect => false,
-    }
-}
-
-/// Whether all items of a page are plain, as on most pages: each tuple is then live by its hint bits, and its
-/// own root, and no other item is a redirect. It reads no log.
-pub(crate) fn are_plain(page: PageView<'_>) -> bool
-    requires { HasItems (page_bytes page) }
-    ensures { result ≡ true → ArePlain (page_bytes page.entry) }
-{
-    for k in 0..page.item_count() {
-        if !is_plain(page, k + 1) {
-            return false;
-        }
-    }
-    true
 }
 
 // The state of a tuple, by its header and the logs.

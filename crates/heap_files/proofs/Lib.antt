@@ -9,4 +9,4 @@ pub mod Silent
 pub mod TableLaws
 pub mod TrueLaws
 pub mod Relating
-pub mod TargetLaws
+pub mod KnownLaws

@@ -1,5 +1,5 @@
 -- Which files of a case are judged, and which case is refused for its files.
-use Rattle.std.specs.Prelude.{◌≡◌, ℕ, Bool, List, Option, Some, None, IfSome}
+use Rattle.std.specs.Prelude.{◌≡◌, ℕ, Bool, true, false, List, get_or, Option, Some, None, IfSome}
 use Rattle.std.specs.Option.{option_or}
 use Rattle.attach_files.specs.Refusals.{IsNamed, file_refusal, heap_limit, toast_limit}
 use Rattle.outside.specs.Outside.{Names}
@@ -11,9 +11,10 @@ use Rattle.vis_map.specs.Bits.{map_pages_for}
 use Rattle.toast_chunks.specs.declared.map.Chunk.{Chunk}
 use Rattle.reports.specs.declared.fault.CheckFault.{CheckFault}
 use Rattle.reports.specs.declared.fault.Which.TheVariants.{Heap, Toast}
+use Rattle.heap_pages.specs.Quiet.{IsPlain}
 use Rattle.heap_files.specs.declared.files.HeapFiles.{HeapFiles}
 use Rattle.heap_files.specs.declared.files.SoundHeap.{SoundHeap}
-use Rattle.heap_files.specs.Case.{heap_blocks, heap_page}
+use Rattle.heap_files.specs.Case.{heap_blocks, heap_page, table_of}
 use Rattle.heap_files.specs.Found.{chunks_of}
 use Rattle.heap_files.specs.Map.{map_name}
 
@@ -74,11 +75,16 @@ chunks_in sound = sound.chunks
 
 -- and the set of its line pointers that an index entry may name
 abbrev pub targets_in : SoundHeap → List (List Bool)
-targets_in sound = sound.targets
+targets_in sound = sound.known.targets
 
--- a heap without findings and without doubts, over these names: its files, the chunks of its TOAST table, and the line
--- pointers of its pages that an index entry may name
+-- and whether the page of a block is known to be plain; past the last block none is
+abbrev pub is_plain_in : SoundHeap → ℕ → Bool
+is_plain_in sound block = get_or sound.known.plain.items block false
+
+-- a heap without findings and without doubts, over these names: its files, the chunks of its TOAST table, the line
+-- pointers of its pages that an index entry may name, and pages that are plain
 pub record IsSoundHeapOf (case : CaseRecord) (names : Names) (sound : SoundHeap) : Type 0 where
   pub files : AreFilesOf case names sound.files
   pub chunks : sound.chunks ≡ chunks_of case names
-  pub targets : sound.targets ≡ targets_of (heap_page case names) (heap_blocks case names)
+  pub targets : targets_in sound ≡ targets_of (heap_page case names) (heap_blocks case names)
+  pub plain : (block : ℕ) → is_plain_in sound block ≡ true → IsPlain (table_of case names) (heap_page case names block)

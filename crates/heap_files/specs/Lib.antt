@@ -5,7 +5,7 @@ pub mod MapPage
 pub mod Relations
 pub mod Case
 pub mod TableFiles
-pub mod Targets
+pub mod Known
 pub mod Found
 pub mod Broken
 pub mod Truth

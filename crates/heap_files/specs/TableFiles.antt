@@ -10,9 +10,11 @@ use Rattle.rel_files.specs.declared.relation.Relation.{Relation}
 use Rattle.heap_pages.specs.Found.{FoundLists}
 use Rattle.heap_pages.specs.Table.{chunks_seen, table_seen}
 use Rattle.heap_pages.specs.declared.table.TableRules.{TableRules}
+use Rattle.heap_files.specs.Known.{TellsOfBlocks}
 use Rattle.heap_files.specs.Map.{bits_seen}
 use Rattle.heap_files.specs.MapPage.{IsMapAttached, IsOptionalMapInHand}
 use Rattle.heap_files.specs.Relations.{block_found, blocks_found, table_found}
+use Rattle.heap_files.specs.declared.known.KnownBlocks.{KnownBlocks}
 use Rattle.heap_files.specs.declared.map.MapPage.{MapPage}
 use Rattle.heap_files.specs.declared.relations.TableFile.{TableFile}
 
@@ -26,6 +28,11 @@ pub record AreAtHand (names : Names) (file : TableFile) (ahead : Ahead) (hand : 
 -- its pages
 abbrev pub pages_in : Names → Relation → ℕ → List ℕ
 pages_in names relation block = block_of names (base_of relation) (size_of relation) block
+
+-- what is known of its blocks 0 to n - 1
+abbrev pub TellsOfFile : Names → TableRules → TableFile → ℕ → KnownBlocks → Type 0
+TellsOfFile names table file n known =
+    TellsOfBlocks (table_seen names table) (pages_in names file.relation.now) n known
 
 abbrev pub found_of_block : Names → TableRules → TableFile → ℕ → FoundLists
 found_of_block names table file block =

@@ -1,5 +1,5 @@
 //! Judges a whole case but for its indexes: its visibility map, its heap and its TOAST table.
-ghost use Rattle.std.specs.Prelude.{◌≡◌, ◌↔◌, [], ◌⊎◌, None, IfErr, IfOk, IfSome, IsSome, OnOk};
+ghost use Rattle.std.specs.Prelude.{◌≡◌, ◌↔◌, ◌⊎◌, ℕ, List, None, IfErr, IfOk, IfSome, IsSome, OnOk};
 ghost use Rattle.outside.specs.Adds.{AddsIn};
 ghost use Rattle.outside.specs.Outside.{Asked, IfTold, Names, Tells};
 ghost use Rattle.rel_files.specs.Ahead.{IsAheadOf};
@@ -7,12 +7,12 @@ ghost use Rattle.rel_files.specs.declared.relation.Relation.{Relation as Related
 ghost use Rattle.liveness.specs.LogFiles.{log_files_of};
 ghost use Rattle.reports.specs.Added.{joined, nothing, report_lists};
 ghost use Rattle.heap_pages.specs.Found.{both_found};
-ghost use Rattle.heap_files.specs.Case.{heap_blocks, heap_page, log_files_in, oid_in};
+ghost use Rattle.heap_files.specs.Case.{log_files_in, oid_in};
 ghost use Rattle.heap_files.specs.Found.{IsQuiet, case_found, chunks_given, chunks_of, heap_found, lists_in};
 ghost use Rattle.heap_files.specs.Found.{map_found, parts_found, toast_found};
+ghost use Rattle.heap_files.specs.Known.{TellsOfBlocks, TellsOfHeap};
 ghost use Rattle.heap_files.specs.Relations.{segment_found};
-ghost use Rattle.heap_files.specs.Targets.{HasTargets};
-ghost use Rattle.heap_pages.specs.Table.{chunks_seen, toast_oid_seen};
+ghost use Rattle.heap_pages.specs.Table.{Table, chunks_seen, toast_oid_seen};
 ghost use Rattle.heap_files.specs.CaseLogs.{log_files_kept};
 ghost use Rattle.heap_files.specs.Files.{AreFilesOf, BelongTo, IsSoundHeapOf, files_of};
 ghost use Rattle.heap_files.specs.MapPage.{IsOptionalMapInHand};
@@ -198,10 +198,11 @@ fn judge_heap<F: Transactions>(
     requires chunks { IfTold F.seen files.old (λ names. of.chunks.now ≡ chunks_of of.case.now names) }
     requires pages { (names : Names) (r : Related) → IsAheadOf names r hands.old.ahead }
     requires map { IfTold F.seen files.old (λ names. IsOptionalMapInHand names of.at.now.map hands.old.map) }
+    requires known { (table : Table) (pages : ℕ → List ℕ) → TellsOfBlocks table pages 0 hands.old.known }
     ensures found { OnOk result (IfTold F.seen files.old (λ names.
         hands.new.work.found ≡ both_found hands.old.work.found (heap_found of.entry.case.now names))) }
-    ensures targets { OnOk result (IfTold F.seen files.old (λ names. hands.old.targets ≡ []
-        → HasTargets (heap_page of.entry.case.now names) (heap_blocks of.entry.case.now names) hands.new.targets)) }
+    ensures known { OnOk result (IfTold F.seen files.old (λ names.
+        TellsOfHeap of.entry.case.now names hands.new.known)) }
     ensures asked { Asked F.seen files.old files.new result PageFault.ReadFault }
 {
     let HeapOfCase {
@@ -221,8 +222,8 @@ fn judge_heap<F: Transactions>(
     Ok(())
 }
 
-// What is found of the map, the heap and the TOAST table of a case, and what an index entry may name of the heap. The
-// TOAST table is judged first, since the heap's values are asked of its chunks, and comes last in the lists.
+// What is found of the map, the heap and the TOAST table of a case, and what is known of the heap's blocks. The TOAST
+// table is judged first, since the heap's values are asked of its chunks, and comes last in the lists.
 fn judge_in_turn<F: Transactions>(
     alloc: Global,
     files: &mut F,
@@ -234,8 +235,7 @@ fn judge_in_turn<F: Transactions>(
     requires belong { BelongTo case.now at.now }
     requires logs { log_files_kept logs.now ≡ log_files_in case.now }
     ensures found { Tells F.seen files.old result (λ judged names. judged.found ≡ parts_found case.now names) }
-    ensures targets { Tells F.seen files.old result (λ judged names.
-        HasTargets (heap_page case.now names) (heap_blocks case.now names) judged.targets) }
+    ensures known { Tells F.seen files.old result (λ judged names. TellsOfHeap case.now names judged.known) }
     ensures asked { Asked F.seen files.old files.new result PageFault.ReadFault }
 {
     let toast = judge_toast(alloc, files, case, logs, at)?;
@@ -253,7 +253,7 @@ fn judge_in_turn<F: Transactions>(
     let heap = hands.into_judged();
     Ok(JudgedFile {
         found: put_together(listed, heap.found, toast)?,
-        targets: heap.targets,
+        known: heap.known,
     })
 }
 
@@ -267,8 +267,7 @@ fn judge_files<F: Files>(
     requires told { IfTold F.seen files.old (λ names. AreFilesOf case.now names at.now) }
     requires belong { BelongTo case.now at.now }
     ensures found { Tells F.seen files.old result (λ judged names. judged.found ≡ parts_found case.now names) }
-    ensures targets { Tells F.seen files.old result (λ judged names.
-        HasTargets (heap_page case.now names) (heap_blocks case.now names) judged.targets) }
+    ensures known { Tells F.seen files.old result (λ judged names. TellsOfHeap case.now names judged.known) }
     ensures asked { Asked F.seen files.old files.new result PageFault.ReadFault }
 {
     let logs = CaseLogs::new(alloc, case)?;
@@ -331,13 +330,13 @@ pub fn check_heap<F: Files>(
     ensures only { IfErr result (λ e. e ≡ CheckFault.ReadFault ⊎ e ≡ CheckFault.NoMemory) }
     ensures asked { Asked F.seen files.old files.new result CheckFault.ReadFault }
 {
-    let JudgedFile { found, targets } = judge_files(alloc, files, case, &at)?;
+    let JudgedFile { found, known } = judge_files(alloc, files, case, &at)?;
     match add_found(report, found)? {
         None => Ok(None),
         Some(chunks) => Ok(Some(SoundHeap {
             files: at,
             chunks,
-            targets,
+            known,
         })),
     }
 }

@@ -7,6 +7,7 @@ ghost use Rattle.attach_files.specs.Refusals.{IsNamed, TellsRefusal};
 ghost use Rattle.heap_files.specs.Map.{map_name};
 ghost use Rattle.heap_files.specs.Files.{IsToastIn, IsToastNamed, toast_refusal};
 
+use crate::known::KnownBlocks;
 use attach_files::attach_file;
 use case_file::Case;
 use outside::{Files, NoMemory};
@@ -28,17 +29,17 @@ pub struct HeapFiles {
 }
 
 /// The files of a case's table, in which nothing was found and nothing stayed unjudged, with the
-/// chunks of the TOAST table, and the line pointers of the heap that an index entry may name.
+/// chunks of the TOAST table, and what is known of the heap's blocks.
 #[derive(Drop)]
 pub struct SoundHeap {
     pub(crate) files: HeapFiles,
     pub(crate) chunks: ToastMap,
-    pub(crate) targets: RootSet,
+    pub(crate) known: KnownBlocks,
 }
 
 impl SoundHeap {
     ghost use Rattle.std.specs.Option.{option_copied};
-    ghost use Rattle.heap_files.specs.Files.{chunks_in, heap_in, targets_in, toast_in};
+    ghost use Rattle.heap_files.specs.Files.{chunks_in, heap_in, is_plain_in, targets_in, toast_in};
 
     /// The heap's relation.
     pub fn heap(&self) -> &Relation
@@ -65,7 +66,16 @@ impl SoundHeap {
     pub fn targets(&self) -> &RootSet
         ensures { result.now ≡ targets_in self.now }
     {
-        &self.targets
+        &self.known.targets
+    }
+
+    /// Whether the page of a block is known to be plain: line pointers alone tell which of its items are live tuples,
+    /// and it has no chains. `false` says nothing.
+    pub fn is_plain(&self, block: u32) -> bool
+        ensures { result ≡ is_plain_in self.now block }
+    {
+        let plain = &self.known.plain;
+        (block as usize) < plain.len() && plain[block as usize]
     }
 }
 

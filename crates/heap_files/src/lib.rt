@@ -3,11 +3,11 @@
 
 mod check;
 mod files;
+mod known;
 mod laws;
 mod logs;
 mod map;
 mod relations;
-mod targets;
 
 pub use check::{check_heap, heap_rules, toast_table};
 pub use files::{HeapFiles, SoundHeap};

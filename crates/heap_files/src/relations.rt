@@ -1,25 +1,24 @@
 //! Judges the blocks of a table's file.
-ghost use Rattle.std.specs.Prelude.{◌≡◌, ◌+◌, ◌<◌, [], None, IfOk, OnOk};
+ghost use Rattle.std.specs.Prelude.{◌≡◌, ◌+◌, ◌<◌, ℕ, List, None, IfOk, OnOk};
 ghost use Rattle.outside.specs.Outside.{Asked, IfTold, Names};
 ghost use Rattle.rel_files.specs.Ahead.{IsAheadOf};
 ghost use Rattle.rel_files.specs.Relation.{count_of};
 ghost use Rattle.rel_files.specs.declared.relation.Relation.{Relation as Related};
 ghost use Rattle.heap_pages.specs.Found.{both_found, nothing_found, only_listed};
-ghost use Rattle.heap_pages.specs.Table.{AreReadable, rel_of};
+ghost use Rattle.heap_pages.specs.Table.{AreReadable, Table, rel_of};
+ghost use Rattle.heap_files.specs.Known.{TellsOfBlocks};
 ghost use Rattle.heap_files.specs.Relations.{segment_found};
 ghost use Rattle.heap_files.specs.TableFiles.{AreAtHand, found_of_block, found_of_blocks, found_of_table};
-ghost use Rattle.heap_files.specs.TableFiles.{pages_in};
-ghost use Rattle.heap_files.specs.Targets.{HasTargets};
+ghost use Rattle.heap_files.specs.TableFiles.{TellsOfFile};
 
+use crate::known::KnownBlocks;
 use crate::map::MapPage;
-use crate::targets::add_targets;
 use heap_pages::{Found, PageInHand, TableKind, TableRules, Work, judge_table_page};
 use liveness::Transactions;
 use outside::NoMemory;
 use page_layout::{PageView, Rule};
 use rel_files::{Ahead, Relation};
 use reports::{PageFault, Place};
-use root_set::RootSet;
 use std::alloc::Global;
 
 /// The file of a table, with the visibility map of its blocks, where it has one.
@@ -29,21 +28,21 @@ pub(crate) struct TableFile<'a> {
     pub(crate) map: Option<&'a Relation>,
 }
 
-/// What is in hand while a table is judged: pages of it, a page of its visibility map, what was found, and which of its
-/// line pointers an index entry may name.
+/// What is in hand while a table is judged: pages of it, a page of its visibility map, what was found, and what is
+/// known of its blocks.
 #[derive(Drop)]
 pub(crate) struct Hands {
     pub(crate) ahead: Ahead,
     pub(crate) map: MapPage,
     pub(crate) work: Work,
-    pub(crate) targets: RootSet,
+    pub(crate) known: KnownBlocks,
 }
 
-/// What was found of a table, and which of its line pointers an index entry may name.
+/// What was found of a table, and what is known of its blocks.
 #[derive(Drop)]
 pub(crate) struct JudgedFile {
     pub(crate) found: Found,
-    pub(crate) targets: RootSet,
+    pub(crate) known: KnownBlocks,
 }
 
 impl Hands {
@@ -52,30 +51,31 @@ impl Hands {
         ensures ahead { IfOk result (λ hands. (names : Names) (r : Related) → IsAheadOf names r hands.ahead) }
         ensures map { IfOk result (λ hands. hands.map.block ≡ None) }
         ensures found { IfOk result (λ hands. hands.work.found ≡ nothing_found) }
-        ensures targets { IfOk result (λ hands. hands.targets ≡ []) }
+        ensures known { IfOk result (λ hands. (table : Table) (pages : ℕ → List ℕ)
+            → TellsOfBlocks table pages 0 hands.known) }
     {
         Ok(Hands {
             ahead: Ahead::new(),
             map: MapPage::new(),
             work: Work::new(alloc)?,
-            targets: RootSet::new(alloc),
+            known: KnownBlocks::new(alloc),
         })
     }
 
-    /// What was found, and what an index entry may name.
+    /// What was found, and what is known of the blocks.
     pub(crate) fn into_judged(self) -> JudgedFile
         ensures found { result.found ≡ self.work.found }
-        ensures targets { result.targets ≡ self.targets }
+        ensures known { result.known ≡ self.known }
     {
-        let Hands { work, targets, .. } = self;
+        let Hands { work, known, .. } = self;
         JudgedFile {
             found: work.into_found(),
-            targets,
+            known,
         }
     }
 }
 
-// Takes a block of a table in hand, judges it, and adds its line pointers to those of the blocks before.
+// Takes a block of a table in hand, judges it, and adds it to the blocks that are known.
 fn judge_block<F: Transactions>(
     files: &mut F,
     table: &TableRules<'_>,
@@ -88,22 +88,17 @@ fn judge_block<F: Transactions>(
     requires at_hand { IfTold F.seen files.old (λ names. AreAtHand names file hands.old.ahead hands.old.map) }
     ensures found { OnOk result (IfTold F.seen files.old (λ names.
         hands.new.work.found ≡ both_found hands.old.work.found (found_of_block names table.now file.entry block))) }
-    ensures targets { IfTold F.seen files.old (λ names.
-        HasTargets (pages_in names file.entry.relation.now) block hands.old.targets
-        → OnOk result (HasTargets (pages_in names file.entry.relation.now) (block + 1) hands.new.targets)) }
+    ensures known { IfTold F.seen files.old (λ names. TellsOfFile names table.now file.entry block hands.old.known
+        → OnOk result (TellsOfFile names table.now file.entry (block + 1) hands.new.known)) }
     ensures at_hand { IfTold F.seen files.old (λ names. AreAtHand names file.entry hands.new.ahead hands.new.map) }
     ensures asked { Asked F.seen files.old files.new result PageFault.ReadFault }
 {
     let bits = hands.map.bits_of(files, file.map, block)?;
     hands.ahead.take(files, file.relation, block)?;
     let view = PageView::new(hands.ahead.page(block));
-    judge_table_page(
-        files,
-        table,
-        PageInHand { view, block, bits },
-        &mut hands.work,
-    )?;
-    add_targets(&mut hands.targets, view)?;
+    let at = PageInHand { view, block, bits };
+    let plain = judge_table_page(files, table, at, &mut hands.work)?;
+    hands.known.add(view, plain)?;
     Ok(())
 }
 
@@ -119,9 +114,8 @@ fn judge_blocks<F: Transactions>(
     requires at_hand { IfTold F.seen files.old (λ names. AreAtHand names file hands.old.ahead hands.old.map) }
     ensures found { OnOk result (IfTold F.seen files.old (λ names.
         hands.new.work.found ≡ both_found hands.old.work.found (found_of_blocks names table.now file.entry))) }
-    ensures targets { IfTold F.seen files.old (λ names.
-        HasTargets (pages_in names file.entry.relation.now) 0 hands.old.targets → OnOk result
-        (HasTargets (pages_in names file.entry.relation.now) (count_of file.entry.relation.now) hands.new.targets)) }
+    ensures known { IfTold F.seen files.old (λ names. TellsOfFile names table.now file.entry 0 hands.old.known
+        → OnOk result (TellsOfFile names table.now file.entry (count_of file.entry.relation.now) hands.new.known)) }
     ensures asked { Asked F.seen files.old files.new result PageFault.ReadFault }
 {
     for block in 0..file.relation.blocks() {
@@ -151,9 +145,8 @@ pub(crate) fn judge_table<F: Transactions>(
     requires at_hand { IfTold F.seen files.old (λ names. AreAtHand names file hands.old.ahead hands.old.map) }
     ensures found { OnOk result (IfTold F.seen files.old (λ names.
         hands.new.work.found ≡ both_found hands.old.work.found (found_of_table names table.now file.entry))) }
-    ensures targets { IfTold F.seen files.old (λ names.
-        HasTargets (pages_in names file.entry.relation.now) 0 hands.old.targets → OnOk result
-        (HasTargets (pages_in names file.entry.relation.now) (count_of file.entry.relation.now) hands.new.targets)) }
+    ensures known { IfTold F.seen files.old (λ names. TellsOfFile names table.now file.entry 0 hands.old.known
+        → OnOk result (TellsOfFile names table.now file.entry (count_of file.entry.relation.now) hands.new.known)) }
     ensures asked { Asked F.seen files.old files.new result PageFault.ReadFault }
 {
     add_segment(

@@ -75,12 +75,12 @@ module _ (old found mid : FoundLists) (before now : Counts) (was : ◌≡◌ {A 
   unjudged_added = ap (λ (f : FoundLists). f.listed.unjudged) added
 
   -- where the counts are the same, nothing is listed
-  none_found : true ≡ ((now.0 == before.0) && (now.1 == before.1)) → found.listed.findings ≡ []
+  pub none_found : true ≡ ((now.0 == before.0) && (now.1 == before.1)) → found.listed.findings ≡ []
   none_found same =
       nothing_more old.listed.findings mid.listed.findings found.listed.findings findings_added
       (sym (ap (λ (d : Counts). d.0) is) ∙ first_agrees _ _ _ _ same ∙ ap (λ (d : Counts). d.0) was)
 
-  none_doubted : true ≡ ((now.0 == before.0) && (now.1 == before.1)) → found.listed.unjudged ≡ []
+  pub none_doubted : true ≡ ((now.0 == before.0) && (now.1 == before.1)) → found.listed.unjudged ≡ []
   none_doubted same =
       nothing_more old.listed.unjudged mid.listed.unjudged found.listed.unjudged unjudged_added
       (sym (ap (λ (d : Counts). d.1) is) ∙ second_agrees _ _ _ _ same ∙ ap (λ (d : Counts). d.1) was)

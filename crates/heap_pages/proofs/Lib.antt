@@ -18,3 +18,4 @@ pub mod ValueLaws
 pub mod ValueRules
 pub mod Judged
 pub mod QuietLaws
+pub mod PlainLaws

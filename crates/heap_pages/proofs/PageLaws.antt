@@ -120,14 +120,25 @@ module _ (table : Table) (chunks : List Chunk) (block : ℕ) (page : List ℕ) w
     pub no_doubts : (items_found table chunks block page).listed.unjudged ≡ []
     no_doubts = no_members (DoubtsHere table block page) _ items_doubts_sound (λ u doubted. pass.certain u.reason u.place doubted)
 
-module _ (table : Table) (block : ℕ) (page : List ℕ) (pass : AllPass table block page) where
-  passes_by : (i : ℕ) (verdict : ItemVerdict) → 1 ≤ i → i ≤ count_of page → item_verdict table page i ≡ verdict → (state : ItemState) × (item_verdict table page i ≡ Passes state)
-  passes_by i (Passes state) first last e = (state, e)
-  passes_by i (Breaks rule) first last e = absurd (pass.unbroken rule _ (broken_at table block page i rule first last e))
-  passes_by i (InDoubt reason) first last e = absurd (pass.certain reason _ (doubted_at table block page i reason first last e))
+module _ (table : Table) (block : ℕ) (page : List ℕ) where
+  module _ (unbroken : (rule : Rule) (place : Place) → BreaksItem table block page rule place → ⊥) (certain : (reason : Reason) (place : Place) → DoubtsItem table block page reason place → ⊥) where
+    passes_by : (i : ℕ) (verdict : ItemVerdict) → 1 ≤ i → i ≤ count_of page → item_verdict table page i ≡ verdict → (state : ItemState) × (item_verdict table page i ≡ Passes state)
+    passes_by i (Passes state) first last e = (state, e)
+    passes_by i (Breaks rule) first last e = absurd (unbroken rule _ (broken_at table block page i rule first last e))
+    passes_by i (InDoubt reason) first last e = absurd (certain reason _ (doubted_at table block page i reason first last e))
 
-  pub each_passes : EachPasses table page
-  each_passes i first last = passes_by i (item_verdict table page i) first last refl
+    each_unbroken : EachPasses table page
+    each_unbroken i first last = passes_by i (item_verdict table page i) first last refl
+
+  pub each_passes : AllPass table block page → EachPasses table page
+  each_passes pass = each_unbroken pass.unbroken pass.certain
+
+  -- and so does each where nothing is listed of them
+  pub each_silent : (chunks : List Chunk) → (items_found table chunks block page).listed.findings ≡ [] → (items_found table chunks block page).listed.unjudged ≡ [] → EachPasses table page
+  each_silent chunks none sure =
+      each_unbroken
+      (λ rule place broken. none_listed _ place none sure (items_listed table chunks block page rule place broken))
+      (λ reason place doubted. none_listed _ place none sure (items_doubt_listed table chunks block page reason place doubted))
 
 -- All items together
 

@@ -32,7 +32,7 @@ use Rattle.reports.proofs.Parts.{All-upto}
 use Rattle.reports.specs.Added.{each_upto, nothing, report_lists}
 use Rattle.heap_pages.specs.Found.{FoundLists, found_parts, item_found, item_state, items_found, leaves_nothing, nothing_found, state_in, states_of}
 use Rattle.heap_pages.specs.Pages.{chain_found, found_by_rule, is_flagged_visible, joint_found, with_joint}
-use Rattle.heap_pages.specs.Quiet.{IsQuietItem, IsQuietTuple, is_quiet_head}
+use Rattle.heap_pages.specs.Quiet.{IsPlain, IsQuietItem, IsQuietTuple, is_quiet_head}
 use Rattle.heap_pages.specs.Storage.{AreAbove, has_storage, meets_item_below}
 use Rattle.heap_pages.specs.Table.{Table, logs_in, rel_of}
 use Rattle.heap_pages.specs.Verdicts.{item_verdict, tuple_verdict, values_verdict}
@@ -159,15 +159,18 @@ module _ (table : Table) (all_frozen : Bool) (page : List ℕ) (i : ℕ) where
       ∙ ap (λ (bytes : List ℕ). tuple_verdict table (length bytes) bytes) whole
       ∙ passes table all_frozen (tuple_at page i) heap here
       in record {
-        state = Tuple (tuple_head_of (tuple_at page i)) (plain Live);
-        passes = verdict;
+        plain = record {
+          state = Tuple (tuple_head_of (tuple_at page i)) (plain Live);
+          passes = verdict;
+          live = at_normal;
+          unchained = (refl, own.root);
+        };
         nothing = λ chunks block.
             passing_item table chunks block page i (Tuple (tuple_head_of (tuple_at page i)) (plain Live))
             (left_is_nothing table.kind table.toast chunks block i (attributes_in table.columns (tuple_at page i)) (leaves table all_frozen (tuple_at page i) heap here))
             verdict;
         visible = refl;
         settled = λ frozen. second_fails all_frozen (needs_freezing (tuple_head_of (tuple_at page i))) frozen own.settled;
-        unchained = (refl, own.root);
       }
 
   -- an unused one
@@ -175,12 +178,15 @@ module _ (table : Table) (all_frozen : Bool) (page : List ℕ) (i : ℕ) where
   quiet_unused item it unused =
       let verdict : item_verdict table page i ≡ Passes Unused = verdict_by_flag table page i item flag.Unused it unused in
       record {
-        state = Unused;
-        passes = verdict;
+        plain = record {
+          state = Unused;
+          passes = verdict;
+          live = ap (λ (p : LinePtr). is_normal p.flag) (sym it) ∙ ap is_normal unused;
+          unchained = (refl, refl);
+        };
         nothing = λ chunks block. bare_item table chunks block page i Unused refl verdict;
         visible = tt;
         settled = λ frozen. tt;
-        unchained = (refl, refl);
       }
 
 -- an item that lies below those before it is the lowest
@@ -216,14 +222,21 @@ bits_kept bits flagged items visible frozen alike V3 broken = broken.1 visible
 bits_kept bits flagged items visible frozen alike V4 broken = broken.1 (frozen broken.0)
 bits_kept bits flagged items visible frozen alike _ broken = broken
 
-module _ (table : Table) (bits : MapBits) (block : ℕ) (page : List ℕ) (each : (i : ℕ) → 1 ≤ i → i ≤ count_of page → IsQuietItem table bits.all_frozen page i) where
-  -- what holds of the state of each item holds of the states
-  of_states : (P : ItemState → Type 0) → ((i : ℕ) (first : 1 ≤ i) (last : i ≤ count_of page) → P (each i first last).state) → All P (states_of table page)
+-- what holds of the state of each item of a plain page holds of the states
+module _ (table : Table) (page : List ℕ) (plain : IsPlain table page) where
+  of_states : (P : ItemState → Type 0) → ((i : ℕ) (first : 1 ≤ i) (last : i ≤ count_of page) → P (plain i first last).state) → All P (states_of table page)
   unfolding states_of item_state
   of_states P holds =
       All-upto one_list (λ (xs : List ItemState). xs) refl (λ a b. refl) P (item_state table page) (count_of page) (λ i first last.
-      subst (λ (v : ItemVerdict). All P (state_in v)) (sym (each i first last).passes)
-      (All-cons P (each i first last).state [] (holds i first last) (All-nil P)))
+      subst (λ (v : ItemVerdict). All P (state_in v)) (sym (plain i first last).passes)
+      (All-cons P (plain i first last).state [] (holds i first last) (All-nil P)))
+
+  pub plain_unchained : HasNoChains (states_of table page)
+  plain_unchained = of_states IsUnchained (λ i first last. (plain i first last).unchained)
+
+module _ (table : Table) (bits : MapBits) (block : ℕ) (page : List ℕ) (each : (i : ℕ) → 1 ≤ i → i ≤ count_of page → IsQuietItem table bits.all_frozen page i) where
+  abbrev pub is_plain : IsPlain table page
+  is_plain = λ i first last. (each i first last).plain
 
   abbrev states : List ItemState
   states = states_of table page
@@ -233,10 +246,10 @@ module _ (table : Table) (bits : MapBits) (block : ℕ) (page : List ℕ) (each 
     no_map_rule =
         is_none (map_rule_of bits (is_flagged_visible page) states)
         ((none_is_exact bits (is_flagged_visible page) states).1
-        (bits_kept bits (is_flagged_visible page) states (of_states IsVisible (λ i first last. (each i first last).visible)) (λ frozen. of_states IsSettled (λ i first last. (each i first last).settled frozen)) kept))
+        (bits_kept bits (is_flagged_visible page) states (of_states table page is_plain IsVisible (λ i first last. (each i first last).visible)) (λ frozen. of_states table page is_plain IsSettled (λ i first last. (each i first last).settled frozen)) kept))
 
     no_chain_rule : each_upto report_lists (chain_found (rel_of table.kind) block states) (length states) ≡ nothing
-    no_chain_rule = nothing_of_chains (rel_of table.kind) block states (chainless states (of_states IsUnchained (λ i first last. (each i first last).unchained)))
+    no_chain_rule = nothing_of_chains (rel_of table.kind) block states (chainless states (plain_unchained table page is_plain))
 
     no_joint : joint_found (rel_of table.kind) block bits (is_flagged_visible page) states ≡ nothing
     unfolding joint_found

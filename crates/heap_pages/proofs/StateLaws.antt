@@ -118,7 +118,7 @@ get_or-each_upto {X = X} f (suc n) i x d one some le is =
     ]
 
 -- an item that is counted is the one before it in the list
-item_at-counted : (items : List ItemState) (i : ℕ) → 1 ≤ i → item_at items i ≡ get_or items (i - 1) Unused
+pub item_at-counted : (items : List ItemState) (i : ℕ) → 1 ≤ i → item_at items i ≡ get_or items (i - 1) Unused
 unfolding item_at
 item_at-counted items i some = let other : i ≡ 0 → ⊥ = λ e. absurd (omega (arith, e, some)) in cond-false _ _ _ (ne_eqb i 0 other)
 
@@ -131,7 +131,7 @@ module _ (table : Table) (page : List ℕ) (pass : EachPasses table page) where
   unfolding item_state
   one_state i first last = ap (λ (v : ItemVerdict). length (state_in v)) (pass i first last).1
 
-  state_there : (i : ℕ) (state : ItemState) → 1 ≤ i → i ≤ count_of page → item_verdict table page i ≡ Passes state → item_at (states_of table page) i ≡ state
+  pub state_there : (i : ℕ) (state : ItemState) → 1 ≤ i → i ≤ count_of page → item_verdict table page i ≡ Passes state → item_at (states_of table page) i ≡ state
   unfolding states_of item_state
   state_there i state first last passes =
       item_at-counted (each_upto one_list (item_state table page) (count_of page)) i first

@@ -1,11 +1,15 @@
 -- Quiet pages: each item is unused, or a live tuple of which hint bits and its header tell that nothing is wrong.
-use Rattle.std.specs.Prelude.{◌≡◌, ℕ, Bool, true, not, ◌==◌, ◌&&◌, ◌||◌, nat_lt, List, length, None}
+use Rattle.std.specs.Prelude.{◌≡◌, ℕ, ◌≤◌, Bool, true, false, not, ◌==◌, ◌&&◌, ◌||◌, nat_lt, List, length, None}
+use Rattle.page_layout.specs.Items.{is_normal}
+use Rattle.page_layout.specs.Page.{count_of, item_of}
 use Rattle.tuple_head.specs.Head.{head_rule_of, is_heap_only, is_locked_only, is_old_form, is_xmax_invalid}
 use Rattle.tuple_head.specs.Head.{is_xmin_committed, needs_freezing, seen_xmin, tuple_head_of}
 use Rattle.tuple_head.specs.declared.HeapHead.{HeapHead}
 use Rattle.varlena_attrs.specs.Inline.{are_inline}
 use Rattle.heap_tuples.specs.Tuples.{attributes_in}
 use Rattle.liveness.specs.declared.states.ItemState.{ItemState}
+use Rattle.liveness.specs.declared.states.ItemState.TheVariants.{Unused, Dead, Redirect, Tuple}
+use Rattle.hot_chains.specs.Chains.{is_live, is_live_tuple}
 use Rattle.hot_chains.specs.Quiet.{IsUnchained}
 use Rattle.toast_chunks.specs.declared.map.Chunk.{Chunk}
 use Rattle.vis_map.specs.Truth.{IsSettled, IsVisible}
@@ -28,12 +32,28 @@ pub record IsQuietTuple (table : Table) (all_frozen : Bool) (tuple : List ℕ) :
   pub rules : head_rule_of (length table.columns) (length tuple) (tuple_head_of tuple) ≡ None
   pub inline : are_inline (attributes_in table.columns tuple) ≡ true
 
--- Item i passes, and nothing is found of it. Its state is what an all-visible page may have, and, where the block is
--- called all-frozen, what an all-frozen page may; and it belongs to no chain.
-pub record IsQuietItem (table : Table) (all_frozen : Bool) (page : List ℕ) (i : ℕ) : Type 0 where
+-- item i passes, its line pointer alone tells whether it is a live tuple, and it belongs to no chain
+pub record IsPlainItem (table : Table) (page : List ℕ) (i : ℕ) : Type 0 where
   pub state : ItemState
   pub passes : item_verdict table page i ≡ Passes state
-  pub nothing : (chunks : List Chunk) (block : ℕ) → item_found table chunks block page i ≡ nothing_found
-  pub visible : IsVisible state
-  pub settled : all_frozen ≡ true → IsSettled state
+  pub live : is_normal (item_of page i).flag ≡ is_live_tuple state
   pub unchained : IsUnchained state
+
+-- which state tells so much of an item that passes: unused or dead, or a live tuple that index entries name
+abbrev pub is_plain_state : ItemState → Bool
+is_plain_state (Tuple head judged) = is_live judged.life && not (is_heap_only head)
+is_plain_state Unused = true
+is_plain_state Dead = true
+is_plain_state (Redirect target) = false
+
+-- a page of such items
+abbrev pub IsPlain : Table → List ℕ → Type 0
+IsPlain table page = (i : ℕ) → 1 ≤ i → i ≤ count_of page → IsPlainItem table page i
+
+-- Such an item, of which nothing is found. Its state is what an all-visible page may have, and, where the block is
+-- called all-frozen, what an all-frozen page may.
+pub record IsQuietItem (table : Table) (all_frozen : Bool) (page : List ℕ) (i : ℕ) : Type 0 where
+  pub plain : IsPlainItem table page i
+  pub nothing : (chunks : List Chunk) (block : ℕ) → item_found table chunks block page i ≡ nothing_found
+  pub visible : IsVisible plain.state
+  pub settled : all_frozen ≡ true → IsSettled plain.state

@@ -8,6 +8,7 @@ mod items;
 mod joint;
 mod laws;
 mod page;
+mod plain;
 mod quiet;
 mod storage;
 mod table;

@@ -1,14 +1,16 @@
 //! Judges a page of a table.
-ghost use Rattle.std.specs.Prelude.{◌≡◌, ◌≤◌, length, OnOk, IfOk};
-ghost use Rattle.outside.specs.Outside.{Asked, IfTold};
+ghost use Rattle.std.specs.Prelude.{◌≡◌, ◌≤◌, true, length, OnOk};
+ghost use Rattle.outside.specs.Outside.{Asked, IfTold, Tells};
 ghost use Rattle.page_layout.specs.Page.{HasItems};
 ghost use Rattle.page_layout.specs.View.{page_bytes};
 ghost use Rattle.heap_pages.specs.Found.{both_found};
 ghost use Rattle.heap_pages.specs.Pages.{found_by_rule, is_flagged_visible, page_found};
+ghost use Rattle.heap_pages.specs.Quiet.{IsPlain};
 ghost use Rattle.heap_pages.specs.Table.{AreReadable, chunks_seen, table_seen};
 
 use crate::items::judge_items;
 use crate::joint::judge_joint;
+use crate::plain::are_plain;
 use crate::quiet::is_quiet_page;
 use crate::table::TableRules;
 use crate::work::Work;
@@ -39,51 +41,58 @@ impl PageInHand<'_> {
 }
 
 // Judges a page whose header keeps its rules: its items, each by itself, and then, where nothing was found,
-// all together.
+// all together. The answer is that of `judge_table_page`.
 fn judge_sound_page<F: Transactions>(
     files: &mut F,
     table: &TableRules<'_>,
     at: PageInHand<'_>,
     work: &mut Work,
-) -> Result<(), PageFault>
+) -> Result<bool, PageFault>
     requires columns { AreReadable table.now.columns.now }
     requires page { HasItems (page_bytes at.view) }
     ensures found { OnOk result (IfTold F.seen files.old (λ names. work.new.found ≡ both_found work.old.found
         (found_by_rule (table_seen names table.now) (chunks_seen table.now.toast)
         at.entry.bits at.entry.block (page_bytes at.entry.view) None))) }
+    ensures plain { Tells F.seen files.old result (λ plain names. plain ≡ true
+        → IsPlain (table_seen names table.now) (page_bytes at.entry.view)) }
     ensures asked { Asked F.seen files.old files.new result PageFault.ReadFault }
 {
     if is_quiet_page(table, at) {
-        return Ok(());
+        return Ok(true);
     }
     let before = work.found.counts();
     work.clear();
     judge_items(files, table, at, work)?;
     if work.found.counts() == before {
+        let plain = are_plain(&work.states);
         judge_joint(table.kind.rel(), at, work)?;
+        return Ok(plain);
     }
-    Ok(())
+    Ok(false)
 }
 
-/// Judges a page of a table: its header, and where that breaks no rule its items.
+/// Judges a page of a table: its header, and where that breaks no rule its items. The answer is whether that told that
+/// the page is plain, as most pages of a heap are: by a look at each item, or by the states of all.
 #[tactic(auto, unfolding(crate::specs::Pages::page_found))]
 pub fn judge_table_page<F: Transactions>(
     files: &mut F,
     table: &TableRules<'_>,
     at: PageInHand<'_>,
     work: &mut Work,
-) -> Result<(), PageFault>
+) -> Result<bool, PageFault>
     requires columns { AreReadable table.now.columns.now }
     ensures found { OnOk result (IfTold F.seen files.old (λ names. work.new.found ≡ both_found work.old.found
         (page_found (table_seen names table.now) (chunks_seen table.now.toast)
         at.entry.bits at.entry.block (page_bytes at.entry.view)))) }
+    ensures plain { Tells F.seen files.old result (λ plain names. plain ≡ true
+        → IsPlain (table_seen names table.now) (page_bytes at.entry.view)) }
     ensures asked { Asked F.seen files.old files.new result PageFault.ReadFault }
 {
     match at.view.page_rule(PageKind::Heap) {
         Some(rule) => {
             let place = Place::Block(table.kind.rel(), at.block);
             work.found.add_rule(place, Some(rule))?;
-            Ok(())
+            Ok(false)
         }
         None => judge_sound_page(files, table, at, work),
     }

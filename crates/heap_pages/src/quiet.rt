@@ -12,7 +12,7 @@ ghost use Rattle.rel_files.specs.Ranges.{is_xid_in_range};
 ghost use Rattle.vis_map.specs.Rules.{IsMapRuleBroken};
 ghost use Rattle.heap_pages.specs.Found.{nothing_found};
 ghost use Rattle.heap_pages.specs.Pages.{found_by_rule, is_flagged_visible};
-ghost use Rattle.heap_pages.specs.Quiet.{IsQuietItem, IsQuietTuple, is_quiet_head};
+ghost use Rattle.heap_pages.specs.Quiet.{IsPlain, IsQuietItem, IsQuietTuple, is_quiet_head};
 ghost use Rattle.heap_pages.specs.Storage.{AreAbove};
 ghost use Rattle.heap_pages.specs.Table.{AreReadable, chunks_seen, table_seen};
 
@@ -171,13 +171,14 @@ fn breaks_bits(at: PageInHand<'_>) -> bool
 }
 
 /// Whether a page whose header keeps its rules is a quiet one of a heap, as far as a look at its items tells it. Then
-/// nothing is found of it. `false` says nothing.
+/// nothing is found of it, and it is plain. `false` says nothing.
 #[tactic(auto, unfolding(page_layout::specs::Page::header_of))]
 pub(crate) fn is_quiet_page(table: &TableRules<'_>, at: PageInHand<'_>) -> bool
     requires columns { AreReadable table.now.columns.now }
     requires page { HasItems (page_bytes at.view) }
-    ensures { OnTrue result ((names : Names) → found_by_rule (table_seen names table.now)
+    ensures nothing { OnTrue result ((names : Names) → found_by_rule (table_seen names table.now)
         (chunks_seen table.now.toast) at.entry.bits at.entry.block (page_bytes at.entry.view) None ≡ nothing_found) }
+    ensures plain { OnTrue result ((names : Names) → IsPlain (table_seen names table.now) (page_bytes at.entry.view)) }
 {
     pages_without_chains();
     match table.kind {

@@ -6,7 +6,7 @@ use Rattle.reports.specs.Lists.{Lists}
 use Rattle.heap_pages.specs.Found.{FoundLists}
 use Rattle.heap_files.specs.Found.{case_found}
 use Rattle.heap_files.proofs.CaseLists.{nothing_added, nothing_is_quiet, owed_of, quiet_is_nothing}
-use Rattle.heap_files.proofs.TargetLaws.{quiet_keeps}
+use Rattle.heap_files.proofs.KnownLaws.{quiet_keeps}
 use Rattle.heap_files.proofs.check.check_heap.Goals as goal
 
 some_is_none : false ≡ true → ⊥
@@ -51,5 +51,6 @@ returns-in-Some-clause-sound g c names told =
     record {
       files = c.requires.told names told;
       chunks = chunks ∙ ap (λ (f : FoundLists). f.chunks) (c.in_ok-found.ensures.found names told);
-      targets = c.in_ok-found.ensures.targets names told (quiet_keeps c.args.case.now names quiet);
+      targets = (c.in_ok-found.ensures.known names told).targets (quiet_keeps c.args.case.now names quiet);
+      plain = (c.in_ok-found.ensures.known names told).plain;
     }

@@ -7,7 +7,7 @@ use Rattle.heap_files.specs.Found.{chunks_given}
 use Rattle.heap_pages.specs.Table.{chunks_seen, table_with, toast_oid_seen}
 use Rattle.heap_files.proofs.CaseRules.{bits_are, chunks_are_given, heap_is_case, heap_rules_are, map_is_attached}
 use Rattle.heap_files.proofs.ColumnLaws.{columns_aligned}
-use Rattle.heap_files.proofs.TargetLaws.{of_heap}
+use Rattle.heap_files.proofs.KnownLaws.{of_heap}
 use Rattle.heap_files.proofs.check.judge_heap.Goals as goal
 
 pub new-columns-requires : goal.new-columns-requires
@@ -41,8 +41,10 @@ returns-clause-found g c names told =
     c.in_ok-judge_table.ensures.found names told
     ∙ ap (both_found c.args.hands.now.work.found) (heap_is_case case names _ _ _ at.heap table chunks bits c.requires.belong.heap files.heap)
 
-pub returns-clause-targets : goal.returns-clause-targets
-returns-clause-targets g c names told none =
-    let files = c.requires.told names told in
-    of_heap c.args.of.case.now names c.args.of.at.now.heap c.judge_table.new.hands.targets c.requires.belong.heap files.heap
-    (c.in_ok-judge_table.ensures.targets names told (λ keep. none))
+pub returns-clause-known : goal.returns-clause-known
+unfolding table_with
+returns-clause-known g c names told =
+    let case = c.args.of.case.now in
+    let table = heap_rules_are case names c.heap_rules-table.result c.heap_rules-table.ensures.kind (c.heap_rules-table.ensures.columns ∙ (c.new-columns.ensures ∙ c.column_types.ensures)) (ap toast_oid_seen c.heap_rules-table.ensures.toast ∙ c.toast_table.ensures.oid) (c.heap_rules-table.ensures.logs ∙ c.requires.logs) in
+    of_heap case names _ c.args.of.at.now.heap c.judge_table.new.hands.known table c.requires.belong.heap (c.requires.told names told).heap
+    (c.in_ok-judge_table.ensures.known names told (c.requires.known _ _))

@@ -1,8 +1,8 @@
-use Rattle.std.proofs.Common.{◌∙◌, List, Bool, ap, refl, subst, sym}
+use Rattle.std.proofs.Common.{◌∙◌, ap, refl, subst, sym}
 use Rattle.heap_pages.specs.Found.{FoundLists}
-use Rattle.heap_files.specs.Case.{heap_blocks, heap_page}
 use Rattle.heap_files.specs.Found.{heap_found}
-use Rattle.heap_files.specs.Targets.{HasTargets}
+use Rattle.heap_files.specs.Known.{TellsOfHeap}
+use Rattle.heap_files.specs.declared.known.KnownBlocks.{KnownBlocks}
 use Rattle.heap_files.proofs.CaseRules.{from_nothing, lists_from_nothing, parts_are}
 use Rattle.heap_files.proofs.check.judge_in_turn.Goals as goal
 
@@ -30,8 +30,7 @@ returns-clause-found g c names told =
     let heap = c.into_judged-heap.ensures.found ∙ from_nothing _ _ of-heap of-heap c.in_ok-hands.ensures.found (c.in_ok-judge_heap.ensures.found names after_map) refl in
     c.in_ok-put_together.ensures ∙ parts_are c.args.case.now names _ _ _ lists heap toast
 
-pub returns-clause-targets : goal.returns-clause-targets
-returns-clause-targets g c names told =
+pub returns-clause-known : goal.returns-clause-known
+returns-clause-known g c names told =
     let after_map = c.in_ok-judge_map.ensures.asked.same ∙ (c.in_ok-toast.ensures.asked.same ∙ told) in
-    let has = c.in_ok-judge_heap.ensures.targets names after_map c.in_ok-hands.ensures.targets in
-    subst (λ (set : List (List Bool)). HasTargets (heap_page c.args.case.now names) (heap_blocks c.args.case.now names) set) (sym c.into_judged-heap.ensures.targets) has
+    subst (λ (known : KnownBlocks). TellsOfHeap c.args.case.now names known) (sym c.into_judged-heap.ensures.known) (c.in_ok-judge_heap.ensures.known names after_map)

@@ -1,4 +1,5 @@
-use Rattle.std.proofs.Common.{◌∙◌, sym}
+use Rattle.std.proofs.Common.{◌∙◌, subst, sym}
+use Rattle.heap_pages.specs.Quiet.{IsPlain}
 use Rattle.heap_pages.specs.Table.{table_seen, table_with}
 use Rattle.heap_files.specs.TableFiles.{pages_in}
 use Rattle.heap_files.proofs.Relating.{block_added}
@@ -10,12 +11,15 @@ returns-clause-found g c names told =
     let after_bits = c.in_ok-bits.ensures.asked.same ∙ told in
     block_added (table_seen names c.args.table.now) _ _ names _ _ c.args.block _ _ c.args.hands.now.work.found _
     (c.new-view.ensures ∙ (c.page.ensures ∙ c.in_ok-take.ensures.bytes names after_bits)) (c.in_ok-bits.ensures.told names told)
-    (c.in_ok-judge_table_page.ensures.found names (c.in_ok-take.ensures.asked.same ∙ after_bits))
+    (c.in_ok-plain.ensures.found names (c.in_ok-take.ensures.asked.same ∙ after_bits))
 
-pub returns-clause-targets : goal.returns-clause-targets
-returns-clause-targets g c names told has =
-    c.in_ok-add_targets.ensures (pages_in names c.args.file.relation.now) c.args.block
-    (sym (c.new-view.ensures ∙ (c.page.ensures ∙ c.in_ok-take.ensures.bytes names (c.in_ok-bits.ensures.asked.same ∙ told)))) has
+pub returns-clause-known : goal.returns-clause-known
+unfolding table_with
+returns-clause-known g c names told before =
+    let after_bits = c.in_ok-bits.ensures.asked.same ∙ told in
+    let is = c.new-view.ensures ∙ (c.page.ensures ∙ c.in_ok-take.ensures.bytes names after_bits) in
+    c.in_ok-add.ensures (table_seen names c.args.table.now) (pages_in names c.args.file.relation.now) c.args.block (sym is)
+    (λ yes. subst (IsPlain (table_seen names c.args.table.now)) is (c.in_ok-plain.ensures.plain names (c.in_ok-take.ensures.asked.same ∙ after_bits) yes)) before
 
 pub bits_of-requires-clause-attached : goal.bits_of-requires-clause-attached
 bits_of-requires-clause-attached g c names told = (c.requires.at_hand names told).map
@@ -32,39 +36,19 @@ returns-in_err-bits-clause-at_hand g c names told =
 pub returns-in_err-take-clause-at_hand : goal.returns-in_err-take-clause-at_hand
 returns-in_err-take-clause-at_hand g c names told =
     let at_hand = c.requires.at_hand names told in
-    record {
-      relation = at_hand.relation;
-      map = at_hand.map;
-      pages = c.take.ensures.hand names (c.in_ok-bits.ensures.asked.same ∙ told);
-      page = c.bits_of.ensures.hand names told;
-    }
+    record { relation = at_hand.relation; map = at_hand.map; pages = c.take.ensures.hand names (c.in_ok-bits.ensures.asked.same ∙ told); page = c.bits_of.ensures.hand names told }
 
 pub returns-clause-at_hand : goal.returns-clause-at_hand
 returns-clause-at_hand g c names told =
     let at_hand = c.requires.at_hand names told in
-    record {
-      relation = at_hand.relation;
-      map = at_hand.map;
-      pages = c.take.ensures.hand names (c.in_ok-bits.ensures.asked.same ∙ told);
-      page = c.bits_of.ensures.hand names told;
-    }
+    record { relation = at_hand.relation; map = at_hand.map; pages = c.take.ensures.hand names (c.in_ok-bits.ensures.asked.same ∙ told); page = c.bits_of.ensures.hand names told }
 
-pub returns-in_err-judge_table_page-clause-at_hand : goal.returns-in_err-judge_table_page-clause-at_hand
-returns-in_err-judge_table_page-clause-at_hand g c names told =
+pub returns-in_err-plain-clause-at_hand : goal.returns-in_err-plain-clause-at_hand
+returns-in_err-plain-clause-at_hand g c names told =
     let at_hand = c.requires.at_hand names told in
-    record {
-      relation = at_hand.relation;
-      map = at_hand.map;
-      pages = c.take.ensures.hand names (c.in_ok-bits.ensures.asked.same ∙ told);
-      page = c.bits_of.ensures.hand names told;
-    }
+    record { relation = at_hand.relation; map = at_hand.map; pages = c.take.ensures.hand names (c.in_ok-bits.ensures.asked.same ∙ told); page = c.bits_of.ensures.hand names told }
 
-pub returns-in_err-add_targets-clause-at_hand : goal.returns-in_err-add_targets-clause-at_hand
-returns-in_err-add_targets-clause-at_hand g c names told =
+pub returns-in_err-add-clause-at_hand : goal.returns-in_err-add-clause-at_hand
+returns-in_err-add-clause-at_hand g c names told =
     let at_hand = c.requires.at_hand names told in
-    record {
-      relation = at_hand.relation;
-      map = at_hand.map;
-      pages = c.take.ensures.hand names (c.in_ok-bits.ensures.asked.same ∙ told);
-      page = c.bits_of.ensures.hand names told;
-    }
+    record { relation = at_hand.relation; map = at_hand.map; pages = c.take.ensures.hand names (c.in_ok-bits.ensures.asked.same ∙ told); page = c.bits_of.ensures.hand names told }

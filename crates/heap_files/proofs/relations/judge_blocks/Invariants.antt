@@ -6,16 +6,15 @@ use Rattle.rel_files.specs.Relation.{base_of, size_of}
 use Rattle.heap_pages.specs.Found.{both_found, found_parts}
 use Rattle.heap_pages.specs.Table.{chunks_seen, table_seen}
 use Rattle.heap_files.specs.Map.{bits_seen}
-use Rattle.heap_files.specs.TableFiles.{AreAtHand, pages_in}
+use Rattle.heap_files.specs.TableFiles.{AreAtHand, TellsOfFile}
 use Rattle.heap_files.specs.Relations.{block_found}
-use Rattle.heap_files.specs.Targets.{HasTargets}
 use Rattle.heap_files.proofs.relations.judge_blocks.Given as goal
 
--- what is found of the blocks so far is added, their line pointers are too, and what is in hand are pages of the table and of the map
+-- what is found of the blocks so far is added, they are known, and what is in hand are pages of the table and of the map
 abbrev pub invariant-loop-block : goal.invariant-loop-block
 invariant-loop-block g l = record {
   found : IfTold g.F.Files.seen l.initial.files (λ names. l.hands.work.found ≡ both_found l.initial.hands.work.found (each_below found_parts (block_found (table_seen names l.table) (chunks_seen l.table.toast) (bits_seen names (option_copied l.file.map)) names (base_of l.file.relation.now) (size_of l.file.relation.now)) l.block));
-  targets : IfTold g.F.Files.seen l.initial.files (λ names. HasTargets (pages_in names l.file.relation.now) 0 l.initial.hands.targets → HasTargets (pages_in names l.file.relation.now) l.block l.hands.targets);
+  known : IfTold g.F.Files.seen l.initial.files (λ names. TellsOfFile names l.table l.file 0 l.initial.hands.known → TellsOfFile names l.table l.file l.block l.hands.known);
   at_hand : IfTold g.F.Files.seen l.initial.files (λ names. AreAtHand names l.file l.hands.ahead l.hands.map);
   asked : Passed g.F.Files.seen l.initial.files l.files;
 }

@@ -6,16 +6,14 @@ use Rattle.liveness.specs.declared.states.ItemState.{ItemState}
 use Rattle.heap_pages.specs.States.{AreStatesOf}
 use Rattle.heap_pages.specs.Table.{logs_in, table_seen, table_with}
 use Rattle.heap_check.specs.RowRoots.{AreRoots}
-use Rattle.heap_check.specs.RowStates.{AreInPlace, ArePlain}
+use Rattle.heap_check.specs.RowStates.{AreInPlace}
 use Rattle.heap_check.proofs.RowStates.{all_in_place, plain_tells, states_tell}
 use Rattle.heap_check.proofs.row_page.RowPage.know.Goals as goal
 
-pub returns-then-are_plain-clause-known : goal.returns-then-are_plain-clause-known
-returns-then-are_plain-clause-known g c = λ names told pass.
-    let bytes = c.args.self.now.bytes in
-    let is : page_bytes c.new-page.result ≡ bytes = c.new-page.ensures in
-    plain_tells (table_seen names c.args.table.now) c.args.self.now.block bytes pass
-    (subst ArePlain is (c.are_plain.ensures c.if-are_plain.true)) _ refl refl (c.item_count-count.ensures.value ∙ ap count_of is) c.clear.ensures
+pub returns-then-plain-clause-known : goal.returns-then-plain-clause-known
+returns-then-plain-clause-known g c = λ names told pass.
+    plain_tells (table_seen names c.args.table.now) c.args.self.now.block c.args.self.now.bytes pass
+    (c.requires.plain names told c.if-plain.true) _ refl c.if-plain.true (c.item_count-count.ensures.value ∙ ap count_of c.new-page.ensures) c.clear.ensures
 
 pub find-requires : goal.find-requires
 find-requires g c =
@@ -33,4 +31,4 @@ returns-clause-known g c = λ names told pass.
     let same : logs_in table ≡ logs_of names (log_files_of c.args.table.now.logs) = refl in
     let are = subst (λ (p : List ℕ). AreStatesOf table p c.find_states.new.states.items) is (c.in_ok-find_states.ensures.told names told table same placed) in
     let roots = subst (λ (s : List ItemState). AreRoots c.args.self.now.block s c.find.new.self) c.deref.ensures.value c.in_ok-find.ensures in
-    states_tell table c.args.self.now.block bytes pass _ refl (c.item_count-count.ensures.value ∙ ap count_of is) are roots
+    states_tell table c.args.self.now.block bytes pass _ c.if-plain.false (c.item_count-count.ensures.value ∙ ap count_of is) are roots
