@@ -66,6 +66,19 @@ take_unasked() {
     all_indexes=${#names[@]}
 }
 
+# Whether a doubt of a table is allowed, by the words that take_line leaves and the index's name: by the rule, by the
+# table, or by the table with either. The table may have its database with it, as it is told where they are several.
+is_doubt_allowed() {
+    local table line
+    [ -z "${is_allowed[$rule]:-}" ] || return 0
+    for table in "${tables[$1]}" "${tables[$1]} of ${databases[$1]}"; do
+        for line in "$table" "$table"$'\t'"$rule" "$table"$'\t'"$name"; do
+            [ -z "${is_allowed[$line]:-}" ] || return 0
+        done
+    done
+    return 1
+}
+
 # Whether all that can't be judged of a table is allowed: then it is told, and the status doesn't hang on it.
 allow() {
     local number=$1 line kind rule relation index place names=() name count=0
@@ -78,9 +91,7 @@ allow() {
             name=${names[index - 1]#\"}
             name=${name%\"}
         fi
-        [ -n "${is_allowed[${tables[number]}]:-}" ] || [ -n "${is_allowed[$rule]:-}" ] \
-            || [ -n "${is_allowed[${tables[number]}$'\t'$rule]:-}" ] \
-            || [ -n "${is_allowed[${tables[number]}$'\t'$name]:-}" ] || return 0
+        is_doubt_allowed "$number" || return 0
         count=$((count + 1))
     done <<<"${reports[number]}"
     # More may be counted than are printed.
