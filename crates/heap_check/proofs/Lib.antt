@@ -14,4 +14,5 @@ pub mod Stand
 pub mod RowBodies
 pub mod RowFinds
 pub mod RowHeads
+pub mod RowNumbers
 pub mod RowCopies

@@ -4,6 +4,7 @@
 mod row_cells;
 mod row_cursor;
 mod row_laws;
+mod row_numbers;
 mod row_page;
 mod row_roots;
 mod row_states;

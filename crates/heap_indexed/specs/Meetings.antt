@@ -1,5 +1,6 @@
 -- What is in work for each index of a heap while the rows of its blocks are gone through, range by range.
-use Rattle.std.specs.Prelude.{◌≡◌, ℕ, ◌-◌, ◌<◌, ◌++◌, Bool, true, false, List, All, None, Some, length, slice_index_or}
+use Rattle.std.specs.Prelude.{◌≡◌, ℕ, ◌-◌, ◌<◌, ◌++◌, Bool, true, false, List, All, None, Some, cond, length}
+use Rattle.std.specs.Prelude.{slice_index_or}
 use Rattle.std.specs.List.{flat_map}
 use Rattle.outside.specs.Outside.{Names}
 use Rattle.key_orders.specs.declared.columns.Value.{Value}
@@ -127,12 +128,22 @@ abbrev pub AreInWork : Names → (done strays : SoundTree → Lists) → List Li
 AreInWork names done strays range =
     EachFor (λ tree meeting. InWork names (done tree) (strays tree) range tree meeting)
 
+-- for each index all of these rows are kept where those of the page in hand were kept at once, and else those that were
+-- passed
+abbrev pub rows_kept : Meeting → (all passed : List LiveRow) → List LiveRow
+rows_kept meeting all passed = cond meeting.has_page all passed
+
+abbrev pub AreKeptOf : Names → (done strays : SoundTree → Lists) → (all passed : List LiveRow) → List SoundTree
+    → List Meeting → Type 0
+AreKeptOf names done strays all passed =
+    EachFor (λ tree meeting. InWork names (done tree) (strays tree) (rows_kept meeting all passed) tree meeting)
+
 -- of all rows those that are not left are kept, behind those that were before
 pub record HaveKept (names : Names) (done strays : SoundTree → Lists) (all left : List LiveRow) (trees : List SoundTree)
     (meetings : List Meeting) : Type 0 where
   pub range : List LiveRow
   pub is : all ≡ range ++ left
-  pub each : AreInWork names done strays range trees meetings
+  pub each : AreKeptOf names done strays all range trees meetings
 
 -- the names hold all, a cursor is behind the rows of a block, and these rows of the range are in work
 pub record AreToFinish (names : Names) (ranges : Ranges) (range : List LiveRow) (meetings : List Meeting)

@@ -16,7 +16,7 @@ ghost use Rattle.leaf_meets.specs.Meeting.{HaveMetSome, all_entries};
 ghost use Rattle.row_slots.specs.Slots.{AreAllMet, IsBegun, met_in};
 ghost use Rattle.heap_indexed.specs.Looking.{AreOf};
 ghost use Rattle.heap_indexed.specs.Judging.{IsBehind, IsReadyBehind};
-ghost use Rattle.heap_indexed.specs.Meetings.{InWork, IsKept, IsPut, IsToFinish};
+ghost use Rattle.heap_indexed.specs.Meetings.{InWork, IsKept, IsPut, IsToFinish, rows_kept};
 ghost use Rattle.row_keys.specs.Rows.{IsFound, IsIndexAt};
 ghost use Rattle.heap_indexed.specs.Rows.{owed_for, rows_from};
 
@@ -52,6 +52,10 @@ pub struct Meeting {
     pub apart: bool,
     /// Which heap blocks its leaves name, once that was asked.
     pub spans: Spans,
+    /// Whether all rows of the page in hand are kept already.
+    pub has_page: bool,
+    /// The numbers of the rows of a page. It keeps its memory.
+    pub numbers: Vec<i64>,
 }
 
 // Keeps the row at which a cursor is under its root, with its values; whether it is kept. One of which a value is
@@ -105,6 +109,8 @@ impl Meeting {
             entries: Report::new(alloc),
             apart: false,
             spans: Spans::new(alloc),
+            has_page: false,
+            numbers: Vec::new(alloc),
         })
     }
 
@@ -117,7 +123,27 @@ impl Meeting {
         Ok(())
     }
 
-    /// Keeps the row at which a cursor is under its root, with its values.
+    /// Keeps all rows of the page in hand at once, where each has one value in the index and that is a number, as a
+    /// look at its bytes tells of most pages; `has_page` says whether it did.
+    pub fn keep_page(
+        &mut self,
+        index: KeyedHeap<'_>,
+        cursor: &RowCursor<'_>,
+    ) -> Result<(), NoMemory>
+        requires index { IsIndexAt index cursor.now }
+        ensures { OnOk result ((names : Names) (done strays : Lists) (range : List Row) → IsCursorOf names cursor.now
+            → InWork names done strays range index.entry.at.tree.now self.old
+            → InWork names done strays (rows_kept self.new (range ++ rows_here names cursor.now) range)
+            index.entry.at.tree.now self.new) }
+    {
+        self.has_page = false;
+        if index.value_count() == 1 && cursor.page_numbers(index.first, &mut self.numbers)? {
+            self.has_page = self.slots.keep_numbers(cursor.block(), &self.numbers)?;
+        }
+        Ok(())
+    }
+
+    /// Keeps the row at which a cursor is under its root, with its values, unless those of its page are kept already.
     pub fn keep_row(
         &mut self,
         index: KeyedHeap<'_>,
@@ -126,11 +152,14 @@ impl Meeting {
     ) -> Result<(), NoMemory>
         requires index { IsIndexAt index cursor.now }
         requires at { IsAtRow cursor.now }
-        ensures { OnOk result ((names : Names) (done strays : Lists) (range : List Row) (row : Row)
+        ensures { OnOk result ((names : Names) (done strays : Lists) (all passed : List Row) (row : Row)
             → IsFound names cursor.now place row
-            → InWork names done strays range index.entry.at.tree.now self.old
-            → InWork names done strays (range ++ row ∷ []) index.entry.at.tree.now self.new) }
+            → InWork names done strays (rows_kept self.old all passed) index.entry.at.tree.now self.old
+            → InWork names done strays (rows_kept self.new all (passed ++ row ∷ [])) index.entry.at.tree.now self.new) }
     {
+        if self.has_page {
+            return Ok(());
+        }
         let kept = keep_row_at(&mut self.slots, index, cursor, place.root)?;
         self.is_whole = self.is_whole && kept;
         Ok(())

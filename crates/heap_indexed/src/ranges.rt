@@ -1,6 +1,7 @@
 //! The rows of a heap against all its indexes, range by range of its blocks: each block is read once for all of them.
 ghost use Rattle.std.specs.Prelude.{◌≡◌, ◌∷◌, ◌++◌, ◌+◌, ◌-◌, ◌<◌, ◌≤◌, [], List, length};
-ghost use Rattle.std.specs.Prelude.{None, OnOk, Some, false, true};
+ghost use Rattle.std.specs.Prelude.{None, OnOk, Some, false, slice_index_or, true, ℕ};
+ghost use Rattle.std.specs.Bool.{OnTrue};
 ghost use Rattle.std.specs.Option.{option_copied};
 ghost use Rattle.outside.specs.Outside.{Asked, IfTold, Names, Tells};
 ghost use Rattle.rel_files.specs.Relation.{count_of};
@@ -13,8 +14,9 @@ ghost use Rattle.heap_check.specs.Rows.{block_rows};
 ghost use Rattle.heap_check.specs.declared.rows.LiveRow.{LiveRow as Row};
 ghost use Rattle.index_targets.specs.Passes.{strays_of};
 ghost use Rattle.heap_indexed.specs.Judging.{IsBehind};
-ghost use Rattle.heap_indexed.specs.Meetings.{AreInWork, AreToFinish, EachFor, HaveKept, HoldIt, IsIndexNo, IsJudged};
-ghost use Rattle.heap_indexed.specs.Meetings.{IsOfTable};
+ghost use Rattle.heap_indexed.specs.Meetings.{AreInWork, AreKeptOf, AreToFinish, EachFor, HaveKept, HoldIt, IsIndexNo};
+ghost use Rattle.heap_indexed.specs.Meetings.{IsJudged, IsOfTable};
+ghost use Rattle.heap_indexed.specs.declared.meeting.Meeting.{Meeting as Work};
 ghost use Rattle.row_keys.specs.Rows.{IsFound};
 ghost use Rattle.heap_indexed.specs.Rows.{owed_for, rows_from};
 
@@ -54,6 +56,19 @@ fn are_full(meetings: &[Meeting], most: usize) -> bool {
     most <= bytes
 }
 
+// Whether all rows of the page in hand are kept for each index.
+fn have_page(meetings: &[Meeting]) -> bool
+    ensures { OnTrue result ((k : ℕ) (other : Work) → k < length meetings.now
+        → (slice_index_or meetings.now k other).has_page ≡ true) }
+{
+    for j in 0..meetings.len() {
+        if !meetings[j].has_page {
+            return false;
+        }
+    }
+    true
+}
+
 impl<'a> Ranges<'a> {
     // The index at a place, from 0.
     fn index_at(self, j: usize) -> KeyedHeap<'a>
@@ -82,6 +97,22 @@ impl<'a> Ranges<'a> {
         Ok(())
     }
 
+    // Keeps all rows of the page in hand at once for each index for which that can be.
+    fn keep_pages(self, meetings: &mut [Meeting], cursor: &RowCursor<'_>) -> Result<(), NoMemory>
+        requires table { IsOfTable self cursor.now }
+        requires same { length meetings.old ≡ length self.at.trees.now }
+        ensures { OnOk result ((names : Names) (done strays : Tree → Lists) (range : List Row)
+            → IsCursorOf names cursor.now
+            → AreInWork names done strays range self.entry.at.trees.now meetings.old
+            → AreKeptOf names done strays (range ++ rows_here names cursor.now) range
+            self.entry.at.trees.now meetings.new) }
+    {
+        for j in 0..self.at.trees.len() {
+            meetings[j].keep_page(self.index_at(j), cursor)?;
+        }
+        Ok(())
+    }
+
     // Keeps the row at which a cursor is for each index.
     fn keep_row(
         self,
@@ -92,10 +123,10 @@ impl<'a> Ranges<'a> {
         requires table { IsOfTable self cursor.now }
         requires same { length meetings.old ≡ length self.at.trees.now }
         requires at { IsAtRow cursor.now }
-        ensures { OnOk result ((names : Names) (done strays : Tree → Lists) (range : List Row) (row : Row)
+        ensures { OnOk result ((names : Names) (done strays : Tree → Lists) (all passed : List Row) (row : Row)
             → IsFound names cursor.now place row
-            → AreInWork names done strays range self.entry.at.trees.now meetings.old
-            → AreInWork names done strays (range ++ row ∷ []) self.entry.at.trees.now meetings.new) }
+            → AreKeptOf names done strays all passed self.entry.at.trees.now meetings.old
+            → AreKeptOf names done strays all (passed ++ row ∷ []) self.entry.at.trees.now meetings.new) }
     {
         for j in 0..self.at.trees.len() {
             meetings[j].keep_row(self.index_at(j), cursor, place)?;
@@ -155,6 +186,11 @@ impl<'a> Ranges<'a> {
         ensures cursor { IsSameCursor cursor.old cursor.new }
         ensures asked { Asked F.seen files.old files.new result PageFault.ReadFault }
     {
+        self.keep_pages(meetings, &*cursor)?;
+        if have_page(meetings) {
+            cursor.pass_page();
+            return Ok(());
+        }
         for k in 0..MAX_ITEMS {
             if !self.keep_next(files, meetings, cursor)? {
                 return Ok(());

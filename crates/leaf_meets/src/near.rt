@@ -52,8 +52,8 @@ pub struct Near {
     rows: RowsAhead,
 }
 
-/// The TID in the head of an item of an index page, counted from 1, where its bits say that it is one entry, at a glance:
-/// no answer may hang on it.
+/// The TID in the head of an item of an index page, counted from 1, where its bits say that it is one entry, at a
+/// glance: no answer may hang on it.
 #[inline(always)]
 pub fn glanced_tid(page: PageView<'_>, i: u16) -> Option<Tid>
     requires page { page_rule_of PageKind.Tree (page_bytes page) ≡ None }

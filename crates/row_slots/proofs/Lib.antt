@@ -4,3 +4,4 @@ pub mod PutLaws
 pub mod BlockLaws
 pub mod StartLaws
 pub mod WholeLaws
+pub mod NumberLaws

@@ -26,7 +26,7 @@ read_there arena at lies =
     (λ i. key_read (drop (sym lies.at_is i) (lies.bytes i)))
     ∙ (ap key_read (drop-append_seam lies.before (stored_key lies.key ++ lies.rest)) ∙ key_back lies.key lies.rest lies.storable)
 
-key_of_some : (arena : List ℕ) (r : ℕ) (lies : LiesAt arena r) → key_of arena (r + 1) ≡ Some lies.key
+pub key_of_some : (arena : List ℕ) (r : ℕ) (lies : LiesAt arena r) → key_of arena (r + 1) ≡ Some lies.key
 unfolding key_of
 key_of_some arena r lies =
     let back : r + 1 - 1 ≡ r = omega arith in
@@ -61,7 +61,7 @@ unfolding key_of
 none_more arena more = refl
 
 -- what was kept
-still : (records arena more : List ℕ) (k : ℕ) → AreKept records arena → key_of (arena ++ more) (get_or records k 0) ≡ key_of arena (get_or records k 0)
+pub still : (records arena more : List ℕ) (k : ℕ) → AreKept records arena → key_of (arena ++ more) (get_or records k 0) ≡ key_of arena (get_or records k 0)
 unfolding AreKept
 still records arena more k kept = elim (cases_eq (get_or records k 0) 0) [
   | inl none ↦ (λ i. key_of (arena ++ more) (none i)) ∙ (none_more arena more ∙ (λ i. key_of arena (sym none i)))

@@ -1,3 +1,4 @@
 pub mod Met
+pub mod Numbers
 pub mod Slots
 pub mod Told

@@ -1,11 +1,12 @@
 -- How rows are kept: a slot for each line pointer, block after block, with the place of the key of the row that is
 -- rooted there; the keys side by side; and a bit for each slot, whether its row was met. Slots count from 0.
-use Rattle.std.specs.Prelude.{◌≡◌, ◌≢◌, ◌+◌, ◌-◌, ◌*◌, ◌<◌, ◌≤◌, ◌==◌, ◌&&◌, ◌||◌, ◌∷◌, ◌++◌, [], ℕ}
+use Rattle.std.specs.Prelude.{◌≡◌, ◌≢◌, ◌+◌, ◌-◌, ◌*◌, ◌<◌, ◌≤◌, ◌==◌, ◌&&◌, ◌||◌, ◌∷◌, ◌++◌, [], ℕ, ℤ}
 use Rattle.std.specs.Prelude.{All, Bool, List, None, Option, Some, cond, drop, false, get_or, length, nat_le, nat_lt}
-use Rattle.std.specs.Prelude.{replicate, true}
+use Rattle.std.specs.Prelude.{replicate, slice_get, true}
 use Rattle.std.specs.List.{flat_map}
 use Rattle.key_orders.specs.declared.Tid.{Tid}
 use Rattle.key_orders.specs.declared.columns.Value.{Value}
+use Rattle.key_orders.specs.declared.columns.Value.TheVariants.{Int}
 use Rattle.stored_keys.specs.Stored.{IsStorable, key_read, stored_key, stored_value}
 use Rattle.root_set.specs.Packed.{is_set}
 use Rattle.row_slots.specs.declared.slots.BegunRow.{BegunRow}
@@ -18,6 +19,16 @@ is_item_of block count tid = (tid.block == block) && (nat_le 1 tid.item && nat_l
 -- a key at one line pointer
 abbrev pub keys_with : Keys → Tid → List Value → Keys
 keys_with keys at key tid = cond (same_tid tid at) (Some key) (keys tid)
+
+-- a number as the one value of a key
+abbrev pub number_key : Option ℤ → Option (List Value)
+number_key (Some n) = Some (Int n ∷ [])
+number_key None = None
+
+-- numbers as keys at the line pointers of a block, from item 1 on
+abbrev pub keys_with_numbers : Keys → (block : ℕ) → List ℤ → Keys
+keys_with_numbers keys block numbers tid =
+    cond (is_item_of block (length numbers) tid) (number_key (slice_get numbers (tid.item - 1))) (keys tid)
 
 -- The starts are those of the blocks, and last the end of the last block.
 

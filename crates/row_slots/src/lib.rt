@@ -5,6 +5,7 @@
 mod bits;
 mod blocks;
 mod laws;
+mod numbers;
 mod rows;
 mod slots;
 

@@ -1,5 +1,5 @@
 //! The slots of a range of heap blocks.
-ghost use Rattle.std.specs.Prelude.{◌≡◌, ◌≢◌, ◌∷◌, ◌++◌, [], ℕ, List, None, Some, length, nat_le, true};
+ghost use Rattle.std.specs.Prelude.{◌≡◌, ◌≢◌, ◌∷◌, ◌++◌, [], ℕ, List, None, Some, false, length, nat_le, true};
 ghost use Rattle.std.specs.Prelude.{IfOk, IfSome, OnErr, OnOk};
 ghost use Rattle.std.specs.Bool.{OnFalse, OnTrue};
 ghost use Rattle.key_orders.specs.declared.Tid.{Tid as Place};
@@ -11,11 +11,12 @@ ghost use Rattle.key_attrs.specs.Columns.{tree_columns};
 ghost use Rattle.row_slots.specs.Met.{keyed, met_by};
 ghost use Rattle.row_slots.specs.declared.slots.BegunRow.{BegunRow as Row};
 ghost use Rattle.row_slots.specs.Slots.{AreAllMet, HasBlock, IsBegun, IsBegunRow, IsWrittenRow, SameRange};
-ghost use Rattle.row_slots.specs.Slots.{has_in, keys_in, keys_with, met_in};
+ghost use Rattle.row_slots.specs.Slots.{has_in, is_item_of, keys_in, keys_with, keys_with_numbers, met_in};
 ghost use Rattle.row_slots.specs.Told.{TellsKey};
 
 use crate::bits::are_all_set;
 use crate::blocks::add_block_in;
+use crate::numbers::{are_free, block_slots, keep_in};
 use crate::slots::{
     BegunRow, Kept, begin_at, bytes_at, find, is_kept_in, is_met_in, meet_in, meet_plain_in,
     places_of,
@@ -151,6 +152,32 @@ impl RowSlots {
         ensures range { SameRange self.old self.new }
     {
         self.records[row.slot] = row.place;
+    }
+
+    /// Keeps rows of one value each, which are rooted at the line pointers of a block of the range from item 1 on, with
+    /// these numbers as their values; whether it did. `false` comes only where the range doesn't have so many line
+    /// pointers of the block, or a row is kept at one of them already, and then nothing changes. With an empty list
+    /// either answer may come.
+    pub fn keep_numbers(&mut self, block: u32, numbers: &[i64]) -> Result<bool, NoMemory>
+        ensures kept { IfOk result (λ kept. kept ≡ true
+            → keys_in self.new ≡ keys_with_numbers (keys_in self.old) block numbers.now) }
+        ensures fresh { IfOk result (λ kept. kept ≡ true → (tid : Place)
+            → is_item_of block (length numbers.now) tid ≡ true → keys_in self.old tid ≡ None) }
+        ensures same { IfOk result (λ kept. kept ≡ false → keys_in self.new ≡ keys_in self.old) }
+        ensures refused { IfOk result (λ kept. kept ≡ false → ((tid : Place)
+            → is_item_of block (length numbers.now) tid ≡ true
+            → (has_in self.old tid ≡ true) × (keys_in self.old tid ≡ None)) → length numbers.now ≡ 0) }
+        ensures met { met_in self.new ≡ met_in self.old }
+        ensures range { SameRange self.old self.new }
+    {
+        let Some(slot) = block_slots(self.first, &self.starts, block, numbers.len()) else {
+            return Ok(false);
+        };
+        if !are_free(&self.records, slot, numbers.len()) {
+            return Ok(false);
+        }
+        keep_in(&mut self.records, &mut self.arena, slot, numbers)?;
+        Ok(true)
     }
 
     /// Reads what looks for the rows that are rooted at these line pointers will read, of the first 512 of them, so

@@ -131,3 +131,40 @@ fn entries_meet_rows_of_a_range(rt: HostRuntime) -> Result<(), Fail> {
     assert_eq!(rt; met(rt.alloc(), 1, 2)?, [false; 4]);
     Ok(())
 }
+
+// Whether a row of this number is kept at the items 1 to 3 of block 3, whose first two are kept as 5 and -7 at once.
+fn numbered(alloc: Global, number: i64) -> Result<[bool; 3], NoMemory> {
+    let mut slots = RowSlots::new(alloc, 3)?;
+    slots.add_block(4)?;
+    slots.keep_numbers(3, &[5, -7])?;
+    let key = [ValueRef::Int(number)];
+    let values = RowValues {
+        key: &key,
+        more: &[],
+    };
+    let mut kept = [false; 3];
+    for (place, item) in kept.iter_mut().zip(1u16..4) {
+        *place = slots.is_met(Tid { block: 3, item }, values).is_some();
+    }
+    Ok(kept)
+}
+
+// Whether these numbers are kept as rows of a block where block 3 alone is there with four line pointers, and then
+// whether they are kept once more.
+fn twice(alloc: Global, block: u32, numbers: &[i64]) -> Result<[bool; 2], NoMemory> {
+    let mut slots = RowSlots::new(alloc, 3)?;
+    slots.add_block(4)?;
+    let once = slots.keep_numbers(block, numbers)?;
+    let again = slots.keep_numbers(block, numbers)?;
+    Ok([once, again])
+}
+
+#[test]
+fn numbers_are_kept_at_once(rt: HostRuntime) -> Result<(), Fail> {
+    assert_eq!(rt; numbered(rt.alloc(), 5)?, [true, false, false]);
+    assert_eq!(rt; numbered(rt.alloc(), -7)?, [false, true, false]);
+    assert_eq!(rt; twice(rt.alloc(), 3, &[1, 2, 3, 4])?, [true, false]);
+    assert_eq!(rt; twice(rt.alloc(), 3, &[1, 2, 3, 4, 5])?, [false; 2]);
+    assert_eq!(rt; twice(rt.alloc(), 4, &[1])?, [false; 2]);
+    Ok(())
+}

@@ -1,12 +1,11 @@
-use Rattle.std.proofs.Common.{◌≡◌, ◌∙◌, ◌∷◌, ◌++◌, ◌+◌, ◌<◌, ◌≤◌, [], List, length, length-append, refl, sym, ap, subst, arith}
+use Rattle.std.proofs.Common.{◌≡◌, ◌∙◌, ◌∷◌, ◌++◌, ◌+◌, ◌≤◌, [], length, length-append, refl, sym, ap, subst, arith}
 use Rattle.std.specs.Prelude.{IfSome, None, Option}
 use Rattle.std.proofs.Math.ListN.{drop_of_length-le}
 use Rattle.key_orders.specs.declared.columns.Value.{Value}
 use Rattle.key_orders.specs.Values.{value_shown}
 use Rattle.bt_levels.specs.Sound.{index_columns}
-use Rattle.indexed_rules.specs.Rows.{values_at}
 use Rattle.row_slots.specs.declared.slots.BegunRow.{BegunRow}
-use Rattle.row_slots.specs.Slots.{IsBegunRow, IsWrittenRow, keys_in, keys_with, met_in}
+use Rattle.row_slots.specs.Slots.{IsBegunRow, keys_in, keys_with}
 use Rattle.row_keys.specs.Rows.{columns_in}
 use Rattle.row_keys.proofs.KeyLaws.{both-parts, so-far-all, so-far-next, so-far-none}
 use Rattle.heap_indexed.proofs.meeting.keep_row_at.Goals as goal

@@ -29,7 +29,7 @@ returns-clause-kept g c = λ names told done strays all kept.
           kept.is ∙ ap (λ (rows : List LiveRow). kept.range ++ rows) was
           ∙ sym (append_assoc kept.range (found.0 ∷ []) found.1.rows)
           ∙ ap (λ (rows : List LiveRow). (kept.range ++ found.0 ∷ []) ++ rows) (sym now);
-      each = c.in_ok-keep_row.ensures names done strays kept.range found.0 found.1 kept.each;
+      each = c.in_ok-keep_row.ensures names done strays all kept.range found.0 found.1 kept.each;
     }
 
 pub returns-clause-next : goal.returns-clause-next

@@ -2,7 +2,7 @@ use Rattle.std.proofs.Common.{◌∙◌, ◌∷◌, ◌++◌, [], arith}
 use Rattle.std.proofs.lemmas.List.{length-set}
 use Rattle.bt_levels.specs.declared.sound.SoundTree.{SoundTree}
 use Rattle.heap_indexed.specs.declared.meeting.Meeting.{Meeting}
-use Rattle.heap_indexed.specs.Meetings.{InWork}
+use Rattle.heap_indexed.specs.Meetings.{InWork, rows_kept}
 use Rattle.heap_indexed.proofs.Each.{above-set, below-all, below-set, still-before}
 use Rattle.heap_indexed.proofs.Places.{index-at}
 use Rattle.heap_indexed.proofs.ranges.Ranges.keep_row.Goals as goal
@@ -19,13 +19,13 @@ loop-j-preserved c =
     record {
       many = length-set c.loop-j.meetings c.loop-j.j new ∙ inv.many;
       same = above-set c.args.meetings.now c.loop-j.meetings c.loop-j.j new inv.same;
-      done = λ names done strays range row found was.
-          below-set (λ (t : SoundTree) (m : Meeting). InWork names (done t) (strays t) (range ++ row ∷ []) t m) trees c.loop-j.meetings c.loop-j.j tree new inv.many c.index_at.ensures.tree (omega arith) (inv.done names done strays range row found was)
-          (c.in_ok-keep_row.ensures names (done tree) (strays tree) range row found
-          (still-before (λ (t : SoundTree) (m : Meeting). InWork names (done t) (strays t) range t m) trees c.args.meetings.now c.loop-j.meetings c.loop-j.j inv.same was tree c.index-meetings-j.result c.index_at.ensures.tree (omega arith)));
+      done = λ names done strays all passed row found was.
+          below-set (λ (t : SoundTree) (m : Meeting). InWork names (done t) (strays t) (rows_kept m all (passed ++ row ∷ [])) t m) trees c.loop-j.meetings c.loop-j.j tree new inv.many c.index_at.ensures.tree (omega arith) (inv.done names done strays all passed row found was)
+          (c.in_ok-keep_row.ensures names (done tree) (strays tree) all passed row found
+          (still-before (λ (t : SoundTree) (m : Meeting). InWork names (done t) (strays t) (rows_kept m all passed) t m) trees c.args.meetings.now c.loop-j.meetings c.loop-j.j inv.same was tree c.index-meetings-j.result c.index_at.ensures.tree (omega arith)));
     }
 
 pub returns : goal.returns
-returns c = λ names done strays range row found was.
-    below-all (λ (t : SoundTree) (m : Meeting). InWork names (done t) (strays t) (range ++ row ∷ []) t m) c.args.self.at.trees.now c.loop-j.meetings c.loop-j.j c.loop-j.invariant.many (omega arith)
-    (c.loop-j.invariant.done names done strays range row found was)
+returns c = λ names done strays all passed row found was.
+    below-all (λ (t : SoundTree) (m : Meeting). InWork names (done t) (strays t) (rows_kept m all (passed ++ row ∷ [])) t m) c.args.self.at.trees.now c.loop-j.meetings c.loop-j.j c.loop-j.invariant.many (omega arith)
+    (c.loop-j.invariant.done names done strays all passed row found was)

@@ -5,7 +5,7 @@ use Rattle.bt_levels.specs.declared.sound.SoundTree.{SoundTree}
 use Rattle.reports.specs.Lists.{Lists}
 use Rattle.heap_check.specs.declared.rows.LiveRow.{LiveRow}
 use Rattle.heap_indexed.specs.declared.meeting.Meeting.{Meeting}
-use Rattle.heap_indexed.specs.Meetings.{AreInWork, InWork}
+use Rattle.heap_indexed.specs.Meetings.{AreKeptOf, InWork, rows_kept}
 use Rattle.row_keys.specs.Rows.{IsFound}
 use Rattle.heap_indexed.proofs.ranges.Ranges.keep_row.Given as goal
 
@@ -14,6 +14,6 @@ abbrev pub invariant-loop-j : goal.invariant-loop-j
 invariant-loop-j l = record {
   many : length l.meetings ≡ length l.self.at.trees.now;
   same : (k : ℕ) (d : Meeting) → l.j ≤ k → slice_index_or l.meetings k d ≡ slice_index_or l.initial.meetings k d;
-  done : (names : Names) (done strays : SoundTree → Lists) (range : List LiveRow) (row : LiveRow) → IsFound names l.cursor l.place row → AreInWork names done strays range l.self.at.trees.now l.initial.meetings
-      → (k : ℕ) (t : SoundTree) (d : Meeting) → k < l.j → InWork names (done (slice_index_or l.self.at.trees.now k t)) (strays (slice_index_or l.self.at.trees.now k t)) (range ++ row ∷ []) (slice_index_or l.self.at.trees.now k t) (slice_index_or l.meetings k d);
+  done : (names : Names) (done strays : SoundTree → Lists) (all passed : List LiveRow) (row : LiveRow) → IsFound names l.cursor l.place row → AreKeptOf names done strays all passed l.self.at.trees.now l.initial.meetings
+      → (k : ℕ) (t : SoundTree) (d : Meeting) → k < l.j → InWork names (done (slice_index_or l.self.at.trees.now k t)) (strays (slice_index_or l.self.at.trees.now k t)) (rows_kept (slice_index_or l.meetings k d) all (passed ++ row ∷ [])) (slice_index_or l.self.at.trees.now k t) (slice_index_or l.meetings k d);
 }
