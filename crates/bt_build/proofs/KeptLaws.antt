@@ -12,8 +12,8 @@ use Rattle.tree_search.specs.Keys.{compare_values}
 use Rattle.key_orders.specs.Keys.{columns_of, fits_columns}
 use Rattle.key_prefixes.specs.Prefixes.{IsPrefix}
 use Rattle.stored_keys.specs.Stored.{IsStorable, key_read, stored_key}
-use Rattle.row_slots.specs.Slots.{LiesAt}
-use Rattle.row_slots.proofs.PutLaws.{lies_last, lies_more, read_there}
+use Rattle.stored_keys.specs.RowLists.{LiesAt}
+use Rattle.stored_keys.proofs.RowLaws.{lies_last, lies_more, read_there}
 use Rattle.tree_image.specs.Image.{LeafEntry, leaf_entry}
 use Rattle.page_write.specs.Bodies.{IsShortEnough}
 use Rattle.page_write.specs.Fields.{IsTid}

@@ -18,7 +18,7 @@ use Rattle.key_orders.specs.Scans.{order_of}
 use Rattle.key_orders.specs.Types.{HasAlignment}
 use Rattle.stored_keys.specs.Stored.{values_read}
 use Rattle.stored_keys.proofs.StoredLaws.{values_back}
-use Rattle.row_slots.proofs.PutLaws.{read_there}
+use Rattle.stored_keys.proofs.RowLaws.{read_there}
 use Rattle.key_attrs.specs.Keyed.{key_types, more_types}
 use Rattle.tree_image.specs.Image.{LeafEntry, minus_infinity}
 use Rattle.page_write.specs.declared.index_tuples.BodyFlags.{BodyFlags}

@@ -18,8 +18,8 @@ use Rattle.key_orders.specs.Keys.{columns_of, tid_order}
 use Rattle.key_orders.specs.Scans.{order_of}
 use Rattle.stored_keys.specs.Stored.{stored_value, values_left, values_read}
 use Rattle.stored_keys.proofs.StoredLaws.{read_count, read_two, values_back}
-use Rattle.row_slots.specs.Slots.{LiesAt}
-use Rattle.row_slots.proofs.PutLaws.{read_there}
+use Rattle.stored_keys.specs.RowLists.{LiesAt}
+use Rattle.stored_keys.proofs.RowLaws.{read_there}
 use Rattle.tree_image.specs.Image.{LeafEntry}
 use Rattle.bt_build.specs.declared.entries.Place.{Place}
 use Rattle.bt_build.specs.Kept.{IsKept, entries_at, entry_at}

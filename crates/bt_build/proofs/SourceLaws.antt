@@ -10,7 +10,7 @@ use Rattle.key_orders.specs.declared.more.MoreSpec.{MoreSpec}
 use Rattle.key_orders.specs.Values.{value_shown}
 use Rattle.stored_keys.specs.Stored.{key_read, stored_value, values_read}
 use Rattle.stored_keys.proofs.StoredLaws.{values_back}
-use Rattle.row_slots.proofs.PutLaws.{read_there}
+use Rattle.stored_keys.proofs.RowLaws.{read_there}
 use Rattle.page_write.specs.Bodies.{IsShortEnough, MayAllStand}
 use Rattle.built_pages.specs.Items.{entry_types}
 use Rattle.bt_build.specs.declared.entries.Place.{Place}

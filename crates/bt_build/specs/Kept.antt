@@ -10,7 +10,7 @@ use Rattle.key_orders.specs.declared.Tid.{Tid}
 use Rattle.key_orders.specs.Keys.{columns_of, fits_columns}
 use Rattle.key_prefixes.specs.Prefixes.{IsPrefix}
 use Rattle.stored_keys.specs.Stored.{key_read}
-use Rattle.row_slots.specs.Slots.{LiesAt}
+use Rattle.stored_keys.specs.RowLists.{LiesAt}
 use Rattle.page_write.specs.Bodies.{index_body}
 use Rattle.tree_image.specs.Image.{LeafEntry, leaf_entry}
 use Rattle.built_pages.specs.Items.{MayBeLaid, entry_types}

@@ -48,7 +48,8 @@ use Rattle.duplicate_keys.specs.Later.{later_lists}
 use Rattle.duplicate_keys.specs.Roots.{is_root_in}
 use Rattle.duplicate_keys.specs.Tables.{no_bounds, rows_within, table_for}
 use Rattle.duplicate_keys.proofs.Grouped.{Fits, HasItem, Two, later-noted, later-sound}
-use Rattle.duplicate_keys.proofs.HeapRows.{block-rises, in-block, of-block, roots-apart}
+use Rattle.duplicate_keys.proofs.HeapRows.{block-rises, in-block, of-block}
+use Rattle.row_keys.proofs.HeapRoots.{roots-apart}
 use Rattle.duplicate_keys.proofs.Listing.{listed}
 use Rattle.duplicate_keys.proofs.Ordered.{grouped}
 use Rattle.duplicate_keys.proofs.RowEntries.{row-entry}

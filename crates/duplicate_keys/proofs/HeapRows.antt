@@ -1,37 +1,24 @@
--- The rows of a heap, block by block: where each stands, that they rise, and that no two have one root.
-use Rattle.std.proofs.Common.{◌≡◌, ◌∙◌, ℕ, zero, suc, ◌<◌, inl, inr, Bool, true, false, List, [], ◌∷◌, ◌++◌, get_or, refl, ap, sym, subst, arith}
+-- The rows of a heap, block by block: where each stands, and that they rise.
+use Rattle.std.proofs.Common.{◌≡◌, ℕ, zero, suc, ◌<◌, inl, inr, Bool, true, false, List, [], ◌∷◌, ◌++◌, get_or, refl, sym, subst, arith}
 use Rattle.std.specs.Prelude.{All, AllPairs, Contains, Option, Some, None, if◌then◌else◌}
-use Rattle.std.proofs.lemmas.Bool.{cases_lt, false≢true}
+use Rattle.std.proofs.lemmas.Bool.{cases_lt}
 use Rattle.std.proofs.lemmas.List.{get_or_append_left, length-append}
 use Rattle.std.proofs.lemmas.List.Elements.{All-contains, All-cons, All-nil, Contains-append_cases}
 use Rattle.outside.specs.Adds.{each_below, one_list}
 use Rattle.outside.specs.Outside.{Names}
-use Rattle.page_layout.specs.Items.{is_normal}
 use Rattle.page_layout.specs.Page.{count_of, page_rule_of}
 use Rattle.page_layout.specs.declared.page.PageKind.TheVariants.{Heap}
 use Rattle.page_layout.specs.declared.rules.Rule.{Rule}
-use Rattle.key_orders.specs.declared.Tid.{Tid}
 use Rattle.case_file.specs.Record.{CaseRecord}
-use Rattle.liveness.specs.declared.states.ItemState.{ItemState}
-use Rattle.hot_chains.specs.Chains.{Reaches, is_live, is_live_tuple, item_at}
-use Rattle.hot_chains.specs.Quiet.{IsLiveItem}
-use Rattle.hot_chains.proofs.Law.{one_live}
+use Rattle.hot_chains.specs.Chains.{is_live_tuple}
 use Rattle.reports.proofs.Parts.{All-upto, among_below}
 use Rattle.heap_pages.specs.declared.verdict.ItemVerdict.{ItemVerdict}
 use Rattle.heap_pages.specs.declared.verdict.ItemVerdict.TheVariants.{Breaks, InDoubt, Passes}
-use Rattle.heap_pages.specs.Broken.{HoldsLiveTuple}
-use Rattle.heap_pages.specs.States.{IsStateOf, dead, redirect, tuple as of_tuple, unused}
-use Rattle.heap_pages.specs.Table.{Table}
 use Rattle.heap_pages.specs.Verdicts.{item_verdict}
-use Rattle.heap_pages.proofs.ItemLaws.{live_passes}
-use Rattle.heap_pages.proofs.PageLaws.{each_passes}
-use Rattle.heap_pages.proofs.StateLaws.{EachPasses, passes_there, states_are_there}
 use Rattle.heap_files.specs.Case.{heap_blocks, table_of}
-use Rattle.heap_files.specs.Found.{IsQuiet}
 use Rattle.heap_check.specs.declared.rows.LiveRow.{LiveRow}
-use Rattle.heap_check.specs.RowLaws.{AreLiveTuples, IsBefore, IsLiveAt, IsWholeRow, TidsRise, states_at}
+use Rattle.heap_check.specs.RowLaws.{IsBefore, TidsRise}
 use Rattle.heap_check.specs.Rows.{block_rows, heap_page, item_rows, page_rows, row_at, row_by, rows_by_rule, rows_of}
-use Rattle.heap_check.proofs.QuietHeap.{page_passes}
 use Rattle.bt_steps.proofs.Members.{none-in}
 
 -- A list in parts
@@ -107,35 +94,3 @@ module _ (case : CaseRecord) (names : Names) where
   pub block-rises : TidsRise (rows_of case names) → (block : ℕ) → block < heap_blocks case names → AllPairs (λ row later. IsBefore row.tid later.tid) (block_rows case names block)
   unfolding rows_of
   block-rises rise block below = part-pairs (λ (row later : LiveRow). IsBefore row.tid later.tid) (block_rows case names) (heap_blocks case names) block below rise
-
--- Roots
-
-live_state : (table : Table) (page : List ℕ) (i : ℕ) (state : ItemState) → item_verdict table page i ≡ Passes state → IsStateOf table page i state → HoldsLiveTuple table page i → is_live_tuple state ≡ true
-live_state table page i _ passes (of_tuple normal) live = ap is_live (live_passes table page i _ passes live)
-live_state table page i _ passes (unused e) live = absurd (false≢true (sym (ap is_normal e) ∙ live.item.normal))
-live_state table page i _ passes (dead e) live = absurd (false≢true (sym (ap is_normal e) ∙ live.item.normal))
-live_state table page i _ passes (redirect e) live = absurd (false≢true (sym (ap is_normal e) ∙ live.item.normal))
-
-module _ (case : CaseRecord) (names : Names) (quiet : IsQuiet case names) (whole : AreLiveTuples case names (rows_of case names)) where
-  live-item : (tid : Tid) → IsLiveAt case names tid → IsLiveItem (states_at case names tid.block) tid.item
-  live-item tid at =
-      let table = table_of case names in
-      let page = heap_page case names tid.block in
-      let each : EachPasses table page = each_passes table tid.block page (page_passes case names quiet tid.block at.block) in
-      let i = tid.item in
-      live_state table page i (item_at (states_at case names tid.block) i) (passes_there table page each i at.live.item.first at.live.item.last)
-      ((states_are_there table page each).each i at.live.item.first at.live.item.last) at.live
-
-  -- two rows with one root are one
-  pub roots-apart : (row other : LiveRow) → Contains (rows_of case names) row → Contains (rows_of case names) other → row.root ≡ other.root → row.tid ≡ other.tid
-  roots-apart row other first second same =
-      let a = All-contains (IsWholeRow case names) (rows_of case names) row whole.each first in
-      let b = All-contains (IsWholeRow case names) (rows_of case names) other whole.each second in
-      let block : other.tid.block ≡ row.tid.block = sym b.root.block ∙ sym (ap (λ (t : Tid). t.block) same) ∙ a.root.block in
-      let reaches : Reaches row.tid.block (states_at case names row.tid.block) row.root.item other.tid.item =
-      subst (λ (i : ℕ). Reaches row.tid.block (states_at case names row.tid.block) i other.tid.item) (sym (ap (λ (t : Tid). t.item) same))
-      (subst (λ (k : ℕ). Reaches k (states_at case names k) other.root.item other.tid.item) block b.root.reaches) in
-      let live : IsLiveItem (states_at case names row.tid.block) other.tid.item =
-      subst (λ (k : ℕ). IsLiveItem (states_at case names k) other.tid.item) block (live-item other.tid b.live) in
-      let item = one_live row.tid.block (states_at case names row.tid.block) row.root.item row.tid.item other.tid.item a.root.reaches reaches (live-item row.tid a.live) live in
-      λ i. record { block = sym block i; item = item i }

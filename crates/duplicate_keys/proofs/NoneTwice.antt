@@ -21,7 +21,7 @@ use Rattle.indexed_rules.specs.Lists.{duplicates_lists}
 use Rattle.indexed_rules.specs.Unique.{AreDuplicates, is_duplicate}
 use Rattle.indexed_rules.proofs.Duplicates.{with-earlier}
 use Rattle.row_keys.specs.Joined.{BelongTogether, HoldTogether}
-use Rattle.duplicate_keys.proofs.HeapRows.{roots-apart}
+use Rattle.row_keys.proofs.HeapRoots.{roots-apart}
 use Rattle.duplicate_keys.proofs.NotUnique.{none-listed}
 use Rattle.duplicate_keys.proofs.RowEntries.{row-entry}
 

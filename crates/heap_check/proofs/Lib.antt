@@ -14,5 +14,5 @@ pub mod Stand
 pub mod RowBodies
 pub mod RowFinds
 pub mod RowHeads
-pub mod RowNumbers
+pub mod PageRows
 pub mod RowCopies

@@ -5,6 +5,6 @@ pub mod RowStates
 pub mod RowValues
 pub mod RowPages
 pub mod RowCursor
-pub mod RowNumbers
+pub mod PageRows
 pub mod LiveRows
 pub mod RowLaws

@@ -1,10 +1,10 @@
 //! The rows of a sound heap: its live tuples, each with the root of its chain and the values of its columns.
 #![tactic(auto)]
 
+mod page_rows;
 mod row_cells;
 mod row_cursor;
 mod row_laws;
-mod row_numbers;
 mod row_page;
 mod row_roots;
 mod row_states;

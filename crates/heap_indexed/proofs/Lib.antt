@@ -8,3 +8,4 @@ pub mod Owed
 pub mod Places
 pub mod Spots
 pub mod Widths
+mod RootLaws

@@ -1,5 +1,6 @@
 -- What is in work for each index of a heap while the rows of its blocks are gone through, range by range.
-use Rattle.std.specs.Prelude.{◌≡◌, ℕ, ◌-◌, ◌<◌, ◌++◌, Bool, true, false, List, All, None, Some, cond, length}
+use Rattle.std.specs.Prelude.{◌≡◌, ◌≢◌, ℕ, ◌-◌, ◌<◌, ◌++◌, Bool, true, false, List, All, Contains, Option, None, Some}
+use Rattle.std.specs.Prelude.{cond, length}
 use Rattle.std.specs.Prelude.{slice_index_or}
 use Rattle.std.specs.List.{flat_map}
 use Rattle.outside.specs.Outside.{Names}
@@ -19,6 +20,7 @@ use Rattle.heap_check.specs.RowCursor.{asked_at, case_at, heap_at}
 use Rattle.indexed_rules.specs.Rows.{key_numbers, more_numbers, values_at}
 use Rattle.apart_keys.specs.Apart.{AreApart}
 use Rattle.index_targets.specs.Passes.{strays_of}
+use Rattle.root_set.specs.Targets.{is_in}
 use Rattle.row_slots.specs.Slots.{Tables, keys_in, keys_with, met_in}
 use Rattle.row_keys.specs.declared.joined.IndexedTable.{IndexedTable}
 use Rattle.row_keys.specs.declared.keys.KeyedHeap.{KeyedHeap}
@@ -90,6 +92,17 @@ pub record IsPut (columns : TreeColumns) (old new : Tables) (root : Tid) (row : 
   pub put : keys_in new ≡ keys_with (keys_in old) root (key ++ more)
   pub fresh : keys_in old root ≡ None
 
+-- one of these rows is rooted there
+pub record IsRootIn (rows : List LiveRow) (tid : Tid) : Type 0 where
+  pub row : LiveRow
+  pub among : Contains rows row
+  pub root : row.root ≡ tid
+
+-- the set has the roots of these rows, where there is a set
+abbrev pub HasRoots : Option (List (List Bool)) → List LiveRow → Type 0
+HasRoots None rows = Unit {0}
+HasRoots (Some set) rows = (row : LiveRow) → Contains rows row → is_in set row.root ≡ true
+
 -- where it says so, each row of the blocks from one up to another is
 abbrev pub IsKept : Names → KeyedHeap → (first end : ℕ) → Meeting → Type 0
 IsKept names index first end meeting = meeting.is_whole ≡ true
@@ -97,7 +110,8 @@ IsKept names index first end meeting = meeting.is_whole ≡ true
     (rows_from index.at.case.now names first (end - first))
 
 -- what was found so far of the rows and of the entries of an index is this, and no two entries have the same values,
--- where it says so; none of the rows of the range was met yet, and each of them is kept, where it says so
+-- where it says so; none of the rows of the range was met yet, each of them is kept, where it says so, and no others
+-- are
 pub record InWork (names : Names) (done strays : Lists) (range : List LiveRow) (tree : SoundTree) (meeting : Meeting)
     : Type 0 where
   pub pages : AreOf names tree meeting.look_ups
@@ -106,16 +120,18 @@ pub record InWork (names : Names) (done strays : Lists) (range : List LiveRow) (
   pub apart : meeting.apart ≡ true → AreApart names tree
   pub unmet : (tid : Tid) → met_in meeting.slots tid ≡ false
   pub kept : meeting.is_whole ≡ true → All (IsKeptRow (index_columns tree) meeting.slots) range
+  pub rooted : (tid : Tid) → keys_in meeting.slots tid ≢ None → IsRootIn range tid
 
--- the names hold the heap and the index, a cursor is behind the rows of a block, and these rows of the range are in
--- work
-pub record IsToFinish (names : Names) (index : KeyedHeap) (range : List LiveRow) (meeting : Meeting)
-    (cursor : RowCursor) : Type 0 where
+-- the names hold the heap and the index, a cursor is behind the rows of a block, these rows of the range are in work,
+-- and what entries may name has their roots
+pub record IsToFinish (names : Names) (index : KeyedHeap) (targets : Option (List (List Bool))) (range : List LiveRow)
+    (meeting : Meeting) (cursor : RowCursor) : Type 0 where
   pub hold : HoldTogether names index.at.case.now index.at.heap.now index.at.tree.now
   pub behind : IsBehind names cursor
   pub done : Lists
   pub strays : Lists
   pub work : InWork names done strays range index.at.tree.now meeting
+  pub roots : HasRoots targets range
 
 -- something is so of each index and of what is in work for it
 pub record EachFor (R : SoundTree → Meeting → Type 0) (trees : List SoundTree) (meetings : List Meeting) : Type 0 where
@@ -145,14 +161,16 @@ pub record HaveKept (names : Names) (done strays : SoundTree → Lists) (all lef
   pub is : all ≡ range ++ left
   pub each : AreKeptOf names done strays all range trees meetings
 
--- the names hold all, a cursor is behind the rows of a block, and these rows of the range are in work
-pub record AreToFinish (names : Names) (ranges : Ranges) (range : List LiveRow) (meetings : List Meeting)
-    (cursor : RowCursor) : Type 0 where
+-- the names hold all, a cursor is behind the rows of a block, these rows of the range are in work, and what entries may
+-- name has their roots
+pub record AreToFinish (names : Names) (ranges : Ranges) (targets : Option (List (List Bool))) (range : List LiveRow)
+    (meetings : List Meeting) (cursor : RowCursor) : Type 0 where
   pub hold : HoldIt names ranges.at
   pub behind : IsBehind names cursor
   pub done : SoundTree → Lists
   pub strays : SoundTree → Lists
   pub work : AreInWork names done strays range ranges.at.trees.now meetings
+  pub roots : HasRoots targets range
 
 -- all rows and all entries were judged, and no two entries have the same values, where it says so
 pub record IsJudged (case : CaseRecord) (names : Names) (blocks : ℕ) (targets : List (List Bool)) (tree : SoundTree)

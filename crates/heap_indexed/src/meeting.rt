@@ -13,7 +13,7 @@ ghost use Rattle.heap_check.specs.RowCursor.{IsAtRow, IsCursorOf, IsSameCursor, 
 ghost use Rattle.heap_check.specs.declared.rows.LiveRow.{LiveRow as Row};
 ghost use Rattle.index_targets.specs.Passes.{strays_of};
 ghost use Rattle.leaf_meets.specs.Meeting.{HaveMetSome, all_entries};
-ghost use Rattle.row_slots.specs.Slots.{AreAllMet, IsBegun, met_in};
+ghost use Rattle.row_slots.specs.Slots.{AreAllMet, IsBegun, keys_in, met_in};
 ghost use Rattle.heap_indexed.specs.Looking.{AreOf};
 ghost use Rattle.heap_indexed.specs.Judging.{IsBehind, IsReadyBehind};
 ghost use Rattle.heap_indexed.specs.Meetings.{InWork, IsKept, IsPut, IsToFinish, rows_kept};
@@ -34,6 +34,7 @@ use root_set::RootSet;
 use row_keys::KeyedHeap;
 use row_slots::RowSlots;
 use std::alloc::Global;
+use stored_keys::StoredRows;
 
 /// What is in work for one index while the rows of its heap are gone through.
 #[derive(Drop)]
@@ -54,8 +55,8 @@ pub struct Meeting {
     pub spans: Spans,
     /// Whether all rows of the page in hand are kept already.
     pub has_page: bool,
-    /// The numbers of the rows of a page. It keeps its memory.
-    pub numbers: Vec<i64>,
+    /// The values of the rows of a page. It keeps its memory.
+    pub page_rows: StoredRows,
 }
 
 // Keeps the row at which a cursor is under its root, with its values; whether it is kept. One of which a value is
@@ -71,6 +72,7 @@ fn keep_row_at(
     ensures kept { IfOk result (λ kept. kept ≡ true → (names : Names) (row : Row) (rows : List Row)
         → IsCursorOf names cursor.now → rows_here names cursor.now ≡ row ∷ rows
         → IsPut (index_columns index.entry.at.tree.now) slots.old slots.new root row) }
+    ensures same { IfOk result (λ kept. kept ≡ false → keys_in slots.new ≡ keys_in slots.old) }
     ensures met { met_in slots.new ≡ met_in slots.old }
 {
     let count = index.value_count();
@@ -110,7 +112,7 @@ impl Meeting {
             apart: false,
             spans: Spans::new(alloc),
             has_page: false,
-            numbers: Vec::new(alloc),
+            page_rows: StoredRows::new(alloc),
         })
     }
 
@@ -123,8 +125,8 @@ impl Meeting {
         Ok(())
     }
 
-    /// Keeps all rows of the page in hand at once, where each has one value in the index and that is a number, as a
-    /// look at its bytes tells of most pages; `has_page` says whether it did.
+    /// Keeps all rows of the page in hand at once, where a look at their bytes tells their values, as of most pages;
+    /// `has_page` says whether it did.
     pub fn keep_page(
         &mut self,
         index: KeyedHeap<'_>,
@@ -137,8 +139,9 @@ impl Meeting {
             index.entry.at.tree.now self.new) }
     {
         self.has_page = false;
-        if index.value_count() == 1 && cursor.page_numbers(index.first, &mut self.numbers)? {
-            self.has_page = self.slots.keep_numbers(cursor.block(), &self.numbers)?;
+        let told = cursor.page_rows(index.first, index.value_count(), &mut self.page_rows)?;
+        if told {
+            self.has_page = self.slots.keep_rows(cursor.block(), &self.page_rows)?;
         }
         Ok(())
     }
@@ -260,7 +263,7 @@ impl Meeting {
         requires index { IsIndexAt index cursor.old }
         requires begun { first ≤ next_in cursor.old }
         requires end { next_in cursor.old ≤ count_of (heap_in index.at.heap.now) }
-        requires told { IfTold F.seen files.old (λ names. IsToFinish names index
+        requires told { IfTold F.seen files.old (λ names. IsToFinish names index (option_copied targets)
             (rows_from index.at.case.now names first (next_in cursor.old - first)) self.old cursor.old) }
         ensures work { IfTold F.seen files.old (λ names. (done strays : Lists) → InWork names done strays
             (rows_from index.entry.at.case.now names first (next_in cursor.old - first))

@@ -10,18 +10,19 @@ ghost use Rattle.reports.specs.Lists.{Lists};
 ghost use Rattle.bt_levels.specs.declared.sound.SoundTree.{SoundTree as Tree};
 ghost use Rattle.heap_files.specs.Files.{heap_in, targets_in};
 ghost use Rattle.heap_check.specs.RowCursor.{IsAtRow, IsCursorOf, IsSameCursor, next_in, rows_here};
-ghost use Rattle.heap_check.specs.Rows.{block_rows};
+ghost use Rattle.heap_check.specs.Rows.{block_rows, rows_of};
 ghost use Rattle.heap_check.specs.declared.rows.LiveRow.{LiveRow as Row};
 ghost use Rattle.index_targets.specs.Passes.{strays_of};
 ghost use Rattle.heap_indexed.specs.Judging.{IsBehind};
-ghost use Rattle.heap_indexed.specs.Meetings.{AreInWork, AreKeptOf, AreToFinish, EachFor, HaveKept, HoldIt, IsIndexNo};
+ghost use Rattle.heap_indexed.specs.Meetings.{AreInWork, AreKeptOf, AreToFinish, EachFor, HasRoots, HaveKept};
+ghost use Rattle.heap_indexed.specs.Meetings.{HoldIt, IsIndexNo};
 ghost use Rattle.heap_indexed.specs.Meetings.{IsJudged, IsOfTable};
 ghost use Rattle.heap_indexed.specs.declared.meeting.Meeting.{Meeting as Work};
 ghost use Rattle.row_keys.specs.Rows.{IsFound};
 ghost use Rattle.heap_indexed.specs.Rows.{owed_for, rows_from};
 
 use crate::meeting::Meeting;
-use heap_check::{RowCursor, RowPlace};
+use heap_check::{RowCursor, RowPlace, rows_are_live_tuples};
 use outside::{Files, NoMemory};
 use page_layout::MAX_ITEMS;
 use reports::PageFault;
@@ -275,7 +276,7 @@ impl<'a> Ranges<'a> {
         requires begun { first ≤ next_in cursor.old }
         requires end { next_in cursor.old ≤ count_of (heap_in self.at.heap.now) }
         requires same { length meetings.old ≡ length self.at.trees.now }
-        requires told { IfTold F.seen files.old (λ names. AreToFinish names self
+        requires told { IfTold F.seen files.old (λ names. AreToFinish names self (option_copied targets)
             (rows_from self.at.case.now names first (next_in cursor.old - first)) meetings.old cursor.old) }
         ensures work { IfTold F.seen files.old (λ names. (done strays : Tree → Lists) → AreInWork names done strays
             (rows_from self.entry.at.case.now names first (next_in cursor.old - first))
@@ -308,7 +309,9 @@ impl<'a> Ranges<'a> {
         requires table { IsOfTable self cursor.old }
         requires inside { next_in cursor.old ≤ count_of (heap_in self.at.heap.now) }
         requires same { length meetings.old ≡ length self.at.trees.now }
-        requires told { IfTold F.seen files.old (λ names. AreToFinish names self [] meetings.old cursor.old) }
+        requires told { IfTold F.seen files.old (λ names. AreToFinish names self None [] meetings.old cursor.old) }
+        requires roots { IfTold F.seen files.old (λ names.
+            HasRoots (option_copied targets) (rows_of self.at.case.now names)) }
         ensures work { IfTold F.seen files.old (λ names. OnOk result ((done strays : Tree → Lists)
             → AreInWork names done strays [] self.entry.at.trees.now meetings.old
             → AreInWork names
@@ -352,6 +355,8 @@ impl<'a> Ranges<'a> {
         ensures asked { Asked F.seen files.old files.new result PageFault.ReadFault }
     {
         let heap = self.at.heap;
+        self.at.case.sound();
+        rows_are_live_tuples();
         self.judge_range(files, meetings, Some(heap.targets()), cursor)?;
         for k in 0..heap.heap().blocks() {
             if heap.heap().blocks() <= cursor.next_block() {

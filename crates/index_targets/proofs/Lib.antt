@@ -1,3 +1,4 @@
 mod Lists
+mod Passing
 pub mod BlockKeys
 pub mod Reading

@@ -18,10 +18,12 @@ use Rattle.bt_steps.proofs.Items.{keys-are}
 use Rattle.bt_steps.specs.Pages.{is_live_leaf}
 use Rattle.bt_tuples.specs.declared.items.Spot3.TheVariants.{LeafItem}
 use Rattle.bt_tuples.specs.Items.{Item, Plain, Posting, is_dead, meaning_by, meaning_of, values_or_none}
+use Rattle.bt_tuples.specs.Plain.{LiesPlain}
 use Rattle.bt_tuples.specs.Rules.{tuple_of}
 use Rattle.bt_tuples.specs.Tuples.{plain_tid, values_in}
 use Rattle.bt_tuples.proofs.Outcomes.{kept_means}
-use Rattle.reports.specs.Added.{nothing}
+use Rattle.reports.specs.Added.{finding_at, nothing}
+use Rattle.reports.specs.declared.places.Place.TheVariants as Place
 use Rattle.indexed_rules.specs.Lists.{entry_lists, item_lists, items_lists, leaf_lists, stray_rule, tids_at, tids_lists}
 
 pub rule-is : (may : Bool) → (if may then None else Some X2) ≡ stray_rule may
@@ -42,6 +44,10 @@ list-tids key (t ∷ ts) killed = ap (λ (l : List Tid). t ∷ l) (list-tids key
 pub one-tid : (number : ℕ) (may : Tid → Bool) (b i : ℕ) (tid : Tid) → tids_lists number may b i (tid ∷ []) ≡ entry_lists number may b i tid
 unfolding each_below
 one-tid number may b i tid = refl
+
+-- one that the set has gives nothing
+pub known-tid : (number : ℕ) (may : Tid → Bool) (b i : ℕ) (tid : Tid) → may tid ≡ true → entry_lists number may b i tid ≡ nothing
+known-tid number may b i tid known = ap (λ (m : Bool). finding_at (Place.Entry number b i tid) (stray_rule m)) known
 
 -- an item before the first data item gives nothing, and a data item what its TIDs give
 module _ (number : ℕ) (columns : TreeColumns) (may : Tid → Bool) (b : ℕ) (page : List ℕ) (i : ℕ) where
@@ -69,10 +75,17 @@ unfolding leaf_lists
 a-leaf number columns may b page live = ap (λ (l : Bool). if l then items_lists number columns may b page else nothing) live
 
 -- the TID of an item that is one entry stands in its tuple's head
-pub plain-item : (columns : TreeColumns) (page : List ℕ) (i : ℕ) → IsRead columns page i → (tree_head_of (tuple_of page i)).kind ≡ head.Plain → tids_at columns page i ≡ plain_tid (tree_head_of (tuple_of page i)) ∷ []
+plain-item : (columns : TreeColumns) (page : List ℕ) (i : ℕ) → IsRead columns page i → (tree_head_of (tuple_of page i)).kind ≡ head.Plain → tids_at columns page i ≡ plain_tid (tree_head_of (tuple_of page i)) ∷ []
 unfolding meaning_of
 plain-item columns page i read plain =
     let tuple = tuple_of page i in
     let killed = is_dead (item_of page i).flag in
     tids-of columns page i (meaning_of columns.specs columns.more tuple killed) (keys-are columns page i (meaning_of columns.specs columns.more tuple killed) (sym (kept_means columns.specs columns.more LeafItem page i false read.rules read.plain)))
     ∙ ap (λ (kind : HeadKind). tids_in (meaning_by kind (length columns.specs) tuple killed (values_or_none (values_in columns.specs columns.more tuple)))) plain
+
+-- so the item gives what its TID gives
+pub plain-gives : (number : ℕ) (columns : TreeColumns) (may : Tid → Bool) (b : ℕ) (page : List ℕ) (i : ℕ) (tid : Tid) (body : List ℕ)
+    → first_data page ≤ i → IsRead columns page i → LiesPlain page i tid body → item_lists number columns may b page i ≡ entry_lists number may b i tid
+plain-gives number columns may b page i tid body from read lies =
+    let tids = plain-item columns page i read lies.tuple.kind ∙ ap (λ (t : Tid). t ∷ []) (sym lies.tuple.tid_is) in
+    data-item number columns may b page i from (tid ∷ []) tids ∙ one-tid number may b i tid

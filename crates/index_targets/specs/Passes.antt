@@ -1,6 +1,7 @@
 -- What a pass over the leaves of an index finds of what its entries name, where that is asked.
-use Rattle.std.specs.Prelude.{◌≡◌, ℕ, ◌-◌, Bool, true, List, Option, None, Some}
+use Rattle.std.specs.Prelude.{◌≡◌, ◌≢◌, ℕ, ◌-◌, Bool, true, List, Option, None, Some}
 use Rattle.outside.specs.Outside.{Names}
+use Rattle.key_orders.specs.declared.Tid.{Tid}
 use Rattle.key_attrs.specs.Columns.{TreeColumns}
 use Rattle.reports.specs.Added.{each_upto, nothing, report_lists}
 use Rattle.reports.specs.Lists.{Lists}
@@ -8,9 +9,15 @@ use Rattle.bt_levels.specs.declared.sound.SoundTree.{SoundTree}
 use Rattle.bt_levels.specs.Files.{number_of}
 use Rattle.bt_levels.specs.Sound.{block_count, file_of, held_block, index_columns}
 use Rattle.root_set.specs.Targets.{is_in}
+use Rattle.row_slots.specs.Slots.{Tables, keys_in}
 use Rattle.bt_steps.specs.Pages.{is_live_leaf}
 use Rattle.apart_keys.specs.Apart.{IsApart}
 use Rattle.indexed_rules.specs.Lists.{leaf_lists}
+
+-- each row that is kept is rooted at a line pointer that the set has, where there is a set
+abbrev pub AreTargets : Option (List (List Bool)) → Tables → Type 0
+AreTargets None slots = Unit {0}
+AreTargets (Some set) slots = (tid : Tid) → keys_in slots tid ≢ None → is_in set tid ≡ true
 
 -- the entries of a block that name what the set doesn't have, where there is a set
 abbrev pub strays_on : (number : ℕ) → TreeColumns → Option (List (List Bool)) → (b : ℕ) → List ℕ → Lists

@@ -13,7 +13,7 @@ ghost use Rattle.bt_steps.specs.Pages.{IsReadable, is_live_leaf};
 ghost use Rattle.leaf_meets.specs.Meeting.{HaveMet, all_entries, leaf_entries};
 ghost use Rattle.apart_keys.specs.Apart.{AreApart};
 ghost use Rattle.apart_keys.specs.Items.{RisesTo};
-ghost use Rattle.index_targets.specs.Passes.{IsApartSoFar, strays_of, strays_on};
+ghost use Rattle.index_targets.specs.Passes.{AreTargets, IsApartSoFar, strays_of, strays_on};
 
 use crate::leaf::{Named, Seen};
 use crate::spans::Spans;
@@ -45,15 +45,20 @@ pub struct Leaves<'a> {
 }
 
 impl Leaves<'_> {
-    // Judges what the entries of a page name, where that is asked, and tells ahead what they name.
+    // Has the entries of a page meet their rows, and judges what they name, where that is asked.
     fn judge_page(
         self,
         page: &[u8; 8192],
         b: u32,
         seen: &mut Seen,
+        slots: &mut RowSlots,
         report: &mut Report,
     ) -> Result<(), NoMemory>
-        ensures lists { (is_live_leaf page.now ≡ true → IsReadable (index_columns self.entry.tree.now) page.now)
+        ensures met { OnOk result ((is_live_leaf page.now ≡ true
+            → IsReadable (index_columns self.entry.tree.now) page.now)
+            → HaveMet (leaf_entries (index_columns self.entry.tree.now) page.now) slots.old slots.new) }
+        ensures lists { AreTargets (option_copied self.entry.targets) slots.old
+            → (is_live_leaf page.now ≡ true → IsReadable (index_columns self.entry.tree.now) page.now)
             → AddsIn report_lists result report.old report.new
             (strays_on (number_of (file_of self.entry.tree.now)) (index_columns self.entry.tree.now)
             (option_copied self.entry.targets) b page.now) }
@@ -65,6 +70,7 @@ impl Leaves<'_> {
         let Some(targets) = self.targets else {
             seen.ahead.add_page(page);
             seen.rise = Rise::Untold;
+            meet_page(slots, &self.tree.columns(), page, &seen.ahead);
             return Ok(());
         };
         let named = Named {
@@ -72,7 +78,7 @@ impl Leaves<'_> {
             columns: self.tree.columns(),
             targets,
         };
-        named.judge_page(page, b, seen, report)
+        named.judge_page(page, b, seen, slots, report)
     }
 
     // Takes a block that isn't the first in hand, judges what its entries name and whether their keys are apart, and
@@ -90,7 +96,8 @@ impl Leaves<'_> {
             IsAheadOf names (relation_of (file_of self.tree.now)) hands.old.blocks) }
         requires not_meta { 1 ≤ b }
         requires below { b < block_count self.tree.now }
-        ensures lists { IfTold F.seen files.old (λ names. AddsIn report_lists result report.old report.new
+        ensures lists { IfTold F.seen files.old (λ names. AreTargets (option_copied self.entry.targets) slots.old
+            → AddsIn report_lists result report.old report.new
             (strays_on (number_of (file_of self.entry.tree.now)) (index_columns self.entry.tree.now)
             (option_copied self.entry.targets) b (held_block names self.entry.tree.now b))) }
         ensures met { OnOk result (IfTold F.seen files.old (λ names.
@@ -104,8 +111,7 @@ impl Leaves<'_> {
     {
         self.tree.take_ahead(files, b, &mut hands.blocks)?;
         let page = hands.blocks.page(b);
-        self.judge_page(page, b, &mut hands.seen, report)?;
-        meet_page(slots, &self.tree.columns(), page, &hands.seen.ahead);
+        self.judge_page(page, b, &mut hands.seen, slots, report)?;
         hands.seen.apart = hands.seen.is_still_apart(page, &self.tree.columns());
         Ok(())
     }
@@ -129,7 +135,8 @@ impl Leaves<'_> {
         report: &mut Report,
     ) -> Result<bool, PageFault>
         requires holds { IfTold F.seen files.old (λ names. HoldsTree names self.tree.now) }
-        ensures lists { IfTold F.seen files.old (λ names. AddsIn report_lists result report.old report.new
+        ensures lists { IfTold F.seen files.old (λ names. AreTargets (option_copied self.entry.targets) slots.old
+            → AddsIn report_lists result report.old report.new
             (strays_of names (option_copied self.entry.targets) self.entry.tree.now)) }
         ensures met { OnOk result (IfTold F.seen files.old (λ names.
             HaveMet (all_entries (index_columns self.entry.tree.now) (block_count self.entry.tree.now)

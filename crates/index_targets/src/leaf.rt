@@ -1,14 +1,16 @@
 //! The entries of a leaf, against what they may name.
-ghost use Rattle.std.specs.Prelude.{◌≡◌, ◌≤◌, ◌-◌, List, None, OnOk, true, ℕ};
+ghost use Rattle.std.specs.Prelude.{◌≡◌, ◌<◌, ◌≤◌, ◌-◌, List, None, OnOk, Some, true, ℕ};
 ghost use Rattle.std.specs.Bool.{OnTrue};
 ghost use Rattle.outside.specs.Adds.{AddsIn};
 ghost use Rattle.page_layout.specs.Page.{count_of, page_rule_of};
 ghost use Rattle.page_layout.specs.View.{page_bytes};
 ghost use Rattle.key_attrs.specs.Columns.{TreeColumns, tree_columns};
-ghost use Rattle.tree_image.specs.Image.{first_data};
+ghost use Rattle.tree_image.specs.Image.{first_data, page_entries};
 ghost use Rattle.bt_steps.specs.Entries.{IsRead};
 ghost use Rattle.bt_steps.specs.Pages.{IsReadable, is_live_leaf};
 ghost use Rattle.root_set.specs.Targets.{is_in};
+ghost use Rattle.leaf_meets.specs.Meeting.{HaveMet, entries_at, leaf_entries};
+ghost use Rattle.index_targets.specs.Passes.{AreTargets};
 ghost use Rattle.reports.specs.Added.{report_lists};
 ghost use Rattle.apart_keys.specs.Apart.{IsApart};
 ghost use Rattle.apart_keys.specs.Items.{RisesTo};
@@ -20,11 +22,12 @@ use bt_steps::is_live_leaf;
 use bt_tuples::{Spot3, TidList, TreeItem, plain_entry, tree_item};
 use key_attrs::IndexColumns;
 use key_orders::Tid;
-use leaf_meets::{RowsAhead, glanced_tid};
+use leaf_meets::{RowsAhead, glanced_tid, meet_item, meet_number};
 use outside::NoMemory;
 use page_layout::{PageKind, PageView, Rule};
 use reports::{Place, Report};
 use root_set::RootSet;
+use row_slots::RowSlots;
 use tree_image::first_data;
 
 // What the set has of so many blocks is at hand without further ado, once a few of them were asked for.
@@ -88,6 +91,15 @@ impl Seen {
         self.rise = before_items(self.apart);
     }
 
+    // Tells ahead a line pointer that an entry names; what was found of it means nothing.
+    fn name(&mut self, tid: Tid, found: bool)
+        ensures rise { self.new.rise ≡ self.old.rise }
+        ensures apart { self.new.apart ≡ self.old.apart }
+    {
+        self.ahead.add(tid);
+        self.touched = self.touched != found;
+    }
+
     /// Whether no two entries have the same values, of those of this leaf and of those that were looked at before.
     /// `false` says nothing.
     pub fn is_still_apart(&self, page: &[u8; 8192], columns: &IndexColumns<'_>) -> bool
@@ -147,18 +159,26 @@ impl Named<'_> {
         Ok(())
     }
 
-    // Judges an item of a leaf, if it is a data item.
+    // Judges an item of a leaf, if it is a data item, and has its entries meet their rows. Of an entry that met its row
+    // by its number nothing else is asked: the row's root is what it names.
     fn judge_item(
         self,
         page: PageView<'_>,
         at: ItemAt,
         seen: &mut Seen,
+        slots: &mut RowSlots,
         report: &mut Report,
     ) -> Result<(), NoMemory>
         requires page { page_rule_of PageKind.Tree (page_bytes page) ≡ None }
         requires first { 1 ≤ at.item }
         requires last { at.item ≤ count_of (page_bytes page) }
-        ensures lists { (first_data (page_bytes page.entry) ≤ at.item
+        ensures met { first_data (page_bytes page.entry) ≤ at.item
+            → IsRead (tree_columns self.entry.columns) (page_bytes page.entry) at.item
+            → HaveMet (entries_at (tree_columns self.entry.columns) (page_bytes page.entry) at.item)
+            slots.old slots.new }
+        ensures before { at.item < first_data (page_bytes page.entry) → slots.new ≡ slots.old }
+        ensures lists { AreTargets (Some self.entry.targets.now) slots.old
+            → (first_data (page_bytes page.entry) ≤ at.item
             → IsRead (tree_columns self.entry.columns) (page_bytes page.entry) at.item)
             → AddsIn report_lists result report.old report.new
             (item_lists self.entry.number (tree_columns self.entry.columns)
@@ -171,11 +191,16 @@ impl Named<'_> {
             return Ok(());
         }
         if let Some(entry) = plain_entry(page, at.item) {
-            seen.ahead.add(entry.tid);
             seen.rise.add(&self.columns, entry.body);
+            if meet_number(slots, &self.columns, entry) {
+                seen.span.add(entry.tid.block);
+                return Ok(());
+            }
+            meet_item(slots, &self.columns, page, at.item);
             return self.judge_tid(at, entry.tid, &mut seen.span, report);
         }
         seen.rise = Rise::Untold;
+        meet_item(slots, &self.columns, page, at.item);
         self.judge_any_item(page, at, &mut seen.span, report)
     }
 
@@ -206,16 +231,22 @@ impl Named<'_> {
         }
     }
 
-    // Judges the items of a leaf.
+    // Judges the items of a leaf, and has its entries meet their rows.
     fn judge_items(
         self,
         page: PageView<'_>,
         block: u32,
         seen: &mut Seen,
+        slots: &mut RowSlots,
         report: &mut Report,
     ) -> Result<(), NoMemory>
         requires page { page_rule_of PageKind.Tree (page_bytes page) ≡ None }
-        ensures lists { IsReadable (tree_columns self.entry.columns) (page_bytes page.entry)
+        ensures met { OnOk result (IsReadable (tree_columns self.entry.columns) (page_bytes page.entry)
+            → is_live_leaf (page_bytes page.entry) ≡ true
+            → HaveMet (page_entries self.entry.columns.specs.now self.entry.columns.more.now (page_bytes page.entry))
+            slots.old slots.new) }
+        ensures lists { AreTargets (Some self.entry.targets.now) slots.old
+            → IsReadable (tree_columns self.entry.columns) (page_bytes page.entry)
             → is_live_leaf (page_bytes page.entry) ≡ true
             → AddsIn report_lists result report.old report.new
             (items_lists self.entry.number (tree_columns self.entry.columns)
@@ -226,52 +257,62 @@ impl Named<'_> {
         ensures apart { seen.new.apart ≡ seen.old.apart }
     {
         for i in 0..page.item_count() {
-            self.judge_item(page, ItemAt { block, item: i + 1 }, seen, report)?;
+            self.judge_item(page, ItemAt { block, item: i + 1 }, seen, slots, report)?;
         }
         Ok(())
     }
 
-    // Asks the set for what the items of a page name, as a glance at each tells it. What it has means nothing.
-    fn touch(self, page: PageView<'_>) -> bool
+    // Reads ahead what is kept of the rows that the items of a page name, as a glance at each tells it, and what the
+    // set has of those outside the range. What is found means nothing.
+    fn touch(self, page: PageView<'_>, seen: &mut Seen, slots: &mut RowSlots)
         requires { page_rule_of PageKind.Tree (page_bytes page) ≡ None }
+        ensures slots { slots.new ≡ slots.old }
+        ensures rise { seen.new.rise ≡ seen.old.rise }
+        ensures apart { seen.new.apart ≡ seen.old.apart }
     {
-        let mut odd = false;
         for k in 0..page.item_count() {
             if let Some(tid) = glanced_tid(page, k + 1) {
-                odd = odd != self.targets.has(tid);
+                seen.name(tid, slots.covers(tid.block) || self.targets.has(tid));
             }
         }
-        odd
+        slots.touch(seen.ahead.as_slice());
     }
 
-    // Where the entries of a leaf name blocks far from each other, has the set at hand for all of them before the first
-    // is judged, so that none is waited for alone. What it finds means nothing.
-    fn look_ahead(self, page: PageView<'_>) -> bool
+    // Where the entries of a leaf name blocks far from each other, has all that is asked of them at hand before the
+    // first is looked at, so that none is waited for alone.
+    fn look_ahead(self, page: PageView<'_>, seen: &mut Seen, slots: &mut RowSlots)
         requires { page_rule_of PageKind.Tree (page_bytes page) ≡ None }
+        ensures slots { slots.new ≡ slots.old }
+        ensures rise { seen.new.rise ≡ seen.old.rise }
+        ensures apart { seen.new.apart ≡ seen.old.apart }
     {
         let count = page.item_count();
         if count < 3 {
-            return false;
+            return;
         }
-        match (glanced_tid(page, 2), glanced_tid(page, count)) {
-            (Some(first), Some(last)) => {
-                NEAR < first.block.abs_diff(last.block) && self.touch(page)
+        if let (Some(first), Some(last)) = (glanced_tid(page, 2), glanced_tid(page, count)) {
+            if NEAR < first.block.abs_diff(last.block) {
+                self.touch(page, seen, slots);
             }
-            _ => false,
         }
     }
 
-    /// Judges the entries of a page, if it is a leaf in use that isn't half-dead, killed entries among them,
-    /// and adds each that names what it may not. What they name is told ahead to the look at rows, and the numbers of
-    /// their keys to what is known of them.
+    /// Judges the entries of a page, if it is a leaf in use that isn't half-dead, killed entries among them, and adds
+    /// each that names what it may not; those that aren't killed meet the rows that they name. The numbers of their
+    /// keys are told to what is known of these.
     pub fn judge_page(
         self,
         page: &[u8; 8192],
         block: u32,
         seen: &mut Seen,
+        slots: &mut RowSlots,
         report: &mut Report,
     ) -> Result<(), NoMemory>
-        ensures lists { (is_live_leaf page.now ≡ true → IsReadable (tree_columns self.entry.columns) page.now)
+        ensures met { OnOk result ((is_live_leaf page.now ≡ true
+            → IsReadable (tree_columns self.entry.columns) page.now)
+            → HaveMet (leaf_entries (tree_columns self.entry.columns) page.now) slots.old slots.new) }
+        ensures lists { AreTargets (Some self.entry.targets.now) slots.old
+            → (is_live_leaf page.now ≡ true → IsReadable (tree_columns self.entry.columns) page.now)
             → AddsIn report_lists result report.old report.new
             (leaf_lists self.entry.number (tree_columns self.entry.columns)
             (is_in self.entry.targets.now) block page.now) }
@@ -284,7 +325,7 @@ impl Named<'_> {
         if !is_live_leaf(page) || page.page_rule(PageKind::Tree).is_some() {
             return Ok(());
         }
-        seen.touched = self.look_ahead(page);
-        self.judge_items(page, block, seen, report)
+        self.look_ahead(page, seen, slots);
+        self.judge_items(page, block, seen, slots, report)
     }
 }

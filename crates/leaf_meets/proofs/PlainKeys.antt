@@ -35,7 +35,7 @@ pub record HasPlainKey (columns : TreeColumns) (page : List ℕ) (i : ℕ) (tid 
   pub tells : TellsKey columns body (key ++ more)
   pub is : entries_at columns page i ≡ leaf_entry key more tid killed ∷ []
 
-same-told : (a b : List Value) → ◌≡◌ {A = KeyValues} (Ok a) (Ok b) → a ≡ b
+pub same-told : (a b : List Value) → ◌≡◌ {A = KeyValues} (Ok a) (Ok b) → a ≡ b
 same-told a b e = cc
 
 pub plain-key : (columns : TreeColumns) (page : List ℕ) (i : ℕ) (tid : Tid) (body : List ℕ) (killed : Bool) → LiesPlain page i tid body → killed ≡ is_dead (item_of page i).flag → IsRead columns page i → HasPlainKey columns page i tid body killed

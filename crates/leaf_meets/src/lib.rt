@@ -4,7 +4,9 @@
 mod ahead;
 mod meet;
 mod near;
+mod numbers;
 
 pub use ahead::RowsAhead;
-pub use meet::meet_page;
+pub use meet::{meet_item, meet_page};
 pub use near::{HeapRange, Near, glanced_tid, meet_near};
+pub use numbers::meet_number;

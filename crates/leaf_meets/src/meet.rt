@@ -103,13 +103,8 @@ fn meet_body(slots: &mut RowSlots, columns: &IndexColumns<'_>, tid: Tid, body: &
     }
 }
 
-/// Meets the rows that a data item names.
-pub(crate) fn meet_item(
-    slots: &mut RowSlots,
-    columns: &IndexColumns<'_>,
-    page: PageView<'_>,
-    i: u16,
-)
+/// Meets the rows that a data item of a leaf names, none of whose entries is killed.
+pub fn meet_item(slots: &mut RowSlots, columns: &IndexColumns<'_>, page: PageView<'_>, i: u16)
     requires page { page_rule_of PageKind.Tree (page_bytes page) ≡ None }
     requires first { 1 ≤ i }
     requires last { i ≤ count_of (page_bytes page) }

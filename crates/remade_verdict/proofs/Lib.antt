@@ -1,3 +1,2 @@
 mod Ordered
-mod Roots
 mod Entries

@@ -2,3 +2,4 @@ pub mod Ahead
 pub mod KeyLaws
 pub mod Pages
 pub mod Places
+pub mod HeapRoots

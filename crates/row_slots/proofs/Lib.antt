@@ -4,4 +4,4 @@ pub mod PutLaws
 pub mod BlockLaws
 pub mod StartLaws
 pub mod WholeLaws
-pub mod NumberLaws
+pub mod BlockRowLaws

@@ -1,30 +1,25 @@
 -- A key that is put behind the others.
 use Rattle.std.proofs.Common.{◌≡◌, ◌∙◌, ℕ, ◌+◌, ◌-◌, ◌<◌, Bool, true, false, List, [], ◌∷◌, ◌++◌, length, get_or, drop, take, refl, ap, sym, subst, arith, inl, inr, append_assoc, append-nil}
 use Rattle.std.proofs.Common.{get_or-set_other, get_or-set_same}
-use Rattle.std.specs.Prelude.{All, cond, Some, None, slice_set}
+use Rattle.std.specs.Prelude.{cond, Some, None, slice_set}
 use Rattle.std.proofs.lemmas.Bool.{cases_eq, eq-eqb, ne_eqb}
 use Rattle.std.specs.List.{flat_map}
 use Rattle.std.proofs.lemmas.List.{drop_all, length-set, take_all}
 use Rattle.std.proofs.lemmas.List.Concat.{flat_map-append}
 use Rattle.std.proofs.lemmas.List.Elements.{All-append, All-cons, All-nil}
-use Rattle.std.proofs.Math.Seq.{drop-append_seam}
 use Rattle.key_orders.specs.declared.Tid.{Tid}
 use Rattle.key_orders.specs.declared.columns.Value.{Value}
+use Rattle.stored_keys.specs.RowLists.{LiesAt}
 use Rattle.stored_keys.specs.Stored.{IsStorable, key_read, stored_key, stored_value}
-use Rattle.stored_keys.proofs.StoredLaws.{key_back}
+use Rattle.stored_keys.proofs.RowLaws.{lies_more, read_there}
 use Rattle.row_slots.specs.Met.{same_tid}
 use Rattle.row_slots.specs.declared.slots.BegunRow.{BegunRow}
-use Rattle.row_slots.specs.Slots.{AreBits, AreKept, AreStarts, IsBegunRow, LiesAt, Tables, found_slot, is_within, key_of, keys_of, keys_with, slot_of}
+use Rattle.row_slots.specs.Slots.{AreBits, AreKept, AreStarts, IsBegunRow, Tables, found_slot, is_within, key_of, keys_of, keys_with, slot_of}
 use Rattle.row_slots.proofs.SlotLaws.{Within, found_below, found_some, is_within_tells, slot_test, tid_is}
 
 abbrev as_number : Bool → ℕ
 as_number true = 1
 as_number false = 0
-
-pub read_there : (arena : List ℕ) (at : ℕ) (lies : LiesAt arena at) → key_read (drop at arena) ≡ lies.key
-read_there arena at lies =
-    (λ i. key_read (drop (sym lies.at_is i) (lies.bytes i)))
-    ∙ (ap key_read (drop-append_seam lies.before (stored_key lies.key ++ lies.rest)) ∙ key_back lies.key lies.rest lies.storable)
 
 pub key_of_some : (arena : List ℕ) (r : ℕ) (lies : LiesAt arena r) → key_of arena (r + 1) ≡ Some lies.key
 unfolding key_of
@@ -32,29 +27,6 @@ key_of_some arena r lies =
     let back : r + 1 - 1 ≡ r = omega arith in
     ap (λ b. cond b None (Some (key_read (drop (r + 1 - 1) arena)))) (ne_eqb (r + 1) 0 (λ e. omega arith))
     ∙ (ap (λ k. Some (key_read (drop k arena))) back ∙ ap (λ k. Some k) (read_there arena r lies))
-
-abbrev pub lies_more : (arena more : List ℕ) (at : ℕ) → LiesAt arena at → LiesAt (arena ++ more) at
-lies_more arena more at lies = record {
-  before = lies.before;
-  key = lies.key;
-  rest = lies.rest ++ more;
-  storable = lies.storable;
-  at_is = lies.at_is;
-  bytes =
-      ap (λ w. w ++ more) lies.bytes
-      ∙ (append_assoc lies.before (stored_key lies.key ++ lies.rest) more
-      ∙ ap (λ w. lies.before ++ w) (append_assoc (stored_key lies.key) lies.rest more));
-}
-
-abbrev pub lies_last : (arena : List ℕ) (key : List Value) → All IsStorable key → LiesAt (arena ++ stored_key key) (length arena)
-lies_last arena key storable = record {
-  before = arena;
-  key = key;
-  rest = [];
-  storable = storable;
-  at_is = refl;
-  bytes = ap (λ w. arena ++ w) (sym (append-nil (stored_key key)));
-}
 
 none_more : (arena more : List ℕ) → key_of (arena ++ more) 0 ≡ key_of arena 0
 unfolding key_of

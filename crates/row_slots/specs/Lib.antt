@@ -1,4 +1,4 @@
+pub mod BlockRows
 pub mod Met
-pub mod Numbers
 pub mod Slots
 pub mod Told

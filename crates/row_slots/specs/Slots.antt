@@ -1,13 +1,13 @@
 -- How rows are kept: a slot for each line pointer, block after block, with the place of the key of the row that is
 -- rooted there; the keys side by side; and a bit for each slot, whether its row was met. Slots count from 0.
-use Rattle.std.specs.Prelude.{◌≡◌, ◌≢◌, ◌+◌, ◌-◌, ◌*◌, ◌<◌, ◌≤◌, ◌==◌, ◌&&◌, ◌||◌, ◌∷◌, ◌++◌, [], ℕ, ℤ}
+use Rattle.std.specs.Prelude.{◌≡◌, ◌≢◌, ◌+◌, ◌-◌, ◌*◌, ◌<◌, ◌≤◌, ◌==◌, ◌&&◌, ◌||◌, ◌∷◌, ◌++◌, [], ℕ}
 use Rattle.std.specs.Prelude.{All, Bool, List, None, Option, Some, cond, drop, false, get_or, length, nat_le, nat_lt}
 use Rattle.std.specs.Prelude.{replicate, slice_get, true}
 use Rattle.std.specs.List.{flat_map}
 use Rattle.key_orders.specs.declared.Tid.{Tid}
 use Rattle.key_orders.specs.declared.columns.Value.{Value}
-use Rattle.key_orders.specs.declared.columns.Value.TheVariants.{Int}
-use Rattle.stored_keys.specs.Stored.{IsStorable, key_read, stored_key, stored_value}
+use Rattle.stored_keys.specs.RowLists.{LiesAt}
+use Rattle.stored_keys.specs.Stored.{IsStorable, key_read, stored_value}
 use Rattle.root_set.specs.Packed.{is_set}
 use Rattle.row_slots.specs.declared.slots.BegunRow.{BegunRow}
 use Rattle.row_slots.specs.Met.{Keys, Mets, same_tid}
@@ -20,15 +20,10 @@ is_item_of block count tid = (tid.block == block) && (nat_le 1 tid.item && nat_l
 abbrev pub keys_with : Keys → Tid → List Value → Keys
 keys_with keys at key tid = cond (same_tid tid at) (Some key) (keys tid)
 
--- a number as the one value of a key
-abbrev pub number_key : Option ℤ → Option (List Value)
-number_key (Some n) = Some (Int n ∷ [])
-number_key None = None
-
--- numbers as keys at the line pointers of a block, from item 1 on
-abbrev pub keys_with_numbers : Keys → (block : ℕ) → List ℤ → Keys
-keys_with_numbers keys block numbers tid =
-    cond (is_item_of block (length numbers) tid) (number_key (slice_get numbers (tid.item - 1))) (keys tid)
+-- keys at the line pointers of a block, from item 1 on
+abbrev pub keys_with_rows : Keys → (block : ℕ) → List (List Value) → Keys
+keys_with_rows keys block rows tid =
+    cond (is_item_of block (length rows) tid) (slice_get rows (tid.item - 1)) (keys tid)
 
 -- The starts are those of the blocks, and last the end of the last block.
 
@@ -59,15 +54,6 @@ keys_of first starts records arena tid =
 
 unfoldable pub mets_of : ℕ → List ℕ → List ℕ → Mets
 mets_of first starts bits tid = is_within first starts tid && is_set bits (slot_of first starts tid)
-
--- a key lies at a place, behind others and before others
-pub record LiesAt (arena : List ℕ) (at : ℕ) : Type 0 where
-  pub before : List ℕ
-  pub key : List Value
-  pub rest : List ℕ
-  pub storable : All IsStorable key
-  pub at_is : length before ≡ at
-  pub bytes : arena ≡ before ++ (stored_key key ++ rest)
 
 -- What is true of the tables: the starts don't fall and end with the slots, there is a bit for each slot and none set
 -- behind them, and a key lies where a slot says it.

@@ -3,9 +3,9 @@
 #![tactic(auto)]
 
 mod bits;
+mod block_rows;
 mod blocks;
 mod laws;
-mod numbers;
 mod rows;
 mod slots;
 

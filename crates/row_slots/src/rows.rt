@@ -1,9 +1,11 @@
 //! The slots of a range of heap blocks.
-ghost use Rattle.std.specs.Prelude.{◌≡◌, ◌≢◌, ◌∷◌, ◌++◌, [], ℕ, List, None, Some, false, length, nat_le, true};
+ghost use Rattle.std.specs.Prelude.{◌≡◌, ◌≢◌, ◌∷◌, ◌++◌, ◌-◌, ◌&&◌, [], ℕ, List, None, Some, false, length};
+ghost use Rattle.std.specs.Prelude.{nat_le, nat_lt, true};
 ghost use Rattle.std.specs.Prelude.{IfOk, IfSome, OnErr, OnOk};
 ghost use Rattle.std.specs.Bool.{OnFalse, OnTrue};
 ghost use Rattle.key_orders.specs.declared.Tid.{Tid as Place};
 ghost use Rattle.key_orders.specs.declared.columns.Value.{Value as Shown};
+ghost use Rattle.key_orders.specs.declared.columns.Value.TheVariants.{Int};
 ghost use Rattle.key_orders.specs.Values.{value_shown};
 ghost use Rattle.stored_keys.specs.Rows.{row_values};
 ghost use Rattle.stored_keys.specs.Stored.{shown_bytes};
@@ -11,22 +13,22 @@ ghost use Rattle.key_attrs.specs.Columns.{tree_columns};
 ghost use Rattle.row_slots.specs.Met.{keyed, met_by};
 ghost use Rattle.row_slots.specs.declared.slots.BegunRow.{BegunRow as Row};
 ghost use Rattle.row_slots.specs.Slots.{AreAllMet, HasBlock, IsBegun, IsBegunRow, IsWrittenRow, SameRange};
-ghost use Rattle.row_slots.specs.Slots.{has_in, is_item_of, keys_in, keys_with, keys_with_numbers, met_in};
+ghost use Rattle.row_slots.specs.Slots.{blocks_in, has_in, is_item_of, keys_in, keys_with, keys_with_rows, met_in};
 ghost use Rattle.row_slots.specs.Told.{TellsKey};
 
 use crate::bits::are_all_set;
+use crate::block_rows::{are_free, block_slots, keep_in};
 use crate::blocks::add_block_in;
-use crate::numbers::{are_free, block_slots, keep_in};
 use crate::slots::{
-    BegunRow, Kept, begin_at, bytes_at, find, is_kept_in, is_met_in, meet_in, meet_plain_in,
-    places_of,
+    BegunRow, Kept, begin_at, bytes_at, find, is_kept_in, is_met_in, meet_in, meet_number_in,
+    meet_plain_in, places_of,
 };
 use key_attrs::IndexColumns;
 use key_orders::{Tid, ValueRef};
 use outside::NoMemory;
 use std::alloc::Global;
 use std::marker::Model;
-use stored_keys::{LONGEST_VALUE, RowValues, push_value};
+use stored_keys::{LONGEST_VALUE, RowValues, StoredRows, push_value};
 
 /// The rows of a range of heap blocks, each by the line pointer at which it is rooted, with its key and with whether an
 /// entry met it. Contracts see functions of a TID, and the blocks of the range.
@@ -154,29 +156,30 @@ impl RowSlots {
         self.records[row.slot] = row.place;
     }
 
-    /// Keeps rows of one value each, which are rooted at the line pointers of a block of the range from item 1 on, with
-    /// these numbers as their values; whether it did. `false` comes only where the range doesn't have so many line
-    /// pointers of the block, or a row is kept at one of them already, and then nothing changes. With an empty list
-    /// either answer may come.
-    pub fn keep_numbers(&mut self, block: u32, numbers: &[i64]) -> Result<bool, NoMemory>
+    /// Keeps rows that are rooted at the line pointers of a block of the range from item 1 on, with these values;
+    /// whether it did. `false` comes only where the range doesn't have so many line pointers of the block, or a row is
+    /// kept at one of them already, and then nothing changes. Of no rows either answer may come.
+    pub fn keep_rows(&mut self, block: u32, rows: &StoredRows) -> Result<bool, NoMemory>
         ensures kept { IfOk result (λ kept. kept ≡ true
-            → keys_in self.new ≡ keys_with_numbers (keys_in self.old) block numbers.now) }
+            → keys_in self.new ≡ keys_with_rows (keys_in self.old) block rows.now) }
         ensures fresh { IfOk result (λ kept. kept ≡ true → (tid : Place)
-            → is_item_of block (length numbers.now) tid ≡ true → keys_in self.old tid ≡ None) }
+            → is_item_of block (length rows.now) tid ≡ true → keys_in self.old tid ≡ None) }
         ensures same { IfOk result (λ kept. kept ≡ false → keys_in self.new ≡ keys_in self.old) }
         ensures refused { IfOk result (λ kept. kept ≡ false → ((tid : Place)
-            → is_item_of block (length numbers.now) tid ≡ true
-            → (has_in self.old tid ≡ true) × (keys_in self.old tid ≡ None)) → length numbers.now ≡ 0) }
+            → is_item_of block (length rows.now) tid ≡ true
+            → (has_in self.old tid ≡ true) × (keys_in self.old tid ≡ None)) → length rows.now ≡ 0) }
         ensures met { met_in self.new ≡ met_in self.old }
         ensures range { SameRange self.old self.new }
     {
-        let Some(slot) = block_slots(self.first, &self.starts, block, numbers.len()) else {
+        let rows = rows.as_bytes();
+        let count = rows.starts.len();
+        let Some(slot) = block_slots(self.first, &self.starts, block, count) else {
             return Ok(false);
         };
-        if !are_free(&self.records, slot, numbers.len()) {
+        if !are_free(&self.records, slot, count) {
             return Ok(false);
         }
-        keep_in(&mut self.records, &mut self.arena, slot, numbers)?;
+        keep_in(&mut self.records, &mut self.arena, slot, rows)?;
         Ok(true)
     }
 
@@ -229,6 +232,34 @@ impl RowSlots {
             arena: &self.arena,
         };
         meet_plain_in(kept, &mut self.bits, tid, columns, body)
+    }
+
+    /// Does the same for a row whose one value is this number, where its bytes tell as they lie that it is. `false`
+    /// changes nothing, and says nothing else.
+    #[inline]
+    pub fn meet_number(&mut self, tid: Tid, number: i64) -> bool
+        ensures is { OnTrue result (keys_in self.old tid ≡ Some (Int number ∷ [])) }
+        ensures met { OnTrue result (met_in self.new
+            ≡ met_by (keys_in self.old) (met_in self.old) (keyed tid (Int number ∷ []))) }
+        ensures same { OnFalse result (met_in self.new ≡ met_in self.old) }
+        ensures keys { keys_in self.new ≡ keys_in self.old }
+        ensures range { SameRange self.old self.new }
+    {
+        let kept = Kept {
+            first: self.first,
+            starts: &self.starts,
+            records: &self.records,
+            arena: &self.arena,
+        };
+        meet_number_in(kept, &mut self.bits, tid, number)
+    }
+
+    /// Whether a block is one of the range.
+    #[inline]
+    pub fn covers(&self, block: u32) -> bool
+        ensures { result ≡ (nat_le self.now.first block && nat_lt (block - self.now.first) (blocks_in self.now)) }
+    {
+        self.first <= block && ((block - self.first) as usize) < self.starts.len() - 1
     }
 
     /// Whether the row that is rooted at a line pointer and has this key was met; `None` where no such row is kept.

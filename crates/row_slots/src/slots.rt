@@ -1,8 +1,9 @@
 //! Steps over the tables.
 ghost use Rattle.std.specs.Prelude.{◌≡◌, ◌+◌, ◌∷◌, ◌++◌, ◌≤◌, [], List, drop, length};
-ghost use Rattle.std.specs.Prelude.{IfOk, None, Ok, OnErr, OnOk, true};
+ghost use Rattle.std.specs.Prelude.{IfOk, None, Ok, OnErr, OnOk, Some, true};
 ghost use Rattle.std.specs.Bool.{OnFalse, OnTrue};
 ghost use Rattle.key_orders.specs.declared.columns.Value.{Value as Shown};
+ghost use Rattle.key_orders.specs.declared.columns.Value.TheVariants.{Int};
 ghost use Rattle.stored_keys.specs.Rows.{row_values};
 ghost use Rattle.key_attrs.specs.Columns.{tree_columns};
 ghost use Rattle.row_slots.specs.Met.{is_key, keyed, met_by};
@@ -13,7 +14,7 @@ use crate::bits::{is_set, set_bit};
 use key_attrs::{IndexColumns, has_stored_key};
 use key_orders::Tid;
 use outside::NoMemory;
-use stored_keys::{RowValues, is_stored};
+use stored_keys::{RowValues, is_number, is_stored};
 
 /// Which rows are kept, and their keys.
 #[derive(Clone, Copy)]
@@ -169,6 +170,37 @@ pub(crate) fn meet_plain_in(
         return true;
     }
     if !holds_plain(kept.arena, place, columns, body) {
+        return false;
+    }
+    set_bit(bits, slot);
+    true
+}
+
+// Whether a slot says that this number lies in the arena as a key. `false` says nothing.
+#[inline]
+fn holds_number(arena: &[u8], place: u32, number: i64) -> bool
+    ensures { OnTrue result (key_of arena.now place ≡ Some (Int number ∷ [])) }
+{
+    place != 0 && is_number(bytes_from(arena, place - 1), number)
+}
+
+// Sets the bit of the row that is rooted there, if its key is this number, as the bytes tell; whether they do.
+#[inline]
+pub(crate) fn meet_number_in(kept: Kept<'_>, bits: &mut [u8], tid: Tid, number: i64) -> bool
+    requires starts { AreStarts kept.starts.now kept.records.now }
+    requires bits { AreBits kept.records.now bits.old }
+    ensures is { OnTrue result (keys_of kept.entry.first kept.entry.starts.now kept.entry.records.now
+        kept.entry.arena.now tid ≡ Some (Int number ∷ [])) }
+    ensures met { OnTrue result (mets_of kept.entry.first kept.entry.starts.now bits.new
+        ≡ met_by (keys_of kept.entry.first kept.entry.starts.now kept.entry.records.now kept.entry.arena.now)
+        (mets_of kept.entry.first kept.entry.starts.now bits.old) (keyed tid (Int number ∷ []))) }
+    ensures same { OnFalse result (bits.new ≡ bits.old) }
+    ensures bits { AreBits kept.entry.records.now bits.new }
+{
+    let Some(slot) = find(kept.first, kept.starts, tid) else {
+        return false;
+    };
+    if !holds_number(kept.arena, kept.records[slot], number) {
         return false;
     }
     set_bit(bits, slot);

@@ -1,3 +1,4 @@
 pub mod Stored
 pub mod Same
 pub mod Rows
+pub mod RowLists

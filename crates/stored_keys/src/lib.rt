@@ -4,12 +4,14 @@
 
 mod laws;
 mod read;
+mod rows;
 mod same;
 mod values;
 mod write;
 
 pub use laws::keys_are_read_back;
 pub use read::read_value;
-pub use same::{after_value, is_stored, same_values};
+pub use rows::{RowBytes, StoredRows};
+pub use same::{after_value, is_number, is_stored, same_values};
 pub use values::RowValues;
 pub use write::{LONGEST_VALUE, push_value, write_key};

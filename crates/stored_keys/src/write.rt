@@ -1,8 +1,9 @@
 //! Keys, written behind one another.
 ghost use Rattle.std.specs.Prelude.{◌≡◌, ◌+◌, ◌<◌, ◌≤◌, ◌^◌, ◌++◌, All, length, vec_capacity, vec_len};
-ghost use Rattle.std.specs.Prelude.{[], if◌then◌else◌, IfOk, IfSome, OnErr, OnOk, nat_le, true};
+ghost use Rattle.std.specs.Prelude.{[], ◌∷◌, if◌then◌else◌, IfOk, IfSome, OnErr, OnOk, nat_le, true};
 ghost use Rattle.std.specs.List.{flat_map};
 ghost use Rattle.key_orders.specs.Values.{value_shown};
+ghost use Rattle.stored_keys.specs.RowLists.{HasMore};
 ghost use Rattle.stored_keys.specs.Rows.{row_values};
 ghost use Rattle.stored_keys.specs.Stored.{IsStorable, shown_bytes, stored_bytes, stored_key, stored_value};
 
@@ -16,8 +17,8 @@ const MOST: usize = 0xffff_fff0;
 /// How many bytes a value takes at most that an index may have: no page holds a longer one.
 pub const LONGEST_VALUE: usize = 8197;
 
-// The first number that doesn't fit in 4 bytes.
-const LARGE: u64 = 0x1_0000_0000;
+/// The first number that doesn't fit in 4 bytes.
+pub(crate) const LARGE: u64 = 0x1_0000_0000;
 
 // Adds bytes where there is room, which takes no memory.
 fn push_bytes(arena: &mut Vec<u8>, bytes: &[u8])
@@ -150,6 +151,65 @@ pub fn write_key(arena: &mut Vec<u8>, values: RowValues<'_>) -> Result<(), NoMem
     push_bytes(arena, &[(values.key.len() + values.more.len()) as u8]);
     write_values(arena, values.key);
     write_values(arena, values.more);
+    Ok(())
+}
+
+// Adds a value behind the bytes, if memory is there.
+#[inline]
+fn store_value(arena: &mut Vec<u8>, value: ValueRef<'_>) -> Result<(), NoMemory>
+    ensures ok { OnOk result (arena.new.items ≡ arena.old.items ++ shown_bytes value.entry) }
+    ensures storable { OnOk result (IsStorable (value_shown value.entry)) }
+    ensures err { OnErr result (arena.new.items ≡ arena.old.items) }
+{
+    let len = stored_len(value);
+    if MOST < len {
+        return Err(NoMemory);
+    }
+    arena.reserve(len)?;
+    write_value(arena, value);
+    Ok(())
+}
+
+// Adds values behind the bytes. After `NoMemory` some may have been added.
+fn store_values(arena: &mut Vec<u8>, values: &[ValueRef<'_>]) -> Result<(), NoMemory>
+    ensures ok { OnOk result (arena.new.items ≡ arena.old.items ++ flat_map shown_bytes values.now) }
+    ensures storable { OnOk result (All (λ v. IsStorable (value_shown v)) values.now) }
+    ensures err { OnErr result (HasMore arena.old.items arena.new.items) }
+{
+    for i in 0..values.len() {
+        store_value(arena, values[i])?;
+    }
+    Ok(())
+}
+
+/// Adds these values behind the bytes as `write_key` does, wherever these end. After `NoMemory` a part of them may have
+/// been added.
+pub(crate) fn store_key(arena: &mut Vec<u8>, values: RowValues<'_>) -> Result<(), NoMemory>
+    requires few { length (row_values values) < 256 }
+    ensures ok { OnOk result (arena.new.items ≡ arena.old.items ++ stored_key (row_values values.entry)) }
+    ensures storable { OnOk result (All IsStorable (row_values values.entry)) }
+    ensures err { OnErr result (HasMore arena.old.items arena.new.items) }
+{
+    arena.push((values.key.len() + values.more.len()) as u8)?;
+    store_values(arena, values.key)?;
+    store_values(arena, values.more)?;
+    Ok(())
+}
+
+/// Adds the key that is this number behind the bytes, all of it at once.
+#[inline]
+pub(crate) fn store_number(arena: &mut Vec<u8>, number: i64) -> Result<(), NoMemory>
+    ensures ok { OnOk result (arena.new.items ≡ arena.old.items ++ stored_key (Value.Int number ∷ [])) }
+    ensures err { OnErr result (HasMore arena.old.items arena.new.items) }
+{
+    let bits = number.cast_unsigned();
+    if bits < LARGE {
+        let b = (bits as u32).to_le_bytes();
+        arena.extend_from_slice(&[1, 6, b[0], b[1], b[2], b[3]])?;
+    } else {
+        let b = bits.to_le_bytes();
+        arena.extend_from_slice(&[1, 3, b[0], b[1], b[2], b[3], b[4], b[5], b[6], b[7]])?;
+    }
     Ok(())
 }
 

@@ -11,7 +11,7 @@ use root_set::RootSet;
 use row_slots::RowSlots;
 use std::alloc::Global;
 use std::test::Fail;
-use stored_keys::RowValues;
+use stored_keys::{RowValues, StoredRows};
 use test_files::{Page, UntoldFiles};
 
 // A page of a heap with four line pointers of these flags: 0 unused, 2 a redirect to item 1, 3 dead.
@@ -132,12 +132,27 @@ fn entries_meet_rows_of_a_range(rt: HostRuntime) -> Result<(), Fail> {
     Ok(())
 }
 
+// Rows of a number and a text each.
+fn stored(alloc: Global, numbers: &[i64]) -> Result<StoredRows, NoMemory> {
+    let mut rows = StoredRows::new(alloc);
+    for number in numbers.iter() {
+        let key = [ValueRef::Int(*number)];
+        let more = [ValueRef::Bytes(b"text")];
+        let values = RowValues {
+            key: &key,
+            more: &more,
+        };
+        rows.push(values)?;
+    }
+    Ok(rows)
+}
+
 // Whether a row of this number is kept at the items 1 to 3 of block 3, whose first two are kept as 5 and -7 at once.
 fn numbered(alloc: Global, number: i64) -> Result<[bool; 3], NoMemory> {
     let mut slots = RowSlots::new(alloc, 3)?;
     slots.add_block(4)?;
-    slots.keep_numbers(3, &[5, -7])?;
-    let key = [ValueRef::Int(number)];
+    slots.keep_rows(3, &stored(alloc, &[5, -7])?)?;
+    let key = [ValueRef::Int(number), ValueRef::Bytes(b"text")];
     let values = RowValues {
         key: &key,
         more: &[],
@@ -149,18 +164,19 @@ fn numbered(alloc: Global, number: i64) -> Result<[bool; 3], NoMemory> {
     Ok(kept)
 }
 
-// Whether these numbers are kept as rows of a block where block 3 alone is there with four line pointers, and then
+// Whether rows of these numbers are kept in a block where block 3 alone is there with four line pointers, and then
 // whether they are kept once more.
 fn twice(alloc: Global, block: u32, numbers: &[i64]) -> Result<[bool; 2], NoMemory> {
     let mut slots = RowSlots::new(alloc, 3)?;
     slots.add_block(4)?;
-    let once = slots.keep_numbers(block, numbers)?;
-    let again = slots.keep_numbers(block, numbers)?;
+    let rows = stored(alloc, numbers)?;
+    let once = slots.keep_rows(block, &rows)?;
+    let again = slots.keep_rows(block, &rows)?;
     Ok([once, again])
 }
 
 #[test]
-fn numbers_are_kept_at_once(rt: HostRuntime) -> Result<(), Fail> {
+fn rows_are_kept_at_once(rt: HostRuntime) -> Result<(), Fail> {
     assert_eq!(rt; numbered(rt.alloc(), 5)?, [true, false, false]);
     assert_eq!(rt; numbered(rt.alloc(), -7)?, [false, true, false]);
     assert_eq!(rt; twice(rt.alloc(), 3, &[1, 2, 3, 4])?, [true, false]);

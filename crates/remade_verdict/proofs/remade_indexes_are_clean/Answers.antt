@@ -3,7 +3,7 @@ use Rattle.heap_check.specs.Rows.{rows_of}
 use Rattle.row_entries.specs.Entries.{entries_of_rows}
 use Rattle.row_entries.proofs.ListedLaws.{quiet_listed}
 use Rattle.remade_verdict.proofs.Entries.{certain, clean, equal, joined}
-use Rattle.remade_verdict.proofs.Roots.{root-named}
+use Rattle.row_keys.proofs.HeapRoots.{root-named}
 use Rattle.remade_verdict.proofs.remade_indexes_are_clean.Goals as goal
 
 pub returns : goal.returns

@@ -28,7 +28,7 @@ returns-in_err-check_entries-clause-lists g c = λ names told.
     let says = set-says case names heap c.requires.belong.heap hold.heap set c.targets.ensures (c.set_tells_of_pages.ensures.tells (heap_page case names) (heap_blocks case names)) in
     Adds-exit report_lists c.from_residual-in_err-check_entries.result _ c.args.report.now c.check_entries.new.report (entries_lists case names (number_of (file_of c.args.at.tree.now))) c.from_residual-in_err-check_entries.ensures.1
     (subst (λ (l : Lists). Begins report_lists c.args.report.now c.check_entries.new.report l) (strays-are case names c.args.at.tree.now c.requires.belong.index hold.file set says)
-    (c.in_err-check_entries.ensures.lists names told))
+    (c.in_err-check_entries.ensures.lists names told (λ tid some. absurd (some (c.in_ok-slots.ensures.keys tid)))))
 
 pub returns-clause-lists : goal.returns-clause-lists
 returns-clause-lists g c = λ names told.
@@ -37,5 +37,5 @@ returns-clause-lists g c = λ names told.
     let hold = c.requires.hold names told in
     let set : List (List Bool) = c.targets.result.now in
     let says = set-says case names heap c.requires.belong.heap hold.heap set c.targets.ensures (c.set_tells_of_pages.ensures.tells (heap_page case names) (heap_blocks case names)) in
-    c.in_ok-check_entries.ensures.lists names told
+    c.in_ok-check_entries.ensures.lists names told (λ tid some. absurd (some (c.in_ok-slots.ensures.keys tid)))
     ∙ ap (joined c.args.report.now) (strays-are case names c.args.at.tree.now c.requires.belong.index hold.file set says)

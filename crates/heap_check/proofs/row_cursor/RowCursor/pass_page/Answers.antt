@@ -1,7 +1,7 @@
 use Rattle.std.proofs.Common.{◌≤◌, false, refl, arith}
 use Rattle.heap_check.specs.RowCursor.{case_at}
 use Rattle.heap_check.specs.declared.row_page.RowPage.{RowPage}
-use Rattle.heap_check.proofs.RowNumbers.{ahead_past}
+use Rattle.heap_check.proofs.PageRows.{ahead_past}
 use Rattle.heap_check.proofs.RowSteps.{in_hand_done}
 use Rattle.heap_check.proofs.row_cursor.RowCursor.pass_page.Goals as goal
 

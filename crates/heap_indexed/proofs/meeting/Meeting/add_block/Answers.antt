@@ -11,4 +11,5 @@ returns c = λ names done strays range tree work. record {
   apart = work.apart;
   unmet = λ tid. c.in_ok-add_block.ensures.ok.met tid ∙ work.unmet tid;
   kept = λ whole. kept-same (index_columns tree) c.args.self.now.slots c.add_block.new.self range c.in_ok-add_block.ensures.ok.keys (work.kept whole);
+  rooted = λ tid some. work.rooted tid (λ none. some (c.in_ok-add_block.ensures.ok.keys tid ∙ none));
 }

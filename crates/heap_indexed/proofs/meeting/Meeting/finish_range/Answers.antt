@@ -7,14 +7,14 @@ use Rattle.reports.specs.Lists.{Lists}
 use Rattle.bt_levels.specs.Sound.{index_columns}
 use Rattle.heap_check.specs.RowCursor.{next_in}
 use Rattle.heap_check.specs.declared.rows.LiveRow.{LiveRow}
-use Rattle.index_targets.specs.Passes.{strays_of}
+use Rattle.index_targets.specs.Passes.{AreTargets, strays_of}
 use Rattle.heap_indexed.specs.declared.joined.LookUps.{LookUps}
 use Rattle.heap_indexed.specs.declared.meeting.Meeting.{Meeting}
 use Rattle.heap_indexed.specs.Looking.{AreOf}
 use Rattle.heap_indexed.specs.Meetings.{IsKeptRow}
 use Rattle.heap_indexed.specs.Rows.{owed_for, rows_from}
 use Rattle.heap_indexed.proofs.Cases.{no-strays}
-use Rattle.heap_indexed.proofs.KeptLaws.{kept-same, rows-met}
+use Rattle.heap_indexed.proofs.KeptLaws.{kept-same, roots-named, rows-met}
 use Rattle.heap_indexed.proofs.MetLaws.{sound-of, tells-of}
 use Rattle.heap_indexed.proofs.meeting.Meeting.finish_range.Goals as goal
 use Rattle.heap_indexed.proofs.meeting.Meeting.finish_range.Goals.{then-self, else-self}
@@ -66,6 +66,7 @@ returns-then-all_met-clause-work g c = λ names told done strays work.
           ∙ report_lists.with_none strays);
       apart = λ known. work.apart (sym (c.begin.ensures.apart ∙ ap (λ (m : Meeting). m.apart) same) ∙ known);
       unmet = c.begin.ensures.slots.met;
+      rooted = λ tid some. absurd (some (c.begin.ensures.slots.keys tid));
       kept = λ whole. All-nil (IsKeptRow (index_columns tree) c.begin.new.self.slots);
     }
 
@@ -80,6 +81,9 @@ returns-clause-work g c = λ names told done strays work.
     let rows : List LiveRow = rows_from c.args.index.at.case.now names c.args.first (next_in c.args.cursor.now - c.args.first) in
     let same = c.meet_near.ensures.same in
     let keys = (c.in_ok-apart.ensures.met names later).keys ∙ (c.in_ok-all_met.ensures.met names told).keys in
+    let near = (c.in_ok-all_met.ensures.met names told).keys in
+    let targets : AreTargets (option_copied c.args.targets) c.meet_near.new.self.slots =
+    roots-named (option_copied c.args.targets) c.meet_near.new.self.slots rows (λ tid some. work.rooted tid (λ none. some (ap (λ k. k tid) near ∙ none))) (c.requires.told names told).roots in
     let found =
     c.in_ok-judge_rows.ensures.rows names held
     (λ whole. kept-same (index_columns tree) c.args.self.now.slots c.check_entries.new.slots rows (λ tid. ap (λ k. k tid) keys) (work.kept (sym (ap (λ (m : Meeting). m.is_whole) same) ∙ whole))) in
@@ -89,13 +93,14 @@ returns-clause-work g c = λ names told done strays work.
       strays_are =
           c.begin-2.ensures.entries
           ∙ c.judge_rows.ensures.entries
-          ∙ c.in_ok-apart.ensures.lists names later
+          ∙ c.in_ok-apart.ensures.lists names later targets
           ∙ ap (λ (l : Lists). joined l (strays_of names (option_copied c.args.targets) tree)) (ap (λ (m : Meeting). m.entries) same ∙ work.strays_are);
       apart = λ known. elim c.if-self.branch [
         | then-self w ↦ work.apart (sym (c.begin-2.ensures.apart ∙ c.judge_rows.ensures.apart ∙ ap (λ (m : Meeting). m.apart) same) ∙ w.if-self.true)
         | else-self w ↦ c.in_ok-apart.ensures.apart names later (sym w.self-is ∙ known)
       ];
       unmet = c.begin-2.ensures.slots.met;
+      rooted = λ tid some. absurd (some (c.begin-2.ensures.slots.keys tid));
       kept = λ whole. All-nil (IsKeptRow (index_columns tree) c.begin-2.new.self.slots);
     }
 

@@ -1,9 +1,11 @@
-use Rattle.std.proofs.Common.{◌≡◌, ◌∙◌, ◌∷◌, ◌++◌, [], Bool, true, ap, subst, sym}
-use Rattle.std.specs.Prelude.{All, cond}
+use Rattle.std.proofs.Common.{◌≡◌, ◌≢◌, ◌∙◌, ◌∷◌, ◌++◌, [], Bool, true, ap, subst, sym}
+use Rattle.std.specs.Prelude.{All, None, cond}
+use Rattle.key_orders.specs.declared.Tid.{Tid}
+use Rattle.row_slots.specs.Slots.{keys_in}
 use Rattle.std.proofs.lemmas.Bool.{false≢true}
 use Rattle.bt_levels.specs.Sound.{index_columns}
-use Rattle.heap_indexed.specs.Meetings.{IsKeptRow}
-use Rattle.heap_indexed.proofs.KeptLaws.{kept-more}
+use Rattle.heap_indexed.specs.Meetings.{IsKeptRow, IsRootIn}
+use Rattle.heap_indexed.proofs.KeptLaws.{kept-more, rooted-more}
 use Rattle.heap_indexed.proofs.meeting.Meeting.keep_row.Goals as goal
 use Rattle.heap_indexed.proofs.meeting.Meeting.keep_row.Goals.{then-self-2, else-self-2}
 
@@ -24,4 +26,10 @@ returns c = λ names done strays all passed row found work. record {
         (c.in_ok-kept.ensures.kept kept names row found.rows found.cursor_of found.here) before)
     | else-self-2 w ↦ absurd (false≢true (sym w.if-self-2.false ∙ sym w.self-is ∙ whole))
   ];
+  rooted =
+      let columns = index_columns c.args.index.at.tree.now in
+      subst (λ (b : Bool). (tid : Tid) → keys_in c.keep_row_at.new.slots tid ≢ None → IsRootIn (cond b all (passed ++ row ∷ [])) tid) (sym c.if-self.false)
+      (rooted-more columns c.args.self.now.slots c.keep_row_at.new.slots passed row c.args.place.root c.in_ok-kept.kept found.root
+      (λ kept. c.in_ok-kept.ensures.kept kept names row found.rows found.cursor_of found.here) c.in_ok-kept.ensures.same
+      (subst (λ (b : Bool). (tid : Tid) → keys_in c.args.self.now.slots tid ≢ None → IsRootIn (cond b all passed) tid) c.if-self.false work.rooted));
 }

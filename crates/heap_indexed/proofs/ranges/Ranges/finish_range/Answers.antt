@@ -11,7 +11,7 @@ use Rattle.heap_check.specs.declared.rows.LiveRow.{LiveRow}
 use Rattle.index_targets.specs.Passes.{strays_of}
 use Rattle.heap_indexed.specs.declared.meeting.Meeting.{Meeting}
 use Rattle.row_keys.specs.Joined.{HoldTogether}
-use Rattle.heap_indexed.specs.Meetings.{InWork}
+use Rattle.heap_indexed.specs.Meetings.{HasRoots, InWork}
 use Rattle.heap_indexed.specs.Rows.{owed_for, rows_from}
 use Rattle.heap_indexed.proofs.Each.{above-set, below-set, still-before}
 use Rattle.row_keys.proofs.Places.{same-then}
@@ -42,6 +42,7 @@ finish_range-requires-clause-told g c = λ names told.
       strays = before.strays tree;
       work = subst (λ (rs : List LiveRow). InWork names (before.done tree) (before.strays tree) rs tree (get_or c.loop-j.meetings c.loop-j.j c.index-meetings-j.result)) (sym same-rows)
           (still-before (λ (t : SoundTree) (m : Meeting). InWork names (before.done t) (before.strays t) rows t m) at.trees.now c.args.meetings.now c.loop-j.meetings c.loop-j.j inv.same before.work tree c.index-meetings-j.result c.index_at.ensures.tree (omega arith));
+      roots = subst (λ (rs : List LiveRow). HasRoots (option_copied c.args.targets) rs) (sym same-rows) before.roots;
     }
 
 pub loop-j-init : goal.loop-j-init

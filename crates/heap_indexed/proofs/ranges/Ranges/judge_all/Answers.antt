@@ -11,13 +11,16 @@ use Rattle.heap_files.specs.Files.{heap_in, targets_in}
 use Rattle.heap_check.specs.RowCursor.{next_in}
 use Rattle.index_targets.specs.Passes.{strays_of}
 use Rattle.heap_indexed.specs.declared.meeting.Meeting.{Meeting}
-use Rattle.heap_indexed.specs.Meetings.{AreInWork, EachFor, InWork, IsJudged}
+use Rattle.heap_indexed.specs.Meetings.{AreInWork, EachFor, HasRoots, InWork, IsJudged}
 use Rattle.heap_indexed.specs.Rows.{owed_for, rows_from}
 use Rattle.heap_indexed.proofs.Cases.{no-strays}
 use Rattle.heap_indexed.proofs.Each.{each-map}
 use Rattle.heap_indexed.proofs.Owed.{owed-upto}
 use Rattle.row_keys.proofs.Places.{same-then}
+use Rattle.std.specs.Option.{option_copied}
+use Rattle.heap_check.specs.Rows.{rows_of}
 use Rattle.heap_indexed.proofs.Places.{same-table}
+use Rattle.heap_indexed.proofs.RootLaws.{heap-roots}
 use Rattle.heap_indexed.proofs.ranges.Ranges.judge_all.Goals as goal
 
 -- the first range: nothing was found before it
@@ -40,7 +43,16 @@ judge_range-requires-clause-told g c = λ names told. record {
   done = λ (t : SoundTree). nothing;
   strays = λ (t : SoundTree). nothing;
   work = c.requires.work names told;
+  roots = tt;
 }
+
+pub judge_range-requires-clause-roots : goal.judge_range-requires-clause-roots
+judge_range-requires-clause-roots g c = λ names told.
+    let hold = c.requires.hold names told in
+    let case = c.args.self.at.case.now in
+    let is : option_copied (Some c.targets.result) ≡ Some (targets_in c.args.self.at.heap.now) = ap Some c.targets.ensures in
+    subst (λ (o : Option (List (List Bool))). HasRoots o (rows_of case names)) (sym is)
+    (heap-roots case names c.args.self.at.heap.now hold.heap hold.quiet (c.rows_are_live_tuples.ensures.exact case names c.sound.ensures hold.quiet))
 
 -- after a range more was done
 more-work : (case : CaseRecord) (names : Names) (n m : ℕ) (targets : List (List Bool)) (trees : List SoundTree) (meetings : List Meeting) → n ≤ m
@@ -91,6 +103,7 @@ judge_range-requires-in-loop-k-clause-told g c = λ names told.
       done = λ (t : SoundTree). owed_for names t (rows_from case names 0 (next_in c.loop-k.cursor));
       strays = λ (t : SoundTree). strays_of names (Some (targets_in c.args.self.at.heap.now)) t;
       work = inv.work names held;
+      roots = tt;
     }
 
 pub loop-k-preserved : goal.loop-k-preserved

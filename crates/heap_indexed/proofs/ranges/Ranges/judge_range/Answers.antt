@@ -1,4 +1,4 @@
-use Rattle.std.proofs.Common.{◌∙◌, ◌-◌, ℕ, [], sym, subst}
+use Rattle.std.proofs.Common.{◌≡◌, ◌∙◌, ◌-◌, ℕ, [], sym, subst, arith}
 use Rattle.std.specs.Option.{option_copied}
 use Rattle.bt_levels.specs.declared.sound.SoundTree.{SoundTree}
 use Rattle.reports.specs.Added.{joined}
@@ -6,7 +6,12 @@ use Rattle.heap_check.specs.RowCursor.{next_in}
 use Rattle.index_targets.specs.Passes.{strays_of}
 use Rattle.heap_indexed.specs.Meetings.{AreInWork}
 use Rattle.heap_indexed.specs.Rows.{owed_for, rows_from}
+use Rattle.rel_files.specs.Relation.{count_of}
+use Rattle.heap_files.specs.Case.{heap_blocks}
+use Rattle.heap_files.specs.Files.{heap_in}
 use Rattle.heap_indexed.proofs.Places.{same-table}
+use Rattle.row_keys.proofs.Pages.{count-is}
+use Rattle.heap_indexed.proofs.RootLaws.{roots-part}
 use Rattle.heap_indexed.proofs.ranges.Ranges.judge_range.Goals as goal
 
 pub keep_blocks-requires-clause-behind : goal.keep_blocks-requires-clause-behind
@@ -27,6 +32,13 @@ finish_range-requires-clause-told g c = λ names told.
       strays = before.strays;
       work = subst (λ (n : ℕ). AreInWork names before.done before.strays (rows_from case names n (next_in c.keep_blocks.new.cursor - n)) c.args.self.at.trees.now c.keep_blocks.new.meetings) (sym c.next_block-first.ensures)
           (c.in_ok-keep_blocks.ensures.kept names held before.done before.strays before.work);
+      roots =
+          let first = c.next_block-first.result in
+          let mid = next_in c.keep_blocks.new.cursor in
+          let blocks : count_of (heap_in c.args.self.at.heap.now) ≡ heap_blocks case names = count-is case names c.args.self.at.heap.now c.requires.table.belong.heap before.hold.heap in
+          let onward = c.in_ok-keep_blocks.ensures.onward in
+          let inside = c.in_ok-keep_blocks.ensures.inside in
+          roots-part (option_copied c.args.targets) case names first (mid - first) (omega (arith, blocks, onward, inside, c.next_block-first.ensures)) (c.requires.roots names held);
     }
 
 pub returns-clause-work : goal.returns-clause-work

@@ -20,6 +20,7 @@ use Rattle.leaf_meets.specs.Meeting.{all_entries, leaf_entries}
 use Rattle.leaf_meets.proofs.Meets.{met-then, none, same}
 use Rattle.index_targets.specs.Passes.{strays_of, strays_on}
 use Rattle.index_targets.proofs.Reading.{passed-more}
+use Rattle.index_targets.proofs.Passing.{targets-kept}
 use Rattle.index_targets.proofs.BlockKeys.{all-blocks, blocks-next}
 use Rattle.index_targets.proofs.check.Leaves.check_entries.Goals as goal
 
@@ -47,7 +48,7 @@ take_block-requires-clause-hand g c names told = c.loop-k.invariant.hand names (
 
 pub loop-k-init : goal.loop-k-init
 loop-k-init g c = record {
-  lists = λ names told. upto-none report_lists (of-block c.args.self.tree.now (option_copied c.args.self.targets) names) c.args.report.now;
+  lists = λ names told targets. upto-none report_lists (of-block c.args.self.tree.now (option_copied c.args.self.targets) names) c.args.report.now;
   met = λ names told. none c.args.slots.now;
   apart = λ names told known b from below. absurd (omega (arith, from, below));
   hand = λ names told. c.new.ensures names (relation_of (file_of c.args.self.tree.now));
@@ -56,9 +57,10 @@ loop-k-init g c = record {
 
 pub loop-k-preserved : goal.loop-k-preserved
 loop-k-preserved g c = record {
-  lists = λ names told.
-      upto-next report_lists (of-block c.args.self.tree.now (option_copied c.args.self.targets) names) c.loop-k.k c.args.report.now c.loop-k.report c.take_block.new.report (c.loop-k.invariant.lists names told)
-      (c.in_ok-take_block.ensures.lists names (c.loop-k.invariant.asked.same ∙ told));
+  lists = λ names told targets.
+      let still = targets-kept (option_copied c.args.self.targets) _ c.args.slots.now c.loop-k.slots (c.loop-k.invariant.met names told) targets in
+      upto-next report_lists (of-block c.args.self.tree.now (option_copied c.args.self.targets) names) c.loop-k.k c.args.report.now c.loop-k.report c.take_block.new.report (c.loop-k.invariant.lists names told targets)
+      (c.in_ok-take_block.ensures.lists names (c.loop-k.invariant.asked.same ∙ told) still);
   met = λ names told.
       let keys = keys-of c.args.self.tree.now names in
       let k = c.loop-k.k in
@@ -75,20 +77,21 @@ loop-k-preserved g c = record {
 
 pub returns-in_err-take_block-clause-lists : goal.returns-in_err-take_block-clause-lists
 unfolding strays_of
-returns-in_err-take_block-clause-lists g c names told =
+returns-in_err-take_block-clause-lists g c names told targets =
     let tree = c.args.self.tree.now in
+    let still = targets-kept (option_copied c.args.self.targets) _ c.args.slots.now c.loop-k.slots (c.loop-k.invariant.met names told) targets in
     let of = of-block tree (option_copied c.args.self.targets) names in
     Adds-exit report_lists c.from_residual-in_err-take_block.result _ c.args.report.now c.take_block.new.report (each_upto report_lists of (block_count tree - 1)) c.from_residual-in_err-take_block.ensures.1
-    (upto-cut report_lists of c.loop-k.k (block_count tree - 1) c.args.report.now c.loop-k.report c.take_block.new.report (omega (arith, c.loop-k-test.true, c.saturating_sub-k-end.ensures, c.blocks-2.ensures)) (c.loop-k.invariant.lists names told)
-    (c.in_err-take_block.ensures.lists names (c.loop-k.invariant.asked.same ∙ told)))
+    (upto-cut report_lists of c.loop-k.k (block_count tree - 1) c.args.report.now c.loop-k.report c.take_block.new.report (omega (arith, c.loop-k-test.true, c.saturating_sub-k-end.ensures, c.blocks-2.ensures)) (c.loop-k.invariant.lists names told targets)
+    (c.in_err-take_block.ensures.lists names (c.loop-k.invariant.asked.same ∙ told) still))
 
 pub returns-clause-lists : goal.returns-clause-lists
 unfolding strays_of
-returns-clause-lists g c names told =
+returns-clause-lists g c names told targets =
     let tree = c.args.self.tree.now in
     let of = of-block tree (option_copied c.args.self.targets) names in
     let whole : c.loop-k.k ≡ block_count tree - 1 = omega (arith, c.loop-k-test.false, c.saturating_sub-k-end.ensures, c.blocks-2.ensures) in
-    subst (λ (n : ℕ). c.loop-k.report ≡ joined c.args.report.now (each_upto report_lists of n)) whole (c.loop-k.invariant.lists names told)
+    subst (λ (n : ℕ). c.loop-k.report ≡ joined c.args.report.now (each_upto report_lists of n)) whole (c.loop-k.invariant.lists names told targets)
 
 pub returns-clause-met : goal.returns-clause-met
 unfolding all_entries
@@ -106,6 +109,6 @@ returns-clause-apart g c names told known b from below =
     c.loop-k.invariant.apart names told known b from (omega (arith, whole, below))
 
 pub returns-in_err-begin-clause-lists : goal.returns-in_err-begin-clause-lists
-returns-in_err-begin-clause-lists g c names told =
+returns-in_err-begin-clause-lists g c names told targets =
     let owed = strays_of names (option_copied c.args.self.targets) c.args.self.tree.now in
     Adds-exit report_lists c.from_residual.result _ c.args.report.now c.args.report.now owed c.from_residual.ensures.1 (Begins-none report_lists c.args.report.now owed)

@@ -8,5 +8,5 @@ use Rattle.index_targets.proofs.check.Leaves.judge_page.Goals as goal
 pub returns-clause-rise : goal.returns-clause-rise
 returns-clause-rise c live laid_out =
     let page = c.args.page.now in
-    subst (λ (t : TreeColumns). OnOk c.judge_page.result (RisesTo t page (count_of page) c.judge_page.new.seen.rise)) c.columns.ensures.lists
-    (c.judge_page.ensures.rise (c.begin.ensures.rise (tree_columns c.columns.result) page) live laid_out)
+    subst (λ (t : TreeColumns). OnOk c.judge_page.result (RisesTo t page (count_of page) c.judge_page.new.seen.rise)) c.columns-2.ensures.lists
+    (c.judge_page.ensures.rise (c.begin.ensures.rise (tree_columns c.columns-2.result) page) live laid_out)

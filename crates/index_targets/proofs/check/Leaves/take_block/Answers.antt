@@ -16,20 +16,20 @@ use Rattle.index_targets.proofs.Reading.{block-readable, readable-by}
 use Rattle.index_targets.proofs.check.Leaves.take_block.Goals as goal
 
 pub returns-in_err-take_ahead-clause-lists : goal.returns-in_err-take_ahead-clause-lists
-returns-in_err-take_ahead-clause-lists g c names told =
+returns-in_err-take_ahead-clause-lists g c names told targets =
     let tree = c.args.self.tree.now in
     let owed = strays_on (number_of (file_of tree)) (index_columns tree) (option_copied c.args.self.targets) c.args.b (held_block names tree c.args.b) in
     Adds-exit report_lists c.from_residual.result _ c.args.report.now c.args.report.now owed c.from_residual.ensures.1
     (Begins-none report_lists c.args.report.now owed)
 
 pub returns-clause-lists : goal.returns-clause-lists
-returns-clause-lists g c names told =
+returns-clause-lists g c names told targets =
     let tree = c.args.self.tree.now in
     let page = c.page-page.ensures ∙ c.in_ok-take_ahead.ensures.bytes names told in
     let not-meta = c.requires.not_meta in
     let some : c.args.b ≢ 0 = λ e. absurd (omega (arith, not-meta, e)) in
     let readable = readable-by (index_columns tree) (index_columns tree) c.page-page.result.now (held_block names tree c.args.b) (λ i. index_columns tree) page (block-readable names tree (c.requires.holds names told) c.args.b some c.requires.below) in
-    c.in_ok-judge_page.ensures.lists readable
+    c.in_ok-judge_page.ensures.lists targets readable
     ∙ (λ i. report_lists.join c.args.report.now (strays_on (number_of (file_of tree)) (index_columns tree) (option_copied c.args.self.targets) c.args.b (page i)))
 
 pub returns-clause-met : goal.returns-clause-met
@@ -38,15 +38,14 @@ returns-clause-met g c names told =
     let page = c.page-page.ensures ∙ c.in_ok-take_ahead.ensures.bytes names told in
     let not-meta = c.requires.not_meta in
     let some : c.args.b ≢ 0 = λ e. absurd (omega (arith, not-meta, e)) in
-    let readable = readable-by (tree_columns c.columns.result) (index_columns tree) c.page-page.result.now (held_block names tree c.args.b) c.columns.ensures.lists page (block-readable names tree (c.requires.holds names told) c.args.b some c.requires.below) in
-    subst (λ (s : TreeColumns). HaveMet (leaf_entries s (held_block names tree c.args.b)) c.args.slots.now c.meet_page.new.slots) c.columns.ensures.lists
-    (subst (λ (p : List ℕ). HaveMet (leaf_entries (tree_columns c.columns.result) p) c.args.slots.now c.meet_page.new.slots) page (c.meet_page.ensures readable))
+    let readable = readable-by (index_columns tree) (index_columns tree) c.page-page.result.now (held_block names tree c.args.b) (λ i. index_columns tree) page (block-readable names tree (c.requires.holds names told) c.args.b some c.requires.below) in
+    subst (λ (p : List ℕ). HaveMet (leaf_entries (index_columns tree) p) c.args.slots.now c.judge_page.new.slots) page (c.in_ok-judge_page.ensures.met readable)
 
 pub is_still_apart-hands-requires : goal.is_still_apart-hands-requires
 is_still_apart-hands-requires g c = record {
   rise = λ live laid_out.
       let page = c.page-page.result.now in
-      subst (λ (t : TreeColumns). RisesTo t page (count_of page) c.judge_page.new.seen.rise) (sym c.columns-2.ensures.lists) (c.in_ok-judge_page.ensures.rise live laid_out);
+      subst (λ (t : TreeColumns). RisesTo t page (count_of page) c.judge_page.new.seen.rise) (sym c.columns.ensures.lists) (c.in_ok-judge_page.ensures.rise live laid_out);
 }
 
 pub returns-clause-apart : goal.returns-clause-apart
@@ -58,6 +57,6 @@ returns-clause-apart g c names told known =
     record {
       known = sym c.in_ok-judge_page.ensures.apart ∙ both.0;
       here =
-          subst (λ (t : TreeColumns). is_live_leaf block ≡ true → IsApart t block) c.columns-2.ensures.lists
-          (subst (λ (p : List ℕ). is_live_leaf p ≡ true → IsApart (tree_columns c.columns-2.result) p) page both.1);
+          subst (λ (t : TreeColumns). is_live_leaf block ≡ true → IsApart t block) c.columns.ensures.lists
+          (subst (λ (p : List ℕ). is_live_leaf p ≡ true → IsApart (tree_columns c.columns.result) p) page both.1);
     }

@@ -1,0 +1,48 @@
+use Rattle.std.proofs.Common.{rules, ◌≡◌, ◌∙◌, ◌+◌, ◌++◌, ◌==◌, ℕ, List, Some, cond, drop, get_or, length, subst, sym, ap}
+use Rattle.stored_keys.specs.Stored.{key_read}
+use Rattle.stored_keys.specs.RowLists.{LiesAt}
+use Rattle.row_slots.specs.BlockRows.{key_at}
+use Rattle.row_slots.specs.Slots.{AreKept}
+use Rattle.stored_keys.specs.RowLists.{keys_read}
+use Rattle.row_slots.proofs.PutLaws.{kept_grow}
+use Rattle.row_slots.proofs.BlockRowLaws.{key_behind, lies_behind, no_rows, one_row, still_there}
+use Rattle.row_slots.proofs.block_rows.keep_in.Goals as goal
+
+pub loop-i-init : goal.loop-i-init
+loop-i-init c =
+    let records = c.args.records.now in
+    let arena = c.args.arena.now.items in
+    let more = c.args.rows.bytes.now in
+    record {
+      kept = subst (AreKept records) (sym c.in_ok-extend_from_slice.ensures.items) (kept_grow records arena more c.requires.kept);
+      keys = λ k.
+          ap (λ (l : List ℕ). key_at records l k) c.in_ok-extend_from_slice.ensures.items
+          ∙ still_there records arena more c.requires.kept k
+          ∙ no_rows records arena c.args.slot (keys_read c.args.rows.starts.now more) k;
+    }
+
+pub put_row-requires-clause-lies : goal.put_row-requires-clause-lies
+put_row-requires-clause-lies c =
+    let arena = c.args.arena.now.items in
+    let more = c.args.rows.bytes.now in
+    let base : c.in-Ok.base ≡ length arena = search rules in
+    let at : ℕ = get_or c.args.rows.starts.now c.loop-i.i 0 in
+    subst (λ (l : List ℕ). LiesAt l (c.in-Ok.base + at)) (sym (c.deref.ensures.value ∙ c.in_ok-extend_from_slice.ensures.items))
+    (subst (λ (n : ℕ). LiesAt (arena ++ more) (n + at)) (sym base)
+    (lies_behind arena more at (c.requires.lie c.loop-i.i 0 c.loop-i-test.true)))
+
+pub loop-i-preserved : goal.loop-i-preserved
+loop-i-preserved c =
+    let arena = c.args.arena.now.items in
+    let more = c.args.rows.bytes.now in
+    let base : c.in-Ok.base ≡ length arena = search rules in
+    let now = c.deref.ensures.value in
+    let same : c.deref.result.now ≡ arena ++ more = c.deref.ensures.value ∙ c.in_ok-extend_from_slice.ensures.items in
+    record {
+      kept = subst (AreKept c.put_row.new.records) now c.put_row.ensures.kept;
+      keys = λ k.
+          one_row c.args.records.now arena c.args.slot (keys_read c.args.rows.starts.now more) c.loop-i.i k _ _ _
+          ((λ i. Some (key_read (drop (base i + get_or c.args.rows.starts.now c.loop-i.i 0) (same i)))) ∙ key_behind arena more c.args.rows.starts.now c.loop-i.i c.loop-i-test.true c.requires.lie)
+          (c.loop-i.invariant.keys k)
+          (subst (λ (l : List ℕ). key_at c.put_row.new.records l k ≡ cond (k == (c.args.slot + c.loop-i.i)) (Some (key_read (drop (c.in-Ok.base + get_or c.args.rows.starts.now c.loop-i.i 0) c.deref.result.now))) (key_at c.loop-i.records l k)) now (c.put_row.ensures.keys k));
+    }
