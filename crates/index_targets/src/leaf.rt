@@ -22,7 +22,7 @@ use bt_steps::is_live_leaf;
 use bt_tuples::{Spot3, TidList, TreeItem, plain_entry, tree_item};
 use key_attrs::IndexColumns;
 use key_orders::Tid;
-use leaf_meets::{RowsAhead, glanced_tid, meet_item, meet_number};
+use leaf_meets::{RowsAhead, glanced_tid, meet_any_item, meet_entry};
 use outside::NoMemory;
 use page_layout::{PageKind, PageView, Rule};
 use reports::{Place, Report};
@@ -192,15 +192,14 @@ impl Named<'_> {
         }
         if let Some(entry) = plain_entry(page, at.item) {
             seen.rise.add(&self.columns, entry.body);
-            if meet_number(slots, &self.columns, entry) {
+            if meet_entry(slots, &self.columns, entry) {
                 seen.span.add(entry.tid.block);
                 return Ok(());
             }
-            meet_item(slots, &self.columns, page, at.item);
             return self.judge_tid(at, entry.tid, &mut seen.span, report);
         }
         seen.rise = Rise::Untold;
-        meet_item(slots, &self.columns, page, at.item);
+        meet_any_item(slots, &self.columns, page, at.item);
         self.judge_any_item(page, at, &mut seen.span, report)
     }
 

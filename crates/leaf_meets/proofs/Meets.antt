@@ -1,14 +1,16 @@
 -- Entries after others, and none.
-use Rattle.std.proofs.Common.{◌≡◌, ◌∙◌, ℕ, zero, suc, ◌+◌, List, [], ◌∷◌, ◌++◌, length, Bool, true, false, refl, ap, arith, sym, take}
-use Rattle.std.specs.Prelude.{cond, filter, if◌then◌else◌, map, Option, Some, None, slice_get}
+use Rattle.std.proofs.Common.{◌≡◌, ◌∙◌, ℕ, zero, suc, ◌+◌, ◌-◌, List, [], ◌∷◌, ◌++◌, length, Bool, true, false, get_or, refl, ap, arith, sym, take}
+use Rattle.std.proofs.lemmas.Bool.{false≢true, le-leb, lt-ltb}
+use Rattle.std.specs.Prelude.{◌&&◌, cond, filter, if◌then◌else◌, map, nat_le, nat_lt, Option, Some, None, slice_get}
 use Rattle.key_orders.specs.declared.columns.Value.{Value}
 use Rattle.key_orders.specs.declared.Tid.{Tid}
 use Rattle.bt_tuples.specs.Items.{Posting}
 use Rattle.key_attrs.specs.Columns.{TreeColumns}
 use Rattle.tree_image.specs.Image.{LeafEntry, entries_in, leaf_entry, page_entries}
 use Rattle.bt_steps.specs.Pages.{is_live_leaf}
-use Rattle.row_slots.specs.Met.{Keyed, Keys, Mets, keyed, met_after, met_by}
-use Rattle.row_slots.specs.Slots.{SameRange, Tables, keys_in, met_in}
+use Rattle.row_slots.specs.Met.{Keyed, Keys, Mets, is_key, keyed, met_after, met_by}
+use Rattle.row_slots.specs.Slots.{SameRange, Tables, blocks_in, is_within, key_of, keys_in, keys_of, met_in, slot_of}
+use Rattle.row_slots.proofs.SlotLaws.{is_within_tells, not_met}
 use Rattle.leaf_meets.specs.Meeting.{HaveMet, alive_in, is_alive, keyed_entry, leaf_entries}
 
 pub alive-append : (xs ys : List LeafEntry) → alive_in (xs ++ ys) ≡ alive_in xs ++ alive_in ys
@@ -50,6 +52,27 @@ one key more tid a b met keys range = record { met = met; keys = keys; range = r
 
 pub killed-one : (key more : List Value) (tid : Tid) (a : Tables) → HaveMet (leaf_entry key more tid true ∷ []) a a
 killed-one key more tid a = record { met = refl; keys = refl; range = record { first = refl; blocks = refl; has = refl } }
+
+-- one where it points no row is kept
+pub absent-one : (key more : List Value) (tid : Tid) (a : Tables) → keys_in a tid ≡ None → HaveMet (leaf_entry key more tid false ∷ []) a a
+absent-one key more tid a none =
+    one key more tid a a (not_met (keys_in a) (met_in a) tid (key ++ more) (ap (is_key (key ++ more)) none)) refl (record { first = refl; blocks = refl; has = refl })
+
+-- none is kept in a block outside the range
+both-hold : (a b : Bool) → a ≡ true → b ≡ true → (a && b) ≡ false → ⊥
+both-hold true true p q none = false≢true (sym none)
+both-hold true false p q none = false≢true q
+both-hold false b p q none = false≢true p
+
+pub uncovered : (t : Tables) (tid : Tid) → (nat_le t.first tid.block && nat_lt (tid.block - t.first) (blocks_in t)) ≡ false → keys_in t tid ≡ None
+unfolding keys_of
+uncovered t tid none = by (is_within t.first t.starts tid) refl
+  where
+    by : (b : Bool) → is_within t.first t.starts tid ≡ b → keys_in t tid ≡ None
+    by false out = ap (λ (b : Bool). cond b (key_of t.arena (get_or t.records (slot_of t.first t.starts tid) 0)) None) out
+    by true in_it =
+        let w = is_within_tells t.first t.starts tid in_it in
+        absurd (both-hold (nat_le t.first tid.block) (nat_lt (tid.block - t.first) (blocks_in t)) (le-leb t.first tid.block w.low) (lt-ltb (tid.block - t.first) (blocks_in t) (omega (arith, w.high))) none)
 
 killed-none : (key : List Value) (tids : List Tid) → alive_in (entries_in (Posting key tids true)) ≡ []
 killed-none key [] = refl

@@ -7,6 +7,5 @@ mod near;
 mod numbers;
 
 pub use ahead::RowsAhead;
-pub use meet::{meet_item, meet_page};
+pub use meet::{meet_any_item, meet_entry, meet_page};
 pub use near::{HeapRange, Near, glanced_tid, meet_near};
-pub use numbers::meet_number;

@@ -1,12 +1,14 @@
 //! The entries of a leaf, each of which meets the row that it names.
-ghost use Rattle.std.specs.Prelude.{◌≡◌, ◌≤◌, List, None, Ok, false, true};
-ghost use Rattle.page_layout.specs.Page.{count_of, page_rule_of};
+ghost use Rattle.std.specs.Prelude.{◌≡◌, ◌≢◌, ◌≤◌, ℕ, List, None, Ok, false, true};
+ghost use Rattle.std.specs.Bool.{OnTrue};
+ghost use Rattle.page_layout.specs.Page.{count_of, item_of, page_rule_of};
 ghost use Rattle.page_layout.specs.View.{page_bytes};
 ghost use Rattle.key_orders.specs.declared.columns.Value.{Value as Shown};
 ghost use Rattle.key_attrs.specs.Columns.{all_types, tree_columns};
 ghost use Rattle.key_attrs.specs.Keyed.{key_values};
 ghost use Rattle.tree_image.specs.Image.{entries_in, first_data, page_entries};
-ghost use Rattle.bt_tuples.specs.Items.{Posting};
+ghost use Rattle.bt_tuples.specs.Items.{Posting, is_dead};
+ghost use Rattle.bt_tuples.specs.Plain.{LiesPlain};
 ghost use Rattle.bt_steps.specs.Entries.{IsRead};
 ghost use Rattle.bt_steps.specs.Pages.{IsReadable, is_live_leaf};
 ghost use Rattle.row_slots.specs.Met.{keyed, met_by};
@@ -14,8 +16,9 @@ ghost use Rattle.row_slots.specs.Slots.{SameRange, keys_in, met_in};
 ghost use Rattle.leaf_meets.specs.Meeting.{HaveMet, entries_at, leaf_entries};
 
 use crate::ahead::RowsAhead;
+use crate::numbers::meet_number;
 use bt_steps::is_live_leaf;
-use bt_tuples::{Spot3, TidList, TreeItem, plain_entry, tree_item};
+use bt_tuples::{PlainEntry, Spot3, TidList, TreeItem, plain_entry, tree_item};
 use key_attrs::{IndexColumns, read_entry_attributes, read_key_attributes};
 use key_orders::{KeyRefs, Tid};
 use page_layout::{PageKind, PageView};
@@ -36,10 +39,10 @@ fn meet_list(slots: &mut RowSlots, key: &KeyRefs<'_>, tids: &TidList<'_>)
     }
 }
 
-// Meets the rows that a data item of any form names. It stays a call: in line, the places of a key's values would be
-// set to zero for each item, and nearly all items are told by their bytes.
+/// Meets the rows that a data item of a leaf names, of whatever form it is. It stays a call: in line, the places of a
+/// key's values would be set to zero for each item, and nearly all items are one entry ([`meet_entry`]).
 #[inline(never)]
-fn meet_any_item(slots: &mut RowSlots, columns: &IndexColumns<'_>, page: PageView<'_>, i: u16)
+pub fn meet_any_item(slots: &mut RowSlots, columns: &IndexColumns<'_>, page: PageView<'_>, i: u16)
     requires page { page_rule_of PageKind.Tree (page_bytes page) ≡ None }
     requires first { 1 ≤ i }
     requires last { i ≤ count_of (page_bytes page) }
@@ -103,23 +106,48 @@ fn meet_body(slots: &mut RowSlots, columns: &IndexColumns<'_>, tid: Tid, body: &
     }
 }
 
-/// Meets the rows that a data item of a leaf names, none of whose entries is killed.
-pub fn meet_item(slots: &mut RowSlots, columns: &IndexColumns<'_>, page: PageView<'_>, i: u16)
+/// Meets the row that an entry names which is an item of its own, unless the entry is killed; `true` says that it met
+/// it by its number, and so that a row is kept there. `false` says nothing.
+#[inline]
+pub fn meet_entry(slots: &mut RowSlots, columns: &IndexColumns<'_>, entry: PlainEntry<'_>) -> bool
+    ensures kept { OnTrue result (keys_in slots.old entry.entry.tid ≢ None) }
+    ensures met { (page : List ℕ) (i : ℕ) → LiesPlain page i entry.entry.tid entry.entry.body.now
+        → entry.entry.killed ≡ is_dead (item_of page i).flag → IsRead (tree_columns columns.now) page i
+        → HaveMet (entries_at (tree_columns columns.now) page i) slots.old slots.new }
+{
+    if entry.killed {
+        return false;
+    }
+    if !slots.covers(entry.tid.block) {
+        return false;
+    }
+    if meet_number(slots, columns, entry) {
+        return true;
+    }
+    if !slots.meet_plain(entry.tid, columns, entry.body) {
+        meet_body(slots, columns, entry.tid, entry.body);
+    }
+    false
+}
+
+// Meets the rows that a data item of a leaf names, none of whose entries is killed.
+pub(crate) fn meet_item(
+    slots: &mut RowSlots,
+    columns: &IndexColumns<'_>,
+    page: PageView<'_>,
+    i: u16,
+)
     requires page { page_rule_of PageKind.Tree (page_bytes page) ≡ None }
     requires first { 1 ≤ i }
     requires last { i ≤ count_of (page_bytes page) }
     ensures { IsRead (tree_columns columns.now) (page_bytes page.entry) i
         → HaveMet (entries_at (tree_columns columns.now) (page_bytes page.entry) i) slots.old slots.new }
 {
-    let Some(entry) = plain_entry(page, i) else {
-        meet_any_item(slots, columns, page, i);
-        return;
-    };
-    if entry.killed {
-        return;
-    }
-    if !slots.meet_plain(entry.tid, columns, entry.body) {
-        meet_body(slots, columns, entry.tid, entry.body);
+    match plain_entry(page, i) {
+        Some(entry) => {
+            meet_entry(slots, columns, entry);
+        }
+        None => meet_any_item(slots, columns, page, i),
     }
 }
 

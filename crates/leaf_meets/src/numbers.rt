@@ -33,7 +33,11 @@ fn lone_number(columns: &IndexColumns<'_>, body: &[u8]) -> Option<i64>
 /// Meets the row that an entry names, where the entry isn't killed, its one value is a number, and the row has it, as
 /// their bytes tell; whether it did. `false` changes nothing, and says nothing else.
 #[inline]
-pub fn meet_number(slots: &mut RowSlots, columns: &IndexColumns<'_>, entry: PlainEntry<'_>) -> bool
+pub(crate) fn meet_number(
+    slots: &mut RowSlots,
+    columns: &IndexColumns<'_>,
+    entry: PlainEntry<'_>,
+) -> bool
     ensures kept { OnTrue result (keys_in slots.old entry.entry.tid ≢ None) }
     ensures met { OnTrue result ((page : List ℕ) (i : ℕ) → LiesPlain page i entry.entry.tid entry.entry.body.now
         → entry.entry.killed ≡ is_dead (item_of page i).flag → IsRead (tree_columns columns.now) page i

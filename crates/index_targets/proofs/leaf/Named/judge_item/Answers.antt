@@ -1,5 +1,5 @@
-use Rattle.std.proofs.Common.{◌∙◌, ◌≤◌, [], ap, arith, subst, sym}
-use Rattle.std.proofs.lemmas.Bool.{OnFalse_at, OnTrue_at}
+use Rattle.std.proofs.Common.{◌∙◌, ◌≤◌, ap, arith, subst, sym}
+use Rattle.std.proofs.lemmas.Bool.{OnTrue_at}
 use Rattle.outside.specs.Adds.{AddsIn}
 use Rattle.page_layout.specs.View.{page_bytes}
 use Rattle.tree_image.specs.Image.{first_data}
@@ -8,8 +8,6 @@ use Rattle.reports.specs.Lists.{Lists}
 use Rattle.root_set.specs.Targets.{is_in}
 use Rattle.key_attrs.specs.Columns.{tree_columns}
 use Rattle.apart_keys.proofs.Steps.{rises-past}
-use Rattle.leaf_meets.specs.Meeting.{entries_at}
-use Rattle.leaf_meets.proofs.Meets.{met-then}
 use Rattle.index_targets.proofs.Lists.{high-key, known-tid, plain-gives}
 use Rattle.index_targets.proofs.leaf.Named.judge_item.Goals as goal
 
@@ -27,29 +25,28 @@ returns-then-at-first_data-clause-rise c =
     rises-past (tree_columns c.args.self.columns) (page_bytes c.args.page) c.args.at.item c.args.seen.now.rise (omega (arith, c.if-at-first_data.true, c.first_data.ensures))
 
 -- it met its row by its number
-pub returns-then-meet_number-clause-met : goal.returns-then-meet_number-clause-met
-returns-then-meet_number-clause-met c from read =
-    OnTrue_at c.if-meet_number.true c.meet_number.ensures.met (page_bytes c.args.page) c.args.at.item c.in-Some.ensures.0 c.in-Some.ensures.1 read
+pub returns-then-meet_entry-clause-met : goal.returns-then-meet_entry-clause-met
+returns-then-meet_entry-clause-met c from read =
+    c.meet_entry.ensures.met (page_bytes c.args.page) c.args.at.item c.in-Some.ensures.0 c.in-Some.ensures.1 read
 
-pub returns-then-meet_number-clause-lists : goal.returns-then-meet_number-clause-lists
-returns-then-meet_number-clause-lists c targets read =
+pub returns-then-meet_entry-clause-lists : goal.returns-then-meet_entry-clause-lists
+returns-then-meet_entry-clause-lists c targets read =
     let self = c.args.self in
     let page = page_bytes c.args.page in
     let from : first_data page ≤ c.args.at.item = omega (arith, c.if-at-first_data.false, c.first_data.ensures) in
     let entry = c.in-Some.entry in
     let is = plain-gives self.number (tree_columns self.columns) (is_in self.targets.now) c.args.at.block page c.args.at.item entry.tid entry.body.now from (read from) c.in-Some.ensures.0 in
-    let known = targets entry.tid (OnTrue_at c.if-meet_number.true c.meet_number.ensures.kept) in
+    let known = targets entry.tid (OnTrue_at c.if-meet_entry.true c.meet_entry.ensures.kept) in
     sym (report_lists.with_none c.args.report.now)
     ∙ ap (joined c.args.report.now) (sym (is ∙ known-tid self.number (is_in self.targets.now) c.args.at.block c.args.at.item entry.tid known))
 
-pub returns-then-meet_number-clause-rise : goal.returns-then-meet_number-clause-rise
-returns-then-meet_number-clause-rise c = c.add.ensures (page_bytes c.args.page) c.args.at.item c.in-Some.entry.tid c.in-Some.ensures.0 (omega (arith, c.if-at-first_data.false, c.first_data.ensures))
+pub returns-then-meet_entry-clause-rise : goal.returns-then-meet_entry-clause-rise
+returns-then-meet_entry-clause-rise c = c.add.ensures (page_bytes c.args.page) c.args.at.item c.in-Some.entry.tid c.in-Some.ensures.0 (omega (arith, c.if-at-first_data.false, c.first_data.ensures))
 
 -- it is one entry, and didn't
 pub returns-in-Some-clause-met : goal.returns-in-Some-clause-met
 returns-in-Some-clause-met c from read =
-    met-then [] (entries_at (tree_columns c.args.self.columns) (page_bytes c.args.page) c.args.at.item) c.args.slots.now c.meet_number.new.slots c.meet_item.new.slots
-    (OnFalse_at c.if-meet_number.false c.meet_number.ensures.same) (c.meet_item.ensures read)
+    c.meet_entry.ensures.met (page_bytes c.args.page) c.args.at.item c.in-Some.ensures.0 c.in-Some.ensures.1 read
 
 pub returns-in-Some-clause-lists : goal.returns-in-Some-clause-lists
 returns-in-Some-clause-lists c targets read =
@@ -65,7 +62,7 @@ returns-in-Some-clause-rise c = c.add.ensures (page_bytes c.args.page) c.args.at
 
 -- it is of another form
 pub returns-clause-met : goal.returns-clause-met
-returns-clause-met c from read = c.meet_item-2.ensures read
+returns-clause-met c from read = c.meet_any_item.ensures read
 
 pub returns-clause-lists : goal.returns-clause-lists
 returns-clause-lists c targets read = c.judge_any_item.ensures (read (omega (arith, c.if-at-first_data.false, c.first_data.ensures)))
