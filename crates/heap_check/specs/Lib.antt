@@ -1,7 +1,6 @@
 pub mod Rows
 pub mod RowFits
 pub mod RowRoots
-pub mod RowStates
 pub mod RowValues
 pub mod RowPages
 pub mod RowCursor

@@ -7,7 +7,6 @@ mod row_cursor;
 mod row_laws;
 mod row_page;
 mod row_roots;
-mod row_states;
 mod row_values;
 mod rows;
 

@@ -18,8 +18,8 @@ ghost use Rattle.heap_check.specs.RowValues.{AreStarts};
 
 use crate::row_cursor::RowCursor;
 use crate::row_page::tuple_attributes;
-use crate::row_states::line_pointer;
 use crate::row_values::{AskedColumns, start_at};
+use item_states::line_pointer;
 use key_orders::{ColType, KeyRefs, MAX_KEY_COLUMNS, ValueRef, value_of};
 use outside::NoMemory;
 use page_layout::MAX_ITEMS;

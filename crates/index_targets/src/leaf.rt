@@ -22,16 +22,13 @@ use bt_steps::is_live_leaf;
 use bt_tuples::{Spot3, TidList, TreeItem, plain_entry, tree_item};
 use key_attrs::IndexColumns;
 use key_orders::Tid;
-use leaf_meets::{RowsAhead, glanced_tid, meet_any_item, meet_entry};
+use leaf_meets::{RowsAhead, are_far, glanced_tid, meet_any_item, meet_entry};
 use outside::NoMemory;
 use page_layout::{PageKind, PageView, Rule};
 use reports::{Place, Report};
 use root_set::RootSet;
 use row_slots::RowSlots;
 use tree_image::first_data;
-
-// What the set has of so many blocks is at hand without further ado, once a few of them were asked for.
-const NEAR: u32 = 64;
 
 /// An index, by its number in the case, from 1, and its columns; and the set of what its entries may name.
 #[derive(Clone, Copy)]
@@ -290,7 +287,7 @@ impl Named<'_> {
             return;
         }
         if let (Some(first), Some(last)) = (glanced_tid(page, 2), glanced_tid(page, count)) {
-            if NEAR < first.block.abs_diff(last.block) {
+            if are_far(first, last) {
                 self.touch(page, seen, slots);
             }
         }

@@ -11,6 +11,13 @@ const MOST: usize = 512;
 // What is kept of the rows of so many blocks is at hand without further ado, once a few of them were looked at.
 const NEAR: u32 = 64;
 
+/// Whether the rows that the first and the last entry of a leaf name are of blocks far from each other, so that those
+/// of its entries are to be read ahead. In an index in the order of its rows they are near.
+#[inline]
+pub fn are_far(first: Tid, last: Tid) -> bool {
+    NEAR < first.block.abs_diff(last.block)
+}
+
 /// The line pointers that entries of a leaf name, at most 512 of them. What they are means nothing for an answer: what
 /// is kept of their rows is read ahead.
 #[derive(Drop)]
@@ -55,12 +62,11 @@ impl RowsAhead {
         }
     }
 
-    /// The line pointers; none where the first and the last are of blocks near each other, as in an index in the order
-    /// of its rows.
+    /// The line pointers; none where the first and the last aren't far from each other.
     pub fn as_slice(&self) -> &[Tid] {
         let tids = &self.tids[..self.count.min(MOST)];
         match (tids.first(), tids.last()) {
-            (Some(first), Some(last)) if NEAR < first.block.abs_diff(last.block) => tids,
+            (Some(first), Some(last)) if are_far(*first, *last) => tids,
             _ => &[],
         }
     }

@@ -6,6 +6,6 @@ mod meet;
 mod near;
 mod numbers;
 
-pub use ahead::RowsAhead;
+pub use ahead::{RowsAhead, are_far};
 pub use meet::{meet_any_item, meet_entry, meet_page};
 pub use near::{HeapRange, Near, glanced_tid, meet_near};

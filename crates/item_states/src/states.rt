@@ -10,7 +10,7 @@ ghost use Rattle.liveness.specs.LogFiles.{log_files_of, logs_of};
 ghost use Rattle.liveness.specs.declared.states.ItemState.TheVariants.{Tuple};
 ghost use Rattle.heap_pages.specs.States.{AreStatesOf, IsStateOf};
 ghost use Rattle.heap_pages.specs.Table.{Table, logs_in};
-ghost use Rattle.heap_check.specs.RowStates.{AreInPlace};
+ghost use Rattle.item_states.specs.Places.{AreInPlace};
 
 use heap_pages::push_state;
 use heap_tuples::tuple_in;
@@ -22,7 +22,7 @@ use std::alloc::Global;
 use tuple_head::heap_head;
 
 /// The line pointer of an item, counted from 1, of whatever page: it asks nothing of the page's header.
-pub(crate) fn line_pointer(page: &[u8; 8192], item: u16) -> LinePtr
+pub fn line_pointer(page: &[u8; 8192], item: u16) -> LinePtr
     requires first { 1 ≤ item }
     requires last { item ≤ 2042 }
     ensures { result ≡ item_of page.now item }
@@ -114,7 +114,7 @@ fn fill_states<F: Transactions>(
 
 /// Finds the states of the items of a page, by their line pointers, headers and the logs, in place of others.
 /// It judges nothing else: they are those of the page's items where each tuple lies where it may.
-pub(crate) fn find_states<F: Files>(
+pub fn find_states<F: Files>(
     alloc: Global,
     files: &mut F,
     logs: &Status3<'_>,

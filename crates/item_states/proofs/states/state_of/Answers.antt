@@ -2,8 +2,8 @@ use Rattle.std.proofs.lemmas.Result.{IfOk-weaker}
 use Rattle.page_layout.specs.View.{page_bytes}
 use Rattle.liveness.specs.LogFiles.{log_files_of, logs_of}
 use Rattle.heap_pages.specs.States.{dead, unused}
-use Rattle.heap_check.proofs.RowStates.{flag_at, normal_is_state, redirect_is_state}
-use Rattle.heap_check.proofs.row_states.state_of.Goals as goal
+use Rattle.item_states.proofs.StateLaws.{flag_at, normal_is_state, redirect_is_state}
+use Rattle.item_states.proofs.states.state_of.Goals as goal
 
 pub returns-in-Normal-clause-told : goal.returns-in-Normal-clause-told
 returns-in-Normal-clause-told g c =

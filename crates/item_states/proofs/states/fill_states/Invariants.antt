@@ -3,9 +3,9 @@ use Rattle.outside.specs.Outside.{IfTold, Passed}
 use Rattle.page_layout.specs.View.{page_bytes}
 use Rattle.liveness.specs.LogFiles.{log_files_of, logs_of}
 use Rattle.heap_pages.specs.Table.{Table, logs_in}
-use Rattle.heap_check.specs.RowStates.{AreInPlace}
-use Rattle.heap_check.proofs.RowStates.{AreStatesUpto}
-use Rattle.heap_check.proofs.row_states.fill_states.Given as goal
+use Rattle.item_states.specs.Places.{AreInPlace}
+use Rattle.item_states.proofs.StateLaws.{AreStatesUpto}
+use Rattle.item_states.proofs.states.fill_states.Given as goal
 
 -- the items so far have their states
 abbrev pub invariant-loop-k : goal.invariant-loop-k

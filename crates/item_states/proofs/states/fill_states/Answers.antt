@@ -3,8 +3,8 @@ use Rattle.std.proofs.lemmas.List.{length-append}
 use Rattle.outside.proofs.Asking.{Passed-next, Passed-none}
 use Rattle.page_layout.specs.View.{page_bytes}
 use Rattle.liveness.specs.declared.states.ItemState.{ItemState}
-use Rattle.heap_check.proofs.RowStates.{next_upto, none_upto}
-use Rattle.heap_check.proofs.row_states.fill_states.Goals as goal
+use Rattle.item_states.proofs.StateLaws.{next_upto, none_upto}
+use Rattle.item_states.proofs.states.fill_states.Goals as goal
 
 pub loop-k-init : goal.loop-k-init
 loop-k-init g c = record {
