@@ -6,7 +6,8 @@ ghost use Rattle.stored_keys.specs.Stored.{tagged_read, value_read};
 
 use key_orders::ValueRef;
 
-fn read_int(bytes: &[u8]) -> (ValueRef<'_>, &[u8])
+#[inline]
+pub(crate) fn read_int(bytes: &[u8]) -> (ValueRef<'_>, &[u8])
     ensures value { value_shown result.0 ≡ (int_read bytes.now).0 }
     ensures rest { result.1.now ≡ (int_read bytes.now).1 }
 {
@@ -19,7 +20,8 @@ fn read_int(bytes: &[u8]) -> (ValueRef<'_>, &[u8])
     }
 }
 
-fn read_small(bytes: &[u8]) -> (ValueRef<'_>, &[u8])
+#[inline]
+pub(crate) fn read_small(bytes: &[u8]) -> (ValueRef<'_>, &[u8])
     ensures value { value_shown result.0 ≡ (small_read bytes.now).0 }
     ensures rest { result.1.now ≡ (small_read bytes.now).1 }
 {

@@ -1,5 +1,5 @@
 //! Whether a key that lies among bytes is one that is at hand.
-ghost use Rattle.std.specs.Prelude.{◌≡◌, ◌++◌, ◌∷◌, [], IfSome, drop, is_some, length, map};
+ghost use Rattle.std.specs.Prelude.{◌≡◌, ◌∷◌, [], IfSome, is_some, length, map};
 ghost use Rattle.std.specs.Bool.{OnTrue};
 ghost use Rattle.key_orders.specs.Values.{value_shown};
 ghost use Rattle.key_orders.specs.declared.columns.Value.TheVariants as Shown;
@@ -7,9 +7,8 @@ ghost use Rattle.stored_keys.specs.Same.{same_key, same_value};
 ghost use Rattle.stored_keys.specs.Rows.{row_values};
 ghost use Rattle.stored_keys.specs.Stored.{key_read, value_read, values_left, values_read};
 
-use crate::read::read_value;
+use crate::read::{read_int, read_small, read_value};
 use crate::values::RowValues;
-use crate::write::LARGE;
 use key_orders::ValueRef;
 
 // Whether two values are the same.
@@ -81,33 +80,26 @@ pub fn is_stored(bytes: &[u8], values: RowValues<'_>) -> bool
     }
 }
 
-// Whether bytes begin with these.
-#[inline]
-fn begins_with(bytes: &[u8], written: &[u8]) -> bool
-    ensures { OnTrue result (bytes.now ≡ written.now ++ drop (length written.now) bytes.now) }
-{
-    match bytes.split_at_checked(written.len()) {
-        Some((held, _)) => held == written,
-        None => false,
-    }
-}
-
 /// Whether what lies at the beginning is the key that is this number, as it is written. `false` says nothing.
 #[inline]
+#[tactic(auto, unfolding(crate::specs::Stored::key_read, crate::specs::Stored::value_read))]
 pub fn is_number(bytes: &[u8], number: i64) -> bool
     ensures { OnTrue result (key_read bytes.now ≡ Shown.Int number ∷ []) }
 {
-    let bits = number.cast_unsigned();
-    if bits < LARGE {
-        let b = (bits as u32).to_le_bytes();
-        begins_with(bytes, &[1, 6, b[0], b[1], b[2], b[3]])
-    } else {
-        let b = bits.to_le_bytes();
-        begins_with(
-            bytes,
-            &[1, 3, b[0], b[1], b[2], b[3], b[4], b[5], b[6], b[7]],
-        )
+    let Some((count, values)) = bytes.split_first() else {
+        return false;
+    };
+    let Some((tag, left)) = values.split_first() else {
+        return false;
+    };
+    if *count != 1 {
+        return false;
     }
+    let number = ValueRef::Int(number);
+    if *tag == 6 {
+        return same_value(read_small(left).0, number);
+    }
+    *tag == 3 && same_value(read_int(left).0, number)
 }
 
 // What is left behind these bytes, if they stand at the beginning as fewer than 256 bytes do.

@@ -17,8 +17,8 @@ const MOST: usize = 0xffff_fff0;
 /// How many bytes a value takes at most that an index may have: no page holds a longer one.
 pub const LONGEST_VALUE: usize = 8197;
 
-/// The first number that doesn't fit in 4 bytes.
-pub(crate) const LARGE: u64 = 0x1_0000_0000;
+// The first number that doesn't fit in 4 bytes.
+const LARGE: u64 = 0x1_0000_0000;
 
 // Adds bytes where there is room, which takes no memory.
 fn push_bytes(arena: &mut Vec<u8>, bytes: &[u8])
