@@ -10,9 +10,9 @@ use Rattle.stored_keys.specs.RowLists.{LiesAt, keys_read}
 use Rattle.stored_keys.specs.Stored.{key_read, stored_key}
 use Rattle.stored_keys.proofs.RowLaws.{read_there}
 use Rattle.row_slots.specs.BlockRows.{AreFree, AreSlots, is_among, key_at, rows_at}
-use Rattle.row_slots.specs.Slots.{AreKept, AreStarts, is_item_of, is_within, key_of, keys_of, keys_with_rows, slot_of}
+use Rattle.row_slots.specs.Slots.{AreKept, AreStarts, NUMBERS, is_item_of, is_within, key_of, keys_of, keys_with_rows, number_bytes, slot_of}
 use Rattle.row_slots.proofs.BlockLaws.{bool_ext}
-use Rattle.row_slots.proofs.PutLaws.{kept_set, key_of_some, still}
+use Rattle.row_slots.proofs.PutLaws.{kept_set, kept_with_number, key_of_number, key_of_some, still}
 use Rattle.row_slots.proofs.SlotLaws.{Within, both, is_within_tells, slot_found, within_is}
 use Rattle.row_slots.proofs.WholeLaws.{empty_slot, full_slot}
 
@@ -21,17 +21,32 @@ use Rattle.row_slots.proofs.WholeLaws.{empty_slot, full_slot}
 pub row_kept : (records arena : List ℕ) (slot at : ℕ) → slot < length records → LiesAt arena at → AreKept records arena → AreKept (slice_set records slot (at + 1)) arena
 row_kept records arena slot at low lies kept = kept_set records arena slot (at + 1) at low refl lies kept
 
-pub row_put : (records arena : List ℕ) (slot at : ℕ) → slot < length records → LiesAt arena at
+pub row_put : (records arena : List ℕ) (slot at : ℕ) → slot < length records → at + 1 < NUMBERS → LiesAt arena at
     → (k : ℕ) → key_at (slice_set records slot (at + 1)) arena k ≡ cond (k == slot) (Some (key_read (drop at arena))) (key_at records arena k)
-row_put records arena slot at low lies k = elim (cases_eq k slot) [
+row_put records arena slot at low small lies k = elim (cases_eq k slot) [
   | inl same ↦
       (λ i. key_of arena ((ap (λ j. get_or (slice_set records slot (at + 1)) j 0) same ∙ get_or-set_same records slot (at + 1) 0 low) i))
-      ∙ key_of_some arena at lies
+      ∙ key_of_some arena at lies small
       ∙ ap (λ key. Some key) (sym (read_there arena at lies))
       ∙ sym (ap (λ (b : Bool). cond b (Some (key_read (drop at arena))) (key_at records arena k)) (eq-eqb k slot same))
   | inr other ↦
       (λ i. key_of arena (get_or-set_other records slot k (at + 1) 0 other i))
       ∙ sym (ap (λ (b : Bool). cond b (Some (key_read (drop at arena))) (key_at records arena k)) (ne_eqb k slot other))
+]
+
+pub number_kept : (records arena : List ℕ) (slot n : ℕ) → slot < length records → AreKept records arena → AreKept (slice_set records slot (NUMBERS + n)) arena
+number_kept records arena slot n low kept = kept_with_number records arena slot n low kept
+
+pub number_put : (records arena : List ℕ) (slot n : ℕ) → slot < length records
+    → (k : ℕ) → key_at (slice_set records slot (NUMBERS + n)) arena k ≡ cond (k == slot) (Some (key_read (number_bytes n))) (key_at records arena k)
+number_put records arena slot n low k = elim (cases_eq k slot) [
+  | inl same ↦
+      (λ i. key_of arena ((ap (λ j. get_or (slice_set records slot (NUMBERS + n)) j 0) same ∙ get_or-set_same records slot (NUMBERS + n) 0 low) i))
+      ∙ key_of_number arena n
+      ∙ sym (ap (λ (b : Bool). cond b (Some (key_read (number_bytes n))) (key_at records arena k)) (eq-eqb k slot same))
+  | inr other ↦
+      (λ i. key_of arena (get_or-set_other records slot k (NUMBERS + n) 0 other i))
+      ∙ sym (ap (λ (b : Bool). cond b (Some (key_read (number_bytes n))) (key_at records arena k)) (ne_eqb k slot other))
 ]
 
 -- Several
@@ -80,6 +95,23 @@ one_row records arena slot rows i k key mid new is before put = put ∙ elim (ca
       (λ h. let a = among_tells slot (i + 1) k h in among_is slot i k a.0 (omega (arith, a.0, a.1))))
 ]
 
+-- what the first so many rows leave outside of all
+pub outside_same : (records arena : List ℕ) (slot : ℕ) (rows : List (List Value)) (i count k : ℕ) → i ≤ count → is_among slot count k ≡ false
+    → rows_at records arena slot rows i k ≡ key_at records arena k
+outside_same records arena slot rows i count k le out =
+    ap (λ (b : Bool). cond b (slice_get rows (k - slot)) (key_at records arena k))
+    (not_among slot i k (λ h. omega (arith, ap as_number (sym (among_is slot count k h.0 (omega (arith, h.1))) ∙ out))))
+
+-- which slots these are plays no part in what they say then
+pub over_others : (mid old arena : List ℕ) (slot : ℕ) (rows : List (List Value)) (count k : ℕ)
+    → (is_among slot count k ≡ false → key_at mid arena k ≡ key_at old arena k)
+    → rows_at mid arena slot rows count k ≡ rows_at old arena slot rows count k
+over_others mid old arena slot rows count k same = by (is_among slot count k) refl
+  where
+    by : (b : Bool) → is_among slot count k ≡ b → rows_at mid arena slot rows count k ≡ rows_at old arena slot rows count k
+    by true e = (λ i. cond (e i) (slice_get rows (k - slot)) (key_at mid arena k)) ∙ sym (λ i. cond (e i) (slice_get rows (k - slot)) (key_at old arena k))
+    by false e = (λ i. cond (e i) (slice_get rows (k - slot)) (key_at mid arena k)) ∙ same e ∙ sym (λ i. cond (e i) (slice_get rows (k - slot)) (key_at old arena k))
+
 -- Rows behind others
 
 abbrev pub lies_behind : (front bytes : List ℕ) (at : ℕ) → LiesAt bytes at → LiesAt (front ++ bytes) (length front + at)
@@ -100,7 +132,7 @@ lies_inside bytes at lies =
 pub count_read : (starts bytes : List ℕ) (rows : List (List Value)) → keys_read starts bytes ≡ rows → length rows ≡ length starts
 count_read starts bytes rows are = sym (ap length are) ∙ length-map starts (λ start. key_read (drop start bytes))
 
-get-read : (starts bytes : List ℕ) (i : ℕ) → i < length starts → slice_get (keys_read starts bytes) i ≡ Some (key_read (drop (get_or starts i 0) bytes))
+pub get-read : (starts bytes : List ℕ) (i : ℕ) → i < length starts → slice_get (keys_read starts bytes) i ≡ Some (key_read (drop (get_or starts i 0) bytes))
 get-read [] bytes i low = absurd (omega (arith, low))
 get-read (at ∷ starts) bytes zero low = refl
 get-read (at ∷ starts) bytes (suc i) low = get-read starts bytes i (omega (arith, low))

@@ -1,4 +1,5 @@
 pub mod MetLaws
+pub mod NumberLaws
 pub mod SlotLaws
 pub mod PutLaws
 pub mod BlockLaws

@@ -1,8 +1,8 @@
 -- A key that is put behind the others.
-use Rattle.std.proofs.Common.{◌≡◌, ◌∙◌, ℕ, ◌+◌, ◌-◌, ◌<◌, Bool, true, false, List, [], ◌∷◌, ◌++◌, length, get_or, drop, take, refl, ap, sym, subst, arith, inl, inr, append_assoc, append-nil}
+use Rattle.std.proofs.Common.{◌≡◌, ◌∙◌, ℕ, ◌+◌, ◌-◌, ◌<◌, ◌≤◌, Bool, true, false, List, [], ◌∷◌, ◌++◌, length, get_or, drop, take, refl, ap, sym, subst, arith, inl, inr, append_assoc, append-nil}
 use Rattle.std.proofs.Common.{get_or-set_other, get_or-set_same}
-use Rattle.std.specs.Prelude.{cond, Some, None, slice_set}
-use Rattle.std.proofs.lemmas.Bool.{cases_eq, eq-eqb, ne_eqb}
+use Rattle.std.specs.Prelude.{◌≢◌, cond, Some, None, slice_set}
+use Rattle.std.proofs.lemmas.Bool.{cases_eq, cases_lt, eq-eqb, le-ltb, lt-ltb, ne_eqb}
 use Rattle.std.specs.List.{flat_map}
 use Rattle.std.proofs.lemmas.List.{drop_all, length-set, take_all}
 use Rattle.std.proofs.lemmas.List.Concat.{flat_map-append}
@@ -14,19 +14,38 @@ use Rattle.stored_keys.specs.Stored.{IsStorable, key_read, stored_key, stored_va
 use Rattle.stored_keys.proofs.RowLaws.{lies_more, read_there}
 use Rattle.row_slots.specs.Met.{same_tid}
 use Rattle.row_slots.specs.declared.slots.BegunRow.{BegunRow}
-use Rattle.row_slots.specs.Slots.{AreBits, AreKept, AreStarts, IsBegunRow, Tables, found_slot, is_within, key_of, keys_of, keys_with, slot_of}
+use Rattle.row_slots.specs.Slots.{AreBits, AreKept, AreStarts, IsBegunRow, NUMBERS, Tables, found_slot, is_within, key_of, keys_of, keys_with, number_bytes, slot_bytes, slot_of}
 use Rattle.row_slots.proofs.SlotLaws.{Within, found_below, found_some, is_within_tells, slot_test, tid_is}
 
 abbrev as_number : Bool → ℕ
 as_number true = 1
 as_number false = 0
 
-pub key_of_some : (arena : List ℕ) (r : ℕ) (lies : LiesAt arena r) → key_of arena (r + 1) ≡ Some lies.key
+-- a slot with a place
+pub in_arena : (arena : List ℕ) (r : ℕ) → r < NUMBERS → slot_bytes arena r ≡ drop (r - 1) arena
+in_arena arena r low = ap (λ (b : Bool). cond b (drop (r - 1) arena) (number_bytes (r - NUMBERS))) (lt-ltb r NUMBERS low)
+
+-- a slot with a number
+pub in_slot : (arena : List ℕ) (r : ℕ) → NUMBERS ≤ r → slot_bytes arena r ≡ number_bytes (r - NUMBERS)
+in_slot arena r high = ap (λ (b : Bool). cond b (drop (r - 1) arena) (number_bytes (r - NUMBERS))) (le-ltb r NUMBERS high)
+
+pub key_some : (arena : List ℕ) (r : ℕ) → r ≢ 0 → key_of arena r ≡ Some (key_read (slot_bytes arena r))
 unfolding key_of
-key_of_some arena r lies =
+key_some arena r some = ap (λ b. cond b None (Some (key_read (slot_bytes arena r)))) (ne_eqb r 0 some)
+
+pub key_of_some : (arena : List ℕ) (r : ℕ) (lies : LiesAt arena r) → r + 1 < NUMBERS → key_of arena (r + 1) ≡ Some lies.key
+key_of_some arena r lies low =
     let back : r + 1 - 1 ≡ r = omega arith in
-    ap (λ b. cond b None (Some (key_read (drop (r + 1 - 1) arena)))) (ne_eqb (r + 1) 0 (λ e. omega arith))
-    ∙ (ap (λ k. Some (key_read (drop k arena))) back ∙ ap (λ k. Some k) (read_there arena r lies))
+    key_some arena (r + 1) (λ e. omega arith)
+    ∙ ap (λ k. Some (key_read k)) (in_arena arena (r + 1) low ∙ ap (λ k. drop k arena) back)
+    ∙ ap (λ k. Some k) (read_there arena r lies)
+
+-- that of a number
+pub key_of_number : (arena : List ℕ) (n : ℕ) → key_of arena (NUMBERS + n) ≡ Some (key_read (number_bytes n))
+key_of_number arena n =
+    let back : NUMBERS + n - NUMBERS ≡ n = omega arith in
+    key_some arena (NUMBERS + n) (λ e. omega arith)
+    ∙ ap (λ k. Some (key_read k)) (in_slot arena (NUMBERS + n) (omega arith) ∙ ap number_bytes back)
 
 none_more : (arena more : List ℕ) → key_of (arena ++ more) 0 ≡ key_of arena 0
 unfolding key_of
@@ -37,18 +56,27 @@ pub still : (records arena more : List ℕ) (k : ℕ) → AreKept records arena 
 unfolding AreKept
 still records arena more k kept = elim (cases_eq (get_or records k 0) 0) [
   | inl none ↦ (λ i. key_of (arena ++ more) (none i)) ∙ (none_more arena more ∙ (λ i. key_of arena (sym none i)))
-  | inr some ↦
-      let r : ℕ = get_or records k 0 - 1 in
-      let e : get_or records k 0 ≡ r + 1 = omega arith in
-      let lies : LiesAt arena r = kept k r e in
-      (λ i. key_of (arena ++ more) (e i))
-      ∙ (key_of_some (arena ++ more) r (lies_more arena more r lies) ∙ (sym (key_of_some arena r lies) ∙ (λ i. key_of arena (sym e i))))
+  | inr some ↦ elim (cases_lt (get_or records k 0) NUMBERS) [
+    | inl low ↦
+        let r : ℕ = get_or records k 0 - 1 in
+        let e : get_or records k 0 ≡ r + 1 = omega arith in
+        let less : r + 1 < NUMBERS = omega arith in
+        let lies : LiesAt arena r = kept k r e less in
+        (λ i. key_of (arena ++ more) (e i))
+        ∙ (key_of_some (arena ++ more) r (lies_more arena more r lies) less
+        ∙ (sym (key_of_some arena r lies less) ∙ (λ i. key_of arena (sym e i))))
+    | inr high ↦
+        let n : ℕ = get_or records k 0 - NUMBERS in
+        let e : get_or records k 0 ≡ NUMBERS + n = omega arith in
+        (λ i. key_of (arena ++ more) (e i))
+        ∙ (key_of_number (arena ++ more) n ∙ (sym (key_of_number arena n) ∙ (λ i. key_of arena (sym e i))))
+  ]
 ]
 
 -- bytes that come behind change nothing of it
 pub kept_grow : (records arena more : List ℕ) → AreKept records arena → AreKept records (arena ++ more)
 unfolding AreKept
-kept_grow records arena more kept = λ k r e. lies_more arena more r (kept k r e)
+kept_grow records arena more kept = λ k r e low. lies_more arena more r (kept k r e low)
 
 pub keys_grow : (first : ℕ) (starts records arena more : List ℕ) → AreKept records arena
     → keys_of first starts records (arena ++ more) ≡ keys_of first starts records arena
@@ -58,12 +86,13 @@ keys_grow first starts records arena more kept = λ i t. cond (is_within first s
 -- A row that is begun, and kept
 
 pub no_values : (t : Tables) (row : BegunRow) (tid : Tid) (before : List ℕ) (count : ℕ) → Some row.slot ≡ found_slot t.first t.starts tid
-    → get_or t.records row.slot 0 ≡ 0 → row.place ≡ length before + 1 → t.arena ≡ before ++ count ∷ [] → IsBegunRow t row tid count []
-no_values t row tid before count slot free place bytes = record {
+    → get_or t.records row.slot 0 ≡ 0 → row.place ≡ length before + 1 → row.place < NUMBERS → t.arena ≡ before ++ count ∷ [] → IsBegunRow t row tid count []
+no_values t row tid before count slot free place low bytes = record {
   slot_is = slot;
   free = free;
   before = before;
   place_is = place;
+  low = low;
   storable = All-nil IsStorable;
   bytes = bytes;
 }
@@ -75,6 +104,7 @@ one_value t arena row tid count values v storable is begun = record {
   free = begun.free;
   before = begun.before;
   place_is = begun.place_is;
+  low = begun.low;
   storable = All-append IsStorable values (v ∷ []) begun.storable (All-cons IsStorable v [] storable (All-nil IsStorable));
   bytes =
       is ∙ ap (λ w. w ++ stored_value v) begun.bytes
@@ -95,19 +125,28 @@ lies_written t row tid values begun = record {
 pub kept_set : (records arena : List ℕ) (slot place r : ℕ) → slot < length records → place ≡ r + 1 → LiesAt arena r
     → AreKept records arena → AreKept (slice_set records slot place) arena
 unfolding AreKept
-kept_set records arena slot place r within is lies kept = λ k q e. elim (cases_eq k slot) [
+kept_set records arena slot place r within is lies kept = λ k q e low. elim (cases_eq k slot) [
   | inl same ↦
       let here : get_or (slice_set records slot place) k 0 ≡ place = ap (λ j. get_or (slice_set records slot place) j 0) same ∙ get_or-set_same records slot place 0 within in
       let there : r ≡ q = omega arith in
       subst (LiesAt arena) there lies
-  | inr other ↦ kept k q (sym (get_or-set_other records slot k place 0 other) ∙ e)
+  | inr other ↦ kept k q (sym (get_or-set_other records slot k place 0 other) ∙ e) low
+]
+
+pub kept_with_number : (records arena : List ℕ) (slot n : ℕ) → slot < length records → AreKept records arena → AreKept (slice_set records slot (NUMBERS + n)) arena
+unfolding AreKept
+kept_with_number records arena slot n within kept = λ k q e low. elim (cases_eq k slot) [
+  | inl same ↦
+      let here : get_or (slice_set records slot (NUMBERS + n)) k 0 ≡ NUMBERS + n = ap (λ j. get_or (slice_set records slot (NUMBERS + n)) j 0) same ∙ get_or-set_same records slot (NUMBERS + n) 0 within in
+      absurd (omega (arith, low))
+  | inr other ↦ kept k q (sym (get_or-set_other records slot k (NUMBERS + n) 0 other) ∙ e) low
 ]
 
 pub keys_set : (first : ℕ) (starts records arena : List ℕ) (tid : Tid) (slot place r : ℕ) → AreStarts starts records
-    → Some slot ≡ found_slot first starts tid → place ≡ r + 1 → (lies : LiesAt arena r)
+    → Some slot ≡ found_slot first starts tid → place ≡ r + 1 → place < NUMBERS → (lies : LiesAt arena r)
     → keys_of first starts (slice_set records slot place) arena ≡ keys_with (keys_of first starts records arena) tid lies.key
 unfolding keys_of
-keys_set first starts records arena tid slot place r are e place_is lies = λ i t. by t (is_within first starts t) refl i
+keys_set first starts records arena tid slot place r are e place_is low lies = λ i t. by t (is_within first starts t) refl i
   where
     new : List ℕ
     new = slice_set records slot place
@@ -128,7 +167,7 @@ keys_set first starts records arena tid slot place r are e place_is lies = λ i 
     value : key_of arena (get_or new slot 0) ≡ Some lies.key
     value =
         (λ i. key_of arena ((get_or-set_same records slot place 0 (found_below first starts records tid slot are e) ∙ place_is) i))
-        ∙ key_of_some arena r lies
+        ∙ key_of_some arena r lies (omega (arith, place_is, low))
 
     differs : (t : Tid) → Within first starts t → same_tid t tid ≡ false → slot_of first starts t ≡ slot → ⊥
     differs t w h same =

@@ -1,6 +1,9 @@
 -- How rows are kept: a slot for each line pointer, block after block, with the place of the key of the row that is
--- rooted there; the keys side by side; and a bit for each slot, whether its row was met. Slots count from 0.
-use Rattle.std.specs.Prelude.{◌≡◌, ◌≢◌, ◌+◌, ◌-◌, ◌*◌, ◌<◌, ◌≤◌, ◌==◌, ◌&&◌, ◌||◌, ◌∷◌, ◌++◌, [], ℕ}
+-- rooted there, or with the key where it is one number below 2147483648; the other keys side by side; and a bit for each
+-- slot, whether its row was met. Slots count from 0.
+use mir.Syntax.{w32}
+use Rattle.std.specs.Int.{to_le_bytes}
+use Rattle.std.specs.Prelude.{◌≡◌, ◌≢◌, ◌+◌, ◌-◌, ◌*◌, ◌^◌, ◌<◌, ◌≤◌, ◌==◌, ◌&&◌, ◌||◌, ◌∷◌, ◌++◌, [], ℕ}
 use Rattle.std.specs.Prelude.{All, Bool, List, None, Option, Some, cond, drop, false, get_or, length, nat_le, nat_lt}
 use Rattle.std.specs.Prelude.{replicate, slice_get, true}
 use Rattle.std.specs.List.{flat_map}
@@ -44,9 +47,21 @@ slot_of first starts tid = start_of first starts tid + tid.item - 1
 abbrev pub found_slot : ℕ → List ℕ → Tid → Option ℕ
 found_slot first starts tid = cond (is_within first starts tid) (Some (slot_of first starts tid)) None
 
--- 0 says that no row is rooted there; any other number is one more than the place of the key
+-- from this number on a slot says that its row's key is one number, which the rest is
+abbrev pub NUMBERS : ℕ
+NUMBERS = 2 ^ 31
+
+-- a number as a key
+abbrev pub number_bytes : ℕ → List ℕ
+number_bytes n = 1 ∷ 6 ∷ to_le_bytes w32 n
+
+-- the bytes at which the key of a slot is read
+abbrev pub slot_bytes : List ℕ → ℕ → List ℕ
+slot_bytes arena r = cond (nat_lt r NUMBERS) (drop (r - 1) arena) (number_bytes (r - NUMBERS))
+
+-- 0 says that no row is rooted there; any other number below those is one more than the place of the key
 unfoldable pub key_of : List ℕ → ℕ → Option (List Value)
-key_of arena r = cond (r == 0) None (Some (key_read (drop (r - 1) arena)))
+key_of arena r = cond (r == 0) None (Some (key_read (slot_bytes arena r)))
 
 unfoldable pub keys_of : ℕ → List ℕ → List ℕ → List ℕ → Keys
 keys_of first starts records arena tid =
@@ -67,7 +82,7 @@ pub record AreBits (records bits : List ℕ) : Type 0 where
   pub clear : (p : ℕ) → length records ≤ p → is_set bits p ≡ false
 
 unfoldable pub AreKept : List ℕ → List ℕ → Type 0
-AreKept records arena = (k r : ℕ) → get_or records k 0 ≡ r + 1 → LiesAt arena r
+AreKept records arena = (k r : ℕ) → get_or records k 0 ≡ r + 1 → r + 1 < NUMBERS → LiesAt arena r
 
 -- of the first so many slots, each that has a row has its bit set
 abbrev pub AreAllSet : List ℕ → List ℕ → ℕ → Type 0
@@ -106,6 +121,7 @@ pub record IsBegunRow (t : Tables) (row : BegunRow) (tid : Tid) (count : ℕ) (v
   pub free : get_or t.records row.slot 0 ≡ 0
   pub before : List ℕ
   pub place_is : row.place ≡ length before + 1
+  pub low : row.place < NUMBERS
   pub storable : All IsStorable values
   pub bytes : t.arena ≡ before ++ (count ∷ flat_map stored_value values)
 

@@ -20,8 +20,8 @@ use crate::bits::are_all_set;
 use crate::block_rows::{are_free, block_slots, keep_in};
 use crate::blocks::add_block_in;
 use crate::slots::{
-    BegunRow, Kept, begin_at, bytes_at, find, is_kept_in, is_met_in, meet_in, meet_number_in,
-    meet_plain_in, places_of,
+    BegunRow, Kept, begin_at, find, is_kept_in, is_met_in, meet_in, meet_number_in, meet_plain_in,
+    read_ahead,
 };
 use key_attrs::IndexColumns;
 use key_orders::{Tid, ValueRef};
@@ -37,9 +37,10 @@ pub struct RowSlots {
     first: u32,
     // For each block its first slot, and last the end of the last block.
     starts: Vec<u32>,
-    // For each slot 0, or one more than the place of the key of the row that is rooted there.
+    // For each slot 0, or one more than the place of the key of the row that is rooted there, or what says that it is
+    // one number.
     records: Vec<u32>,
-    // The keys.
+    // The keys that aren't said in slots.
     arena: Vec<u8>,
     // A bit for each slot, 1 where its row was met.
     bits: Vec<u8>,
@@ -184,7 +185,7 @@ impl RowSlots {
     }
 
     /// Reads what looks for the rows that are rooted at these line pointers will read, of the first 512 of them, so
-    /// that it is at hand then: first all slots and then all keys, so that none of them is waited for alone.
+    /// that it is at hand then: first all slots and bits and then all keys, so that none of them is waited for alone.
     pub fn touch(&mut self, tids: &[Tid])
         ensures { self.new ≡ self.old }
     {
@@ -194,8 +195,7 @@ impl RowSlots {
             records: &self.records,
             arena: &self.arena,
         };
-        let places = places_of(kept, tids);
-        self.touched ^= bytes_at(&self.arena, &places);
+        self.touched ^= read_ahead(kept, &self.bits, tids);
     }
 
     /// Meets the row that is rooted at a line pointer, if there is one and its values are these: numbers that are

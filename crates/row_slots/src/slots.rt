@@ -1,5 +1,5 @@
 //! Steps over the tables.
-ghost use Rattle.std.specs.Prelude.{◌≡◌, ◌+◌, ◌∷◌, ◌++◌, ◌≤◌, [], List, drop, length};
+ghost use Rattle.std.specs.Prelude.{◌≡◌, ◌+◌, ◌∷◌, ◌++◌, ◌<◌, ◌≤◌, [], List, drop, length};
 ghost use Rattle.std.specs.Prelude.{IfOk, None, Ok, OnErr, OnOk, Some, true};
 ghost use Rattle.std.specs.Bool.{OnFalse, OnTrue};
 ghost use Rattle.key_orders.specs.declared.columns.Value.{Value as Shown};
@@ -7,7 +7,8 @@ ghost use Rattle.key_orders.specs.declared.columns.Value.TheVariants.{Int};
 ghost use Rattle.stored_keys.specs.Rows.{row_values};
 ghost use Rattle.key_attrs.specs.Columns.{tree_columns};
 ghost use Rattle.row_slots.specs.Met.{is_key, keyed, met_by};
-ghost use Rattle.row_slots.specs.Slots.{AreBits, AreStarts, found_slot, key_of, keys_of, mets_of};
+ghost use Rattle.row_slots.specs.Slots.{AreBits, AreStarts, NUMBERS, found_slot, key_of, keys_of, mets_of};
+ghost use Rattle.row_slots.specs.Slots.{number_bytes};
 ghost use Rattle.row_slots.specs.Told.{TellsKey};
 
 use crate::bits::{is_set, set_bit};
@@ -15,6 +16,9 @@ use key_attrs::{IndexColumns, has_stored_key};
 use key_orders::Tid;
 use outside::NoMemory;
 use stored_keys::{RowValues, is_number, is_stored};
+
+/// From this number on a slot says that its row's key is one number, which the rest is.
+pub(crate) const NUMBERS: u32 = 0x8000_0000;
 
 /// Which rows are kept, and their keys.
 #[derive(Clone, Copy)]
@@ -49,7 +53,7 @@ pub(crate) fn find(first: u32, starts: &[u32], tid: Tid) -> Option<usize>
 
 // The bytes from a place on.
 #[inline]
-fn bytes_from(arena: &[u8], at: u32) -> &[u8]
+pub(crate) fn bytes_from(arena: &[u8], at: u32) -> &[u8]
     ensures { result.now ≡ drop at arena.now }
 {
     match arena.split_at_checked(at as usize) {
@@ -61,39 +65,67 @@ fn bytes_from(arena: &[u8], at: u32) -> &[u8]
 /// Of how many line pointers at a time slots and keys are read ahead.
 const AHEAD: usize = 512;
 
-// What the slot of a line pointer says, 0 where there is none.
+// What was read ahead of so many line pointers: what their slots say, and the bytes of bits and keys, all in one.
+#[derive(Clone, Copy)]
+struct ReadAhead {
+    places: [u32; AHEAD],
+    bytes: u8,
+}
+
+// What the slot of a line pointer says, 0 where there is none; the byte with its bit is read, too.
 #[inline]
-fn place_of(kept: Kept<'_>, tid: Tid) -> u32 {
+fn place_of(kept: Kept<'_>, bits: &[u8], tid: Tid, bytes: &mut u8) -> u32 {
     let Some(slot) = find(kept.first, kept.starts, tid) else {
         return 0;
     };
+    if let Some(byte) = bits.get(slot / 8) {
+        *bytes ^= *byte;
+    }
     match kept.records.get(slot) {
         Some(place) => *place,
         None => 0,
     }
 }
 
-/// What the slots of the first line pointers say.
-pub(crate) fn places_of(kept: Kept<'_>, tids: &[Tid]) -> [u32; AHEAD] {
-    let mut places = [0u32; AHEAD];
-    for (place, tid) in places.iter_mut().zip(tids.iter()) {
-        *place = place_of(kept, *tid);
+// The slots and the bits of the first line pointers.
+fn slots_ahead(kept: Kept<'_>, bits: &[u8], tids: &[Tid]) -> ReadAhead {
+    let mut read = ReadAhead {
+        places: [0; AHEAD],
+        bytes: 0,
+    };
+    for (place, tid) in read.places.iter_mut().zip(tids.iter()) {
+        *place = place_of(kept, bits, *tid, &mut read.bytes);
     }
-    places
+    read
 }
 
-/// The bytes at these places, all in one.
-pub(crate) fn bytes_at(arena: &[u8], places: &[u32; AHEAD]) -> u8 {
-    let mut all = 0u8;
+// The keys at places.
+fn keys_ahead(arena: &[u8], places: &[u32; AHEAD]) -> u8 {
+    let mut bytes = 0u8;
     for place in places.iter() {
         if let Some(byte) = arena.get(*place as usize) {
-            all ^= *byte;
+            bytes ^= *byte;
         }
     }
-    all
+    bytes
 }
 
-// Whether a slot says that this key lies in the arena.
+/// Reads what looks for the rows at these line pointers will read, of the first 512 of them. What it is means nothing.
+pub(crate) fn read_ahead(kept: Kept<'_>, bits: &[u8], tids: &[Tid]) -> u8 {
+    let read = slots_ahead(kept, bits, tids);
+    read.bytes ^ keys_ahead(kept.arena, &read.places)
+}
+
+// A number as a key.
+#[inline]
+fn number_bytes(number: u32) -> [u8; 6]
+    ensures { result ≡ number_bytes number }
+{
+    let b = number.to_le_bytes();
+    [1, 6, b[0], b[1], b[2], b[3]]
+}
+
+// Whether a slot says that this is the key.
 #[inline]
 #[tactic(auto, unfolding(crate::specs::Slots::key_of))]
 pub(crate) fn holds(arena: &[u8], place: u32, values: RowValues<'_>) -> bool
@@ -102,17 +134,20 @@ pub(crate) fn holds(arena: &[u8], place: u32, values: RowValues<'_>) -> bool
     if place == 0 {
         return false;
     }
+    if NUMBERS <= place {
+        return is_stored(&number_bytes(place - NUMBERS), values);
+    }
     is_stored(bytes_from(arena, place - 1), values)
 }
 
-// Whether a slot says that the key lies there that an index tuple without null bits has, whose body this is. `false`
-// says nothing.
+// Whether a slot says that the key lies in the arena that an index tuple without null bits has, whose body this is.
+// `false` says nothing.
 #[inline]
 fn holds_plain(arena: &[u8], place: u32, columns: &IndexColumns<'_>, body: &[u8]) -> bool
     ensures { OnTrue result ((key : List Shown) → TellsKey (tree_columns columns.now) body.now key
         → is_key key (key_of arena.now place) ≡ true) }
 {
-    if place == 0 {
+    if place == 0 || NUMBERS <= place {
         return false;
     }
     match bytes_from(arena, place - 1).split_first() {
@@ -176,11 +211,14 @@ pub(crate) fn meet_plain_in(
     true
 }
 
-// Whether a slot says that this number lies in the arena as a key. `false` says nothing.
+// Whether a slot says that the key is this number. `false` says nothing.
 #[inline]
 fn holds_number(arena: &[u8], place: u32, number: i64) -> bool
     ensures { OnTrue result (key_of arena.now place ≡ Some (Int number ∷ [])) }
 {
+    if NUMBERS <= place {
+        return i64::from(place - NUMBERS) == number;
+    }
     place != 0 && is_number(bytes_from(arena, place - 1), number)
 }
 
@@ -242,12 +280,15 @@ pub struct BegunRow {
 pub(crate) fn begin_at(slot: usize, arena: &mut Vec<u8>, count: u8) -> Result<BegunRow, NoMemory>
     ensures slot { IfOk result (λ row. row.slot ≡ slot) }
     ensures place { IfOk result (λ row. row.place ≡ length arena.old.items + 1) }
+    ensures low { IfOk result (λ row. row.place < NUMBERS) }
     ensures arena { OnOk result (arena.new.items ≡ arena.old.items ++ count ∷ []) }
     ensures same { OnErr result (arena.new.items ≡ arena.old.items) }
 {
-    let Ok(place) = u32::try_from(arena.len() + 1) else {
+    let used = arena.len();
+    if NUMBERS as usize <= used + 1 {
         return Err(NoMemory);
-    };
+    }
+    let place = used as u32 + 1;
     arena.push(count)?;
     Ok(BegunRow { slot, place })
 }

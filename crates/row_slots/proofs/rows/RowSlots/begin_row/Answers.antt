@@ -29,7 +29,7 @@ returns-clause-begun c =
     let e : Some slot ≡ found_slot s.first s.starts.items c.args.tid = c.in-Some.ensures ∙ ap (λ (xs : List ℕ). found_slot s.first xs c.args.tid) c.deref.ensures.value in
     let empty : get_or s.records.items slot 0 ≡ 0 = subst (λ (d : ℕ). get_or s.records.items slot d ≡ 0) none (sym c.index.ensures ∙ none) in
     no_values _ c.in_ok-row.row c.args.tid s.arena.items c.args.count
-    (ap Some c.in_ok-row.ensures.slot ∙ e) (ap (λ k. get_or s.records.items k 0) c.in_ok-row.ensures.slot ∙ empty) c.in_ok-row.ensures.place c.in_ok-row.ensures.arena
+    (ap Some c.in_ok-row.ensures.slot ∙ e) (ap (λ k. get_or s.records.items k 0) c.in_ok-row.ensures.slot ∙ empty) c.in_ok-row.ensures.place c.in_ok-row.ensures.low c.in_ok-row.ensures.arena
 
 pub returns-clause-fresh : goal.returns-clause-fresh
 returns-clause-fresh c =

@@ -24,5 +24,5 @@ pub returns-clause-kept : goal.returns-clause-kept
 returns-clause-kept c = λ tid values is.
     let s = c.self.inside in
     let begun = subst (λ (t : Tables). IsBegunRow t c.args.row tid (length values) values) (sym c.self.view_is) is in
-    keys_set s.first s.starts.items s.records.items s.arena.items tid c.args.row.slot c.args.row.place (length begun.before) c.self.invariant.0 begun.slot_is begun.place_is (lies_written _ c.args.row tid values begun)
+    keys_set s.first s.starts.items s.records.items s.arena.items tid c.args.row.slot c.args.row.place (length begun.before) c.self.invariant.0 begun.slot_is begun.place_is begun.low (lies_written _ c.args.row tid values begun)
     ∙ ap (λ (t : Tables). keys_with (keys_in t) tid values) c.self.view_is
