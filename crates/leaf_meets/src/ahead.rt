@@ -43,9 +43,15 @@ impl RowsAhead {
     /// Adds one, where there is room.
     #[inline]
     pub fn add(&mut self, tid: Tid) {
+        self.add_if(tid, true);
+    }
+
+    /// Adds one, where there is room and it is one of them. It is written in any case.
+    #[inline]
+    pub fn add_if(&mut self, tid: Tid, is_one: bool) {
         if self.count < MOST {
             self.tids[self.count] = tid;
-            self.count += 1;
+            self.count += is_one as usize;
         }
     }
 

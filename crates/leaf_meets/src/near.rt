@@ -24,7 +24,7 @@ const LAST_HEAD: usize = 8184;
 
 // The bit of a tuple's last two bytes of head that says that its TID names no line pointer of the heap, but that the
 // tuple is a pivot or has a list (`access/nbtree.h`, `INDEX_ALT_TID_MASK`).
-const OTHER_TID: u16 = 0x2000;
+const OTHER_TID: u32 = 0x2000_0000;
 
 /// Heap blocks that follow one another: from the first up to the end, which isn't one of them.
 #[derive(Clone, Copy)]
@@ -61,12 +61,17 @@ pub fn glanced_tid(page: PageView<'_>, i: u16) -> Option<Tid>
     requires last { i ≤ count_of (page_bytes page) }
 {
     let off = page.item(i).off as usize;
-    if LAST_HEAD < off || page.u16_at(off + 6) & OTHER_TID != 0 {
+    if LAST_HEAD < off {
+        return None;
+    }
+    let block = page.u32_at(off);
+    let rest = page.u32_at(off + 4);
+    if rest & OTHER_TID != 0 {
         return None;
     }
     Some(Tid {
-        block: u32::from(page.u16_at(off)) << 16 | u32::from(page.u16_at(off + 2)),
-        item: page.u16_at(off + 4),
+        block: block << 16 | block >> 16,
+        item: (rest % 0x1_0000) as u16,
     })
 }
 
@@ -80,12 +85,13 @@ impl Near {
         }
     }
 
-    // Adds an item, where there is room.
+    // Adds an item, where there is room, if it is near. It is written in any case: which items are near no processor
+    // can foretell, so that a jump would be waited for.
     #[inline]
-    fn add(&mut self, i: u16) {
+    fn add(&mut self, i: u16, is_near: bool) {
         if self.count < MOST {
             self.items[self.count] = i;
-            self.count += 1;
+            self.count += is_near as usize;
         }
     }
 
@@ -97,13 +103,12 @@ impl Near {
         requires last { i ≤ count_of (page_bytes page) }
     {
         let Some(tid) = glanced_tid(page, i) else {
-            self.add(i);
+            self.add(i, true);
             return;
         };
-        if range.has(tid.block) {
-            self.add(i);
-            self.rows.add(tid);
-        }
+        let is_near = range.has(tid.block);
+        self.add(i, is_near);
+        self.rows.add_if(tid, is_near);
     }
 
     // Takes the items of a page that may name rows of the range.
