@@ -1,16 +1,18 @@
-//! Judges all items of a page together: how visible the block is, and its chains.
+//! Judges all items of a page together, by their states: how visible the block is, its chains, whether it is plain.
 ghost use Rattle.std.specs.Prelude.{◌≡◌, ◌≤◌, length, OnOk};
+ghost use Rattle.std.specs.List.{list_all};
 ghost use Rattle.hot_chains.specs.Table.{AreChains};
 ghost use Rattle.page_layout.specs.View.{page_bytes};
 ghost use Rattle.reports.specs.Added.{each_upto, report_lists};
 ghost use Rattle.heap_pages.specs.Found.{both_found, only_listed};
 ghost use Rattle.heap_pages.specs.Pages.{chain_found, is_flagged_visible, joint_found};
+ghost use Rattle.heap_pages.specs.Quiet.{is_plain_state};
 
 use crate::found::Found;
 use crate::page::PageInHand;
 use crate::work::Work;
 use hot_chains::{Chains, has_no_chains, pages_without_chains};
-use liveness::ItemState;
+use liveness::{ItemState, Life};
 use outside::NoMemory;
 use reports::{Place, Rel};
 use vis_map::map_rule;
@@ -72,4 +74,22 @@ pub(crate) fn judge_joint(rel: Rel, at: PageInHand<'_>, work: &mut Work) -> Resu
         &work.states,
         &mut work.chains,
     )
+}
+
+// Whether an item is unused or dead, or a live tuple that index entries name.
+fn is_plain(state: &ItemState) -> bool
+    ensures { result ≡ is_plain_state state.now }
+{
+    match *state {
+        ItemState::Unused | ItemState::Dead => true,
+        ItemState::Redirect(_) => false,
+        ItemState::Tuple { head, judged } => judged.life == Life::Live && !head.heap_only(),
+    }
+}
+
+/// Whether all items of a page are, by their states.
+pub(crate) fn are_plain(states: &[ItemState]) -> bool
+    ensures { result ≡ list_all is_plain_state states.now }
+{
+    states.iter().all(is_plain)
 }

@@ -8,7 +8,6 @@ mod items;
 mod joint;
 mod laws;
 mod page;
-mod plain;
 mod quiet;
 mod storage;
 mod table;

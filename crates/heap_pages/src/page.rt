@@ -9,8 +9,7 @@ ghost use Rattle.heap_pages.specs.Quiet.{IsPlain};
 ghost use Rattle.heap_pages.specs.Table.{AreReadable, chunks_seen, table_seen};
 
 use crate::items::judge_items;
-use crate::joint::judge_joint;
-use crate::plain::are_plain;
+use crate::joint::{are_plain, judge_joint};
 use crate::quiet::is_quiet_page;
 use crate::table::TableRules;
 use crate::work::Work;

@@ -91,18 +91,12 @@ impl Glance<'_> {
             (page_bytes self.entry.page) i) }
         ensures above { OnTrue result (AreAbove (page_bytes self.entry.page) i lowest.new) }
     {
-        if item.is_misplaced_heap_item(self.upper) {
-            return false;
-        }
-        if *lowest < item.off + item.len {
+        if item.is_misplaced_heap_item(self.upper) || *lowest < item.off + item.len {
             return false;
         }
         *lowest = item.off;
         let tuple = self.page.piece(item.off, item.len);
-        if !is_quiet_tuple(self.table, tuple, self.all_frozen) {
-            return false;
-        }
-        true
+        is_quiet_tuple(self.table, tuple, self.all_frozen)
     }
 
     // Whether an item is unused or such a tuple.
@@ -181,9 +175,8 @@ pub(crate) fn is_quiet_page(table: &TableRules<'_>, at: PageInHand<'_>) -> bool
     ensures plain { OnTrue result ((names : Names) → IsPlain (table_seen names table.now) (page_bytes at.entry.view)) }
 {
     pages_without_chains();
-    match table.kind {
-        TableKind::Toast => return false,
-        TableKind::Heap => {}
+    if table.kind == TableKind::Toast {
+        return false;
     }
     let header = at.view.header();
     // A tuple was deleted or updated there, and is not gone yet (`pd_prune_xid`).
@@ -196,8 +189,5 @@ pub(crate) fn is_quiet_page(table: &TableRules<'_>, at: PageInHand<'_>) -> bool
         upper: header.upper,
         all_frozen: at.bits.all_frozen,
     };
-    if glance.has_other_pointers() || !glance.is_quiet() {
-        return false;
-    }
-    true
+    !glance.has_other_pointers() && glance.is_quiet()
 }
