@@ -26,13 +26,13 @@ use Rattle.row_slots.proofs.SlotLaws.{both}
 use Rattle.root_set.specs.Targets.{is_in}
 use Rattle.row_slots.specs.Met.{Keys, same_tid}
 use Rattle.row_slots.specs.Slots.{AreAllMet, Tables, is_item_of, keys_in, keys_with_rows}
-use Rattle.heap_indexed.specs.Judging.{MetHave}
-use Rattle.heap_indexed.specs.Looking.{has_entry}
+use Rattle.row_probes.specs.Judging.{MetHave}
+use Rattle.row_probes.specs.Looking.{has_entry}
 use Rattle.heap_indexed.specs.Meetings.{HasRoots, IsKeptRow, IsPut, IsRootIn}
-use Rattle.heap_indexed.specs.Rows.{lists_of_row, owed_for}
+use Rattle.row_probes.specs.Rows.{lists_of_row, owed_for}
 use Rattle.row_keys.proofs.KeyLaws.{asked-column, both-parts, key-count, values-many}
 use Rattle.row_keys.specs.Rows.{AreAskedFrom, columns_in}
-use Rattle.heap_indexed.proofs.Owed.{owed-first, owed-none}
+use Rattle.row_probes.proofs.Owed.{owed-first, owed-none}
 
 -- the same rows are kept in other slots with these keys
 pub kept-same : (columns : TreeColumns) (old new : Tables) (rows : List LiveRow) → ((tid : Tid) → keys_in new tid ≡ keys_in old tid) → All (IsKeptRow columns old) rows → All (IsKeptRow columns new) rows

@@ -4,8 +4,5 @@ pub mod Columns
 pub mod Each
 pub mod KeptLaws
 pub mod MetLaws
-pub mod Owed
 pub mod Places
-pub mod Spots
-pub mod Widths
 mod RootLaws

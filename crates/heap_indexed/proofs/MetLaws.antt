@@ -17,9 +17,9 @@ use Rattle.row_slots.specs.Slots.{Tables, keys_in, met_in}
 use Rattle.row_slots.proofs.MetLaws.{met_after_is, met_if_entry}
 use Rattle.leaf_meets.specs.Meeting.{HaveMet, HaveMetSome, alive_in, all_entries, is_alive as is_unkilled, keyed_entry, leaf_entries}
 use Rattle.indexed_rules.specs.Entries.{has_alive, is_alive_of}
-use Rattle.heap_indexed.specs.Judging.{MetHave, TellsOf}
-use Rattle.heap_indexed.specs.Looking.{entries_of, has_entry}
-use Rattle.heap_indexed.proofs.Widths.{HasKeyOf, entries-keyed}
+use Rattle.row_probes.specs.Judging.{MetHave, TellsOf}
+use Rattle.row_probes.specs.Looking.{entries_of, has_entry}
+use Rattle.row_probes.proofs.Widths.{HasKeyOf, entries-keyed}
 
 -- The entries that met rows are those of the index
 

@@ -15,8 +15,8 @@ use Rattle.heap_check.specs.RowLaws.{AreLiveTuples}
 use Rattle.heap_check.specs.Rows.{rows_of}
 use Rattle.row_keys.proofs.HeapRoots.{root-named}
 use Rattle.heap_indexed.specs.Meetings.{HasRoots}
-use Rattle.heap_indexed.specs.Rows.{rows_from}
-use Rattle.heap_indexed.proofs.Owed.{rows-all, rows-more}
+use Rattle.row_probes.specs.Rows.{rows_from}
+use Rattle.row_probes.proofs.Owed.{rows-all, rows-more}
 
 -- the rows of some blocks are among all
 part-of-all : (case : CaseRecord) (names : Names) (first count : ℕ) (row : LiveRow) → first + count ≤ heap_blocks case names → Contains (rows_from case names first count) row → Contains (rows_of case names) row

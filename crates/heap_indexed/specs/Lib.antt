@@ -1,4 +1,1 @@
-pub mod Looking
-pub mod Rows
-pub mod Judging
 pub mod Meetings

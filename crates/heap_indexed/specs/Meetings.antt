@@ -8,7 +8,7 @@ use Rattle.key_orders.specs.declared.columns.Value.{Value}
 use Rattle.key_orders.specs.declared.Tid.{Tid}
 use Rattle.key_attrs.specs.Columns.{TreeColumns}
 use Rattle.bt_levels.specs.declared.sound.SoundTree.{SoundTree}
-use Rattle.bt_levels.specs.Sound.{index_columns}
+use Rattle.bt_levels.specs.Sound.{HoldsTree, index_columns}
 use Rattle.case_file.specs.Record.{CaseRecord}
 use Rattle.reports.specs.Added.{joined}
 use Rattle.reports.specs.Lists.{Lists}
@@ -17,7 +17,6 @@ use Rattle.heap_files.specs.Found.{IsQuiet}
 use Rattle.heap_check.specs.declared.row_cursor.RowCursor.{RowCursor}
 use Rattle.heap_check.specs.declared.rows.LiveRow.{LiveRow}
 use Rattle.heap_check.specs.RowCursor.{asked_at, case_at, heap_at}
-use Rattle.indexed_rules.specs.Rows.{key_numbers, more_numbers, values_at}
 use Rattle.apart_keys.specs.Apart.{AreApart}
 use Rattle.index_targets.specs.Passes.{strays_of}
 use Rattle.root_set.specs.Targets.{is_in}
@@ -27,10 +26,10 @@ use Rattle.row_keys.specs.declared.keys.KeyedHeap.{KeyedHeap}
 use Rattle.heap_indexed.specs.declared.meeting.Meeting.{Meeting}
 use Rattle.heap_indexed.specs.declared.ranges.Ranges.{Ranges}
 use Rattle.row_keys.specs.Joined.{BelongTogether, HoldTogether}
-use Rattle.heap_indexed.specs.Judging.{IsBehind}
-use Rattle.heap_indexed.specs.Looking.{AreOf}
+use Rattle.row_probes.specs.Judging.{IsBehind, TellsOf}
+use Rattle.row_probes.specs.Looking.{AreOf}
 use Rattle.row_keys.specs.Rows.{AreAskedFrom, columns_in}
-use Rattle.heap_indexed.specs.Rows.{owed_for, rows_from}
+use Rattle.row_probes.specs.Rows.{HasValues, owed_for, rows_from}
 
 -- The heap and its indexes
 
@@ -72,11 +71,6 @@ pub record IsIndexNo (ranges : Ranges) (j : ℕ) (index : KeyedHeap) : Type 0 wh
 
 -- Rows that are kept
 
--- a row has these values in an index with these columns
-pub record HasValues (columns : TreeColumns) (row : LiveRow) (key more : List Value) : Type 0 where
-  pub of_key : values_at (key_numbers columns) row.cells ≡ Some key
-  pub included : values_at (more_numbers columns) row.cells ≡ Some more
-
 -- the row is kept under its root, with its values
 pub record IsKeptRow (columns : TreeColumns) (slots : Tables) (row : LiveRow) : Type 0 where
   pub key : List Value
@@ -108,6 +102,13 @@ abbrev pub IsKept : Names → KeyedHeap → (first end : ℕ) → Meeting → Ty
 IsKept names index first end meeting = meeting.is_whole ≡ true
     → All (IsKeptRow (index_columns index.at.tree.now) meeting.slots)
     (rows_from index.at.case.now names first (end - first))
+
+-- the names hold the index, what is kept of rows and of pages tells of it, and a cursor is behind the rows of a block
+pub record IsReadyBehind (names : Names) (index : KeyedHeap) (meeting : Meeting) (cursor : RowCursor) : Type 0 where
+  pub tree : HoldsTree names index.at.tree.now
+  pub kept : TellsOf names index.at.tree.now meeting.slots
+  pub pages : AreOf names index.at.tree.now meeting.look_ups
+  pub behind : IsBehind names cursor
 
 -- what was found so far of the rows and of the entries of an index is this, and no two entries have the same values,
 -- where it says so; none of the rows of the range was met yet, each of them is kept, where it says so, and no others

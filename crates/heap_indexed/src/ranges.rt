@@ -13,13 +13,13 @@ ghost use Rattle.heap_check.specs.RowCursor.{IsAtRow, IsCursorOf, IsSameCursor, 
 ghost use Rattle.heap_check.specs.Rows.{block_rows, rows_of};
 ghost use Rattle.heap_check.specs.declared.rows.LiveRow.{LiveRow as Row};
 ghost use Rattle.index_targets.specs.Passes.{strays_of};
-ghost use Rattle.heap_indexed.specs.Judging.{IsBehind};
+ghost use Rattle.row_probes.specs.Judging.{IsBehind};
 ghost use Rattle.heap_indexed.specs.Meetings.{AreInWork, AreKeptOf, AreToFinish, EachFor, HasRoots, HaveKept};
 ghost use Rattle.heap_indexed.specs.Meetings.{HoldIt, IsIndexNo};
 ghost use Rattle.heap_indexed.specs.Meetings.{IsJudged, IsOfTable};
 ghost use Rattle.heap_indexed.specs.declared.meeting.Meeting.{Meeting as Work};
 ghost use Rattle.row_keys.specs.Rows.{IsFound};
-ghost use Rattle.heap_indexed.specs.Rows.{owed_for, rows_from};
+ghost use Rattle.row_probes.specs.Rows.{owed_for, rows_from};
 
 use crate::meeting::Meeting;
 use heap_check::{RowCursor, RowPlace, rows_are_live_tuples};

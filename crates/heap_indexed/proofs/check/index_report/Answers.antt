@@ -5,7 +5,7 @@ use Rattle.bt_levels.specs.Files.{number_of}
 use Rattle.bt_levels.specs.Sound.{file_of}
 use Rattle.indexed_rules.specs.Lists.{entries_lists, joined_lists, rows_lists}
 use Rattle.heap_indexed.proofs.Cases.{both-are}
-use Rattle.heap_indexed.proofs.Owed.{settled-more}
+use Rattle.row_probes.proofs.Owed.{settled-more}
 use Rattle.heap_indexed.proofs.check.index_report.Goals as goal
 
 pub probe_rows-requires-clause-of : goal.probe_rows-requires-clause-of

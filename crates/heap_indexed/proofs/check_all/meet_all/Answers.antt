@@ -13,11 +13,12 @@ use Rattle.apart_keys.specs.Apart.{AreApart}
 use Rattle.indexed_rules.specs.Lists.{joined_lists}
 use Rattle.heap_indexed.specs.declared.meeting.Meeting.{Meeting}
 use Rattle.heap_indexed.specs.Meetings.{AreFirsts, AreInWork, EachFor, columns_of_all}
-use Rattle.heap_indexed.specs.Rows.{rows_from}
-use Rattle.heap_indexed.proofs.Cases.{both-are, rows-are, strays-are}
+use Rattle.row_probes.specs.Rows.{rows_from}
+use Rattle.row_probes.proofs.Cases.{rows-are}
+use Rattle.heap_indexed.proofs.Cases.{both-are, strays-are}
 use Rattle.heap_indexed.proofs.Columns.{all-there}
 use Rattle.heap_indexed.proofs.Each.{each-known, reports-are, written-back}
-use Rattle.heap_indexed.proofs.Owed.{rows-all}
+use Rattle.row_probes.proofs.Owed.{rows-all}
 use Rattle.row_keys.proofs.Pages.{count-is, set-says}
 use Rattle.heap_indexed.proofs.check_all.meet_all.Goals as goal
 

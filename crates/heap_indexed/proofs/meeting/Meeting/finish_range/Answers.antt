@@ -8,11 +8,11 @@ use Rattle.bt_levels.specs.Sound.{index_columns}
 use Rattle.heap_check.specs.RowCursor.{next_in}
 use Rattle.heap_check.specs.declared.rows.LiveRow.{LiveRow}
 use Rattle.index_targets.specs.Passes.{AreTargets, strays_of}
-use Rattle.heap_indexed.specs.declared.joined.LookUps.{LookUps}
+use Rattle.row_probes.specs.declared.joined.LookUps.{LookUps}
 use Rattle.heap_indexed.specs.declared.meeting.Meeting.{Meeting}
-use Rattle.heap_indexed.specs.Looking.{AreOf}
+use Rattle.row_probes.specs.Looking.{AreOf}
 use Rattle.heap_indexed.specs.Meetings.{IsKeptRow}
-use Rattle.heap_indexed.specs.Rows.{owed_for, rows_from}
+use Rattle.row_probes.specs.Rows.{owed_for, rows_from}
 use Rattle.heap_indexed.proofs.Cases.{no-strays}
 use Rattle.heap_indexed.proofs.KeptLaws.{kept-same, roots-named, rows-met}
 use Rattle.heap_indexed.proofs.MetLaws.{sound-of, tells-of}

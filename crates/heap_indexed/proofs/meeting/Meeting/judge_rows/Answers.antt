@@ -2,7 +2,7 @@ use Rattle.std.proofs.Common.{◌∙◌, ◌-◌, ap, sym}
 use Rattle.std.proofs.lemmas.Result.{on_ok_weaker}
 use Rattle.reports.specs.Added.{joined, report_lists}
 use Rattle.heap_check.specs.RowCursor.{next_in}
-use Rattle.heap_indexed.specs.Rows.{rows_from}
+use Rattle.row_probes.specs.Rows.{rows_from}
 use Rattle.heap_indexed.proofs.KeptLaws.{rows-met}
 use Rattle.heap_indexed.proofs.meeting.Meeting.judge_rows.Goals as goal
 

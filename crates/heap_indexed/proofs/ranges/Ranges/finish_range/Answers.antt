@@ -12,7 +12,7 @@ use Rattle.index_targets.specs.Passes.{strays_of}
 use Rattle.heap_indexed.specs.declared.meeting.Meeting.{Meeting}
 use Rattle.row_keys.specs.Joined.{HoldTogether}
 use Rattle.heap_indexed.specs.Meetings.{HasRoots, InWork}
-use Rattle.heap_indexed.specs.Rows.{owed_for, rows_from}
+use Rattle.row_probes.specs.Rows.{owed_for, rows_from}
 use Rattle.heap_indexed.proofs.Each.{above-set, below-set, still-before}
 use Rattle.row_keys.proofs.Places.{same-then}
 use Rattle.heap_indexed.proofs.Places.{index-at, same-table}

@@ -8,9 +8,9 @@ use Rattle.reports.specs.Lists.{Lists}
 use Rattle.heap_check.specs.RowCursor.{IsSameCursor, next_in}
 use Rattle.index_targets.specs.Passes.{strays_of}
 use Rattle.heap_indexed.specs.declared.meeting.Meeting.{Meeting}
-use Rattle.heap_indexed.specs.Judging.{IsBehind}
+use Rattle.row_probes.specs.Judging.{IsBehind}
 use Rattle.heap_indexed.specs.Meetings.{AreInWork, InWork}
-use Rattle.heap_indexed.specs.Rows.{owed_for, rows_from}
+use Rattle.row_probes.specs.Rows.{owed_for, rows_from}
 use Rattle.heap_indexed.proofs.ranges.Ranges.finish_range.Given as goal
 
 -- the range is finished for each index before this one, and for the others all is as it was

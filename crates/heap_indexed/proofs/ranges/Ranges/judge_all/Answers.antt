@@ -12,10 +12,10 @@ use Rattle.heap_check.specs.RowCursor.{next_in}
 use Rattle.index_targets.specs.Passes.{strays_of}
 use Rattle.heap_indexed.specs.declared.meeting.Meeting.{Meeting}
 use Rattle.heap_indexed.specs.Meetings.{AreInWork, EachFor, HasRoots, InWork, IsJudged}
-use Rattle.heap_indexed.specs.Rows.{owed_for, rows_from}
+use Rattle.row_probes.specs.Rows.{owed_for, rows_from}
 use Rattle.heap_indexed.proofs.Cases.{no-strays}
 use Rattle.heap_indexed.proofs.Each.{each-map}
-use Rattle.heap_indexed.proofs.Owed.{owed-upto}
+use Rattle.row_probes.proofs.Owed.{owed-upto}
 use Rattle.row_keys.proofs.Places.{same-then}
 use Rattle.std.specs.Option.{option_copied}
 use Rattle.heap_check.specs.Rows.{rows_of}

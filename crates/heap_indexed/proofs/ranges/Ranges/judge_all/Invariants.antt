@@ -5,9 +5,9 @@ use Rattle.rel_files.specs.Relation.{count_of}
 use Rattle.heap_files.specs.Files.{heap_in, targets_in}
 use Rattle.heap_check.specs.RowCursor.{IsSameCursor, next_in}
 use Rattle.index_targets.specs.Passes.{strays_of}
-use Rattle.heap_indexed.specs.Judging.{IsBehind}
+use Rattle.row_probes.specs.Judging.{IsBehind}
 use Rattle.heap_indexed.specs.Meetings.{AreInWork}
-use Rattle.heap_indexed.specs.Rows.{owed_for, rows_from}
+use Rattle.row_probes.specs.Rows.{owed_for, rows_from}
 use Rattle.heap_indexed.proofs.ranges.Ranges.judge_all.Given as goal
 
 -- the rows of the blocks before the cursor's next were judged, and so were the entries; each range has a block

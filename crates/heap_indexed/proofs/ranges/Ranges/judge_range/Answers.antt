@@ -5,7 +5,7 @@ use Rattle.reports.specs.Added.{joined}
 use Rattle.heap_check.specs.RowCursor.{next_in}
 use Rattle.index_targets.specs.Passes.{strays_of}
 use Rattle.heap_indexed.specs.Meetings.{AreInWork}
-use Rattle.heap_indexed.specs.Rows.{owed_for, rows_from}
+use Rattle.row_probes.specs.Rows.{owed_for, rows_from}
 use Rattle.rel_files.specs.Relation.{count_of}
 use Rattle.heap_files.specs.Case.{heap_blocks}
 use Rattle.heap_files.specs.Files.{heap_in}

@@ -4,8 +4,8 @@ use Rattle.heap_check.specs.RowCursor.{next_in}
 use Rattle.heap_check.specs.Rows.{block_rows}
 use Rattle.heap_check.specs.declared.rows.LiveRow.{LiveRow}
 use Rattle.heap_indexed.specs.Meetings.{AreInWork}
-use Rattle.heap_indexed.specs.Rows.{rows_from}
-use Rattle.heap_indexed.proofs.Owed.{rows-next, rows-none}
+use Rattle.row_probes.specs.Rows.{rows_from}
+use Rattle.row_probes.proofs.Owed.{rows-next, rows-none}
 use Rattle.row_keys.proofs.Places.{same-then}
 use Rattle.heap_indexed.proofs.Places.{same-table}
 use Rattle.heap_indexed.proofs.ranges.Ranges.keep_blocks.Goals as goal

@@ -3,7 +3,7 @@ use Rattle.std.specs.Prelude.{Option}
 use Rattle.heap_check.specs.declared.row_cursor.RowPlace.{RowPlace}
 use Rattle.heap_check.specs.declared.rows.LiveRow.{LiveRow}
 use Rattle.heap_check.specs.RowCursor.{IsPlaceOfFirst, rows_here}
-use Rattle.heap_indexed.proofs.Owed.{found-row}
+use Rattle.row_probes.proofs.Owed.{found-row}
 use Rattle.heap_indexed.proofs.Places.{same-table}
 use Rattle.heap_indexed.proofs.ranges.Ranges.keep_next.Goals as goal
 

@@ -9,7 +9,7 @@ use Rattle.heap_check.specs.RowCursor.{rows_here}
 use Rattle.heap_indexed.specs.declared.meeting.Meeting.{Meeting}
 use Rattle.heap_indexed.specs.Meetings.{AreInWork, AreKeptOf, HaveKept, InWork, rows_kept}
 use Rattle.heap_indexed.proofs.Each.{each-map}
-use Rattle.heap_indexed.proofs.Owed.{none-left}
+use Rattle.row_probes.proofs.Owed.{none-left}
 use Rattle.row_keys.proofs.Places.{same-then}
 use Rattle.heap_indexed.proofs.Places.{same-table}
 use Rattle.heap_indexed.proofs.ranges.Ranges.keep_rows.Goals as goal

@@ -1,0 +1,4 @@
+pub mod Cases
+pub mod Owed
+mod Spots
+pub mod Widths
