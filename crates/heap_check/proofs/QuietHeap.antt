@@ -43,7 +43,7 @@ use Rattle.heap_files.specs.TableFiles.{pages_in}
 use Rattle.heap_check.specs.declared.row_page.RowPage.{RowPage}
 use Rattle.heap_check.specs.declared.rows.LiveRow.{LiveRow}
 use Rattle.heap_check.specs.declared.row_cursor.RowCursor.{RowCursor}
-use Rattle.heap_check.specs.RowCursor.{IsCursorOf, IsPageDone, case_at, heap_at, rows_ahead}
+use Rattle.heap_check.specs.RowCursor.{IsCursorOf, IsPageDone, case_at, heap_at, line_pointers_of, rows_ahead}
 use Rattle.heap_check.specs.RowPages.{AreKnown, IsInHand, TellsOf, is_live_in, rows_in_hand}
 use Rattle.heap_check.specs.RowValues.{IsThere}
 use Rattle.heap_check.specs.Rows.{block_rows, each_from, heap_page, item_rows, page_rows, rows_by_rule}
@@ -108,6 +108,7 @@ module _ (case : CaseRecord) (names : Names) (quiet : IsQuiet case names) (block
 pub record IsLoaded (case : CaseRecord) (names : Names) (toast : Option Relation) (chunks : List Chunk) (page : RowPage) (block : ℕ) : Type 0 where
   pub hand : IsInHand case names toast chunks page
   pub rows : rows_in_hand case names page ≡ block_rows case names block
+  pub count : page.count ≡ line_pointers_of case names block
 
 in_hand_all : (case : CaseRecord) (names : Names) (page : RowPage) (block n : ℕ) → page.block ≡ block → page.done ≡ 0 → page.count ≡ n → rows_in_hand case names page ≡ each_upto one_list (item_rows case names block page.bytes) n
 unfolding rows_in_hand
@@ -158,6 +159,7 @@ loaded case names toast chunks page block quiet below named are at done bytes sa
           ∙ rows_of_page case names block page.bytes pass.header
           ∙ ap (λ (p : List ℕ). page_rows case names block p) bytes
           ∙ block_is case names block;
+      count = long ∙ ap count_of bytes;
     }
 
 -- The cursor

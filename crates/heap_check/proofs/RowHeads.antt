@@ -26,7 +26,7 @@ abbrev pub past : RowPage → RowPage
 past page = record page { done = page.done + 1; found = false }
 
 abbrev pub gone : RowCursor → RowCursor
-gone cursor = record { case = cursor.case; heap = cursor.heap; asked = cursor.asked; starts = cursor.starts; logs = cursor.logs; page = past cursor.page; next = cursor.next }
+gone cursor = record { case = cursor.case; heap = cursor.heap; asked = cursor.asked; starts = cursor.starts; logs = cursor.logs; page = past cursor.page; next = cursor.next; taken = cursor.taken }
 
 -- the row of the next item
 abbrev pub next_of : Names → RowCursor → LiveRow

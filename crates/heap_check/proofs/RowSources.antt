@@ -103,8 +103,8 @@ unfolding rows_ahead rows_unread
 ahead_is names cursor = refl
 
 -- the cursor with another page in hand
-pub moved : (names : Names) (cursor : RowCursor) (page : RowPage) (next : ℕ) → IsCursorOf names cursor → page.count ≤ 2042 → IsInHand (case_at cursor) names (toast_in (heap_at cursor)) (chunks_in (heap_at cursor)) page → (page.found ≡ true → IsNext (case_at cursor) names cursor.asked page) → IsCursorOf names (record { case = cursor.case; heap = cursor.heap; asked = cursor.asked; starts = cursor.starts; logs = cursor.logs; page = page; next = next })
-moved names cursor page next are few hand found = record {
+pub moved : (names : Names) (cursor : RowCursor) (page : RowPage) (next taken : ℕ) → IsCursorOf names cursor → page.count ≤ 2042 → IsInHand (case_at cursor) names (toast_in (heap_at cursor)) (chunks_in (heap_at cursor)) page → (page.found ≡ true → IsNext (case_at cursor) names cursor.asked page) → IsCursorOf names (record { case = cursor.case; heap = cursor.heap; asked = cursor.asked; starts = cursor.starts; logs = cursor.logs; page = page; next = next; taken = taken })
+moved names cursor page next taken are few hand found = record {
   heap = are.heap;
   belong = are.belong;
   quiet = are.quiet;

@@ -1,6 +1,7 @@
 -- The cursor over the live rows of a heap: what it stands for, which rows are ahead of it, and which is the next.
 use Rattle.std.specs.Prelude.{◌≡◌, ℕ, ◌-◌, ◌<◌, ◌≤◌, true, List, [], ◌∷◌, ◌++◌, length, map, Option, Some, None}
 use Rattle.outside.specs.Outside.{Names}
+use Rattle.page_layout.specs.Page.{count_of}
 use Rattle.case_file.specs.Record.{CaseRecord}
 use Rattle.heap_files.specs.declared.files.SoundHeap.{SoundHeap}
 use Rattle.heap_files.specs.Case.{heap_blocks, log_files_in}
@@ -14,7 +15,7 @@ use Rattle.heap_check.specs.declared.row_values.AskedColumns.TheVariants as aske
 use Rattle.heap_check.specs.declared.rows.LiveRow.{LiveRow}
 use Rattle.heap_check.specs.RowPages.{HasPlaces, IsInHand, IsNext, rows_in_hand}
 use Rattle.heap_check.specs.RowValues.{AreStarts, AsksColumns}
-use Rattle.heap_check.specs.Rows.{block_rows, each_from}
+use Rattle.heap_check.specs.Rows.{block_rows, each_from, heap_page}
 
 -- the case whose rows they are, its heap, and the columns that are asked for
 abbrev pub case_at : RowCursor → CaseRecord
@@ -60,6 +61,14 @@ rows_here names cursor = rows_in_hand (case_at cursor) names cursor.page
 -- the block that is read next
 abbrev pub next_in : RowCursor → ℕ
 next_in cursor = cursor.next
+
+-- how many times a block of the heap was taken in hand
+abbrev pub taken_in : RowCursor → ℕ
+taken_in cursor = cursor.taken
+
+-- how many line pointers the page of a block of the heap has
+abbrev pub line_pointers_of : CaseRecord → Names → ℕ → ℕ
+line_pointers_of case names block = count_of (heap_page case names block)
 
 -- none of the rows of the page in hand is ahead
 abbrev pub IsPageDone : Names → RowCursor → Type 0

@@ -11,7 +11,7 @@ ghost use Rattle.varlena_attrs.specs.Forms.{Attribute};
 ghost use Rattle.varlena_attrs.specs.InTurn.{AreRead};
 ghost use Rattle.varlena_attrs.specs.Inline.{IsLayout};
 ghost use Rattle.heap_check.specs.RowCursor.{IsCursorOf, IsSameCursor, asked_at, next_in};
-ghost use Rattle.heap_check.specs.RowCursor.{rows_ahead, rows_here};
+ghost use Rattle.heap_check.specs.RowCursor.{rows_ahead, rows_here, taken_in};
 ghost use Rattle.heap_check.specs.PageRows.{ArePageRows, HasValue, HasValues, block_in};
 ghost use Rattle.heap_check.specs.RowPages.{HasAttributes};
 ghost use Rattle.heap_check.specs.RowValues.{AreStarts};
@@ -160,6 +160,7 @@ impl RowCursor<'_> {
             ≡ drop (length (rows_here names self.old)) (rows_ahead names self.old) }
         ensures told { (names : Names) → IsCursorOf names self.old → IsCursorOf names self.new }
         ensures next { next_in self.new ≡ next_in self.old }
+        ensures taken { taken_in self.new ≡ taken_in self.old }
         ensures same { IsSameCursor self.old self.new }
     {
         self.page.found = false;

@@ -2,6 +2,7 @@
 ghost use Rattle.std.specs.Prelude.{◌≡◌, ◌+◌, ◌<◌, ◌≤◌, ◌∷◌, [], All, List, false, true, drop, length, slice_get};
 ghost use Rattle.std.specs.Prelude.{Some, None};
 ghost use Rattle.std.specs.Prelude.{IfOk, IfSome, OnErr, OnOk};
+ghost use Rattle.outside.specs.Counting.{one_more};
 ghost use Rattle.outside.specs.Outside.{Asked, IfTold, Names, Tells};
 ghost use Rattle.liveness.specs.LogFiles.{log_files_of};
 ghost use Rattle.rel_files.specs.Relation.{count_of};
@@ -53,6 +54,8 @@ pub struct RowCursor<'a> {
     pub(crate) page: RowPage,
     // How many blocks were read.
     pub(crate) next: u32,
+    // How many times a block was taken in hand.
+    pub(crate) taken: u64,
 }
 
 // The value of a column that stands at a place: in a page, or among bytes that were joined.
@@ -82,7 +85,8 @@ fn value_at<'p>(
 
 impl<'a> RowCursor<'a> {
     ghost use Rattle.heap_check.specs.RowCursor.{IsAtRow, IsCursorOf, IsPageDone, IsPlaceOfFirst, IsSameCursor};
-    ghost use Rattle.heap_check.specs.RowCursor.{asked_at, case_at, heap_at, next_in, rows_ahead, rows_here};
+    ghost use Rattle.heap_check.specs.RowCursor.{asked_at, case_at, heap_at, line_pointers_of, next_in, rows_ahead};
+    ghost use Rattle.heap_check.specs.RowCursor.{rows_here, taken_in};
 
     // A cursor before the first row, which is asked for these columns. No block is read yet.
     pub(crate) fn asking(
@@ -97,6 +101,7 @@ impl<'a> RowCursor<'a> {
             → IsQuiet case.now names → IsCursorOf names cursor) }
         ensures all { IfOk result (λ cursor. (names : Names) → rows_ahead names cursor ≡ rows_of case.now names) }
         ensures begun { IfOk result (λ cursor. next_in cursor ≡ 0) }
+        ensures taken { IfOk result (λ cursor. taken_in cursor ≡ 0) }
         ensures none { IfOk result (λ cursor. (names : Names) → rows_here names cursor ≡ []) }
         ensures case { IfOk result (λ cursor. case_at cursor ≡ case.now) }
         ensures heap { IfOk result (λ cursor. heap_at cursor ≡ heap.now) }
@@ -114,6 +119,7 @@ impl<'a> RowCursor<'a> {
             logs,
             page,
             next: 0,
+            taken: 0,
         })
     }
 
@@ -131,6 +137,7 @@ impl<'a> RowCursor<'a> {
             → IsQuiet case.now names → IsCursorOf names cursor) }
         ensures all { IfOk result (λ cursor. (names : Names) → rows_ahead names cursor ≡ rows_of case.now names) }
         ensures begun { IfOk result (λ cursor. next_in cursor ≡ 0) }
+        ensures taken { IfOk result (λ cursor. taken_in cursor ≡ 0) }
         ensures none { IfOk result (λ cursor. (names : Names) → rows_here names cursor ≡ []) }
         ensures case { IfOk result (λ cursor. case_at cursor ≡ case.now) }
         ensures heap { IfOk result (λ cursor. heap_at cursor ≡ heap.now) }
@@ -151,6 +158,7 @@ impl<'a> RowCursor<'a> {
         ensures told { IfTold F.seen files.old (λ names. IsCursorOf names self.new) }
         ensures same { IsSameCursor self.old self.new }
         ensures next { self.new.next ≡ self.old.next }
+        ensures taken { taken_in self.new ≡ taken_in self.old }
         ensures asked { Asked F.seen files.old files.new result PageFault.ReadFault }
     {
         let case = self.case;
@@ -175,9 +183,13 @@ impl<'a> RowCursor<'a> {
         ensures left { IfTold F.seen files.old (λ names. rows_ahead names self.new ≡ rows_ahead names self.old) }
         ensures here { OnOk result (IfTold F.seen files.old (λ names. rows_here names self.new
             ≡ block_rows (case_at self.old) names self.old.next)) }
+        ensures count { OnOk result (IfTold F.seen files.old (λ names. self.new.page.count
+            ≡ line_pointers_of (case_at self.old) names self.old.next)) }
+        ensures few { self.new.page.count ≤ 2042 }
         ensures told { IfTold F.seen files.old (λ names. IsCursorOf names self.new) }
         ensures same { IsSameCursor self.old self.new }
         ensures next { OnOk result (self.new.next ≡ self.old.next + 1) }
+        ensures taken { taken_in self.new ≡ one_more (taken_in self.old) }
         ensures asked { Asked F.seen files.old files.new result PageFault.ReadFault }
     {
         let case = self.case;
@@ -189,6 +201,7 @@ impl<'a> RowCursor<'a> {
         let blocks = heap.heap().blocks();
         let next = self.next;
         prove!(next < blocks);
+        self.taken = self.taken.saturating_add(1);
         self.page.take(files, &table, heap, next)?;
         self.next = next + 1;
         Ok(())
@@ -280,11 +293,19 @@ impl<'a> RowCursor<'a> {
         self.next
     }
 
+    /// How many times a block was taken in hand so far, also where reading it failed; at its last value the count stays.
+    pub fn taken(&self) -> u64
+        ensures { result ≡ taken_in self.now }
+    {
+        self.taken
+    }
+
     /// Goes to the beginning of a block, which is the next then. No page is in hand.
     pub fn go_to(&mut self, block: u32)
         ensures here { (names : Names) → rows_here names self.new ≡ [] }
         ensures told { (names : Names) → IsCursorOf names self.old → IsCursorOf names self.new }
         ensures next { next_in self.new ≡ block }
+        ensures taken { taken_in self.new ≡ taken_in self.old }
         ensures same { IsSameCursor self.old self.new }
     {
         self.page.count = 0;
@@ -303,9 +324,13 @@ impl<'a> RowCursor<'a> {
         requires inside { next_in self.old < count_of (heap_in (heap_at self.old)) }
         ensures here { OnOk result (IfTold F.seen files.old (λ names. rows_here names self.new
             ≡ block_rows (case_at self.old) names (next_in self.old))) }
+        ensures count { Tells F.seen files.old result (λ items names. items
+            ≡ line_pointers_of (case_at self.old) names (next_in self.old)) }
+        ensures few { IfOk result (λ items. items ≤ 2042) }
         ensures told { IfTold F.seen files.old (λ names. IsCursorOf names self.new) }
         ensures same { IsSameCursor self.old self.new }
         ensures next { OnOk result (next_in self.new ≡ next_in self.old + 1) }
+        ensures taken { taken_in self.new ≡ one_more (taken_in self.old) }
         ensures asked { Asked F.seen files.old files.new result PageFault.ReadFault }
     {
         self.take_next(files)?;
@@ -325,6 +350,7 @@ impl<'a> RowCursor<'a> {
         ensures some { IfOk result (λ found. IfSome found (λ place. (1 ≤ place.tid.item) × (1 ≤ place.root.item))) }
         ensures told { IfTold F.seen files.old (λ names. IsCursorOf names self.new) }
         ensures next { next_in self.new ≡ next_in self.old }
+        ensures taken { taken_in self.new ≡ taken_in self.old }
         ensures same { IsSameCursor self.old self.new }
         ensures asked { Asked F.seen files.old files.new result PageFault.ReadFault }
     {
@@ -363,6 +389,7 @@ impl<'a> RowCursor<'a> {
             → rows_here names self.new ≡ drop 1 (rows_here names self.old) }
         ensures told { (names : Names) → IsCursorOf names self.old → IsCursorOf names self.new }
         ensures next { next_in self.new ≡ next_in self.old }
+        ensures taken { taken_in self.new ≡ taken_in self.old }
         ensures same { IsSameCursor self.old self.new }
     {
         self.page.found = false;

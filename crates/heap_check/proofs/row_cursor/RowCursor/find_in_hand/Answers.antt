@@ -28,7 +28,7 @@ pub returns-clause-told : goal.returns-clause-told
 returns-clause-told g c = λ names told.
     let here = c.requires.told names told in
     let from : ValueSources = record { columns = c.columns.result; toast = c.toast.result; chunks = c.chunks.result; asked = _; starts = _ } in
-    moved names c.args.self.now c.find.new.self c.args.self.now.next here
+    moved names c.args.self.now c.find.new.self c.args.self.now.next c.args.self.now.taken here
     (subst (λ (n : ℕ). n ≤ 2042) (sym c.find.ensures.page.count) here.few)
     (known_same c.args.self.now.case.now names (toast_in (heap_at c.args.self.now)) (chunks_in (heap_at c.args.self.now)) c.args.self.now.page c.find.new.self c.find.ensures.page here.hand)
     (next_by g.F.Files.seen c.args.files.now c.args.self.now c.find.new.self c.requires.told c.find.result from c.toast.ensures c.chunks.ensures c.columns.ensures refl c.deref.ensures.value c.find.ensures.found c.find.ensures.err c.find.ensures.next names told)

@@ -16,6 +16,6 @@ pub returns-clause-told : goal.returns-clause-told
 returns-clause-told c = λ names are.
     let cursor = c.args.self.now in
     let page = record cursor.page { count = 0; done = 0; found = false } in
-    moved names cursor page c.args.block are (omega arith)
+    moved names cursor page c.args.block cursor.taken are (omega arith)
     (nothing_in_hand (case_at cursor) names (toast_in (heap_at cursor)) (chunks_in (heap_at cursor)) page refl)
     (λ yes. absurd (false≢true yes))

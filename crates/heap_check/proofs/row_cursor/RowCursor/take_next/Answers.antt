@@ -29,12 +29,12 @@ take-requires-clause-plain g c = λ names told known.
 
 pub returns-in_err-take-clause-left : goal.returns-in_err-take-clause-left
 returns-in_err-take-clause-left g c = λ names told.
-    let new : RowCursor = record { case = c.args.self.now.case; heap = c.args.self.now.heap; asked = c.args.self.now.asked; starts = c.args.self.now.starts; logs = c.args.self.now.logs; page = c.take.new.self; next = c.args.self.now.next } in
+    let new : RowCursor = record { case = c.args.self.now.case; heap = c.args.self.now.heap; asked = c.args.self.now.asked; starts = c.args.self.now.starts; logs = c.args.self.now.logs; page = c.take.new.self; next = c.args.self.now.next; taken = c.saturating_add-self.result } in
     unread_same names c.args.self.now new (c.requires.done names told) refl refl c.in_err-take.ensures.empty
 
 pub returns-in_err-take-clause-told : goal.returns-in_err-take-clause-told
 returns-in_err-take-clause-told g c = λ names told.
-    moved names c.args.self.now c.take.new.self c.args.self.now.next (c.requires.told names told) c.take.ensures.few
+    moved names c.args.self.now c.take.new.self c.args.self.now.next _ (c.requires.told names told) c.take.ensures.few
     (nothing_in_hand c.args.self.now.case.now names (toast_in (heap_at c.args.self.now)) (chunks_in (heap_at c.args.self.now)) c.take.new.self c.in_err-take.ensures.empty)
     (λ yes. absurd (false≢true (sym c.take.ensures.found ∙ yes)))
 
@@ -48,7 +48,7 @@ returns-clause-left g c = λ names told.
     let bytes = c.in_ok-take.ensures.bytes names told ∙ page_is case names (heap_in heap) c.args.self.now.next here.belong.heap in
     let known = subst (λ (t : Table). AreKnown t c.args.self.now.next c.take.new.self) (heap_rules_are case names c.heap_rules-table.result rules.kind (rules.columns ∙ c.new-columns.ensures ∙ c.column_types.ensures) (ap toast_oid_seen rules.toast ∙ c.toast_table-toast.ensures.oid) (rules.logs ∙ here.logs)) (c.in_ok-take.ensures.known names told) in
     let load = loaded case names (toast_in heap) (chunks_in heap) c.take.new.self c.args.self.now.next here.quiet below here.belong.toast here.heap.chunks c.in_ok-take.ensures.block c.in_ok-take.ensures.done bytes known in
-    let new : RowCursor = record { case = c.args.self.now.case; heap = c.args.self.now.heap; asked = c.args.self.now.asked; starts = c.args.self.now.starts; logs = c.args.self.now.logs; page = c.take.new.self; next = c.args.self.now.next + 1 } in
+    let new : RowCursor = record { case = c.args.self.now.case; heap = c.args.self.now.heap; asked = c.args.self.now.asked; starts = c.args.self.now.starts; logs = c.args.self.now.logs; page = c.take.new.self; next = c.args.self.now.next + 1; taken = c.saturating_add-self.result } in
     unread_next names c.args.self.now new (c.requires.done names told) refl refl below load.rows
 
 pub returns-clause-told : goal.returns-clause-told
@@ -61,7 +61,7 @@ returns-clause-told g c = λ names told.
     let bytes = c.in_ok-take.ensures.bytes names told ∙ page_is case names (heap_in heap) c.args.self.now.next here.belong.heap in
     let known = subst (λ (t : Table). AreKnown t c.args.self.now.next c.take.new.self) (heap_rules_are case names c.heap_rules-table.result rules.kind (rules.columns ∙ c.new-columns.ensures ∙ c.column_types.ensures) (ap toast_oid_seen rules.toast ∙ c.toast_table-toast.ensures.oid) (rules.logs ∙ here.logs)) (c.in_ok-take.ensures.known names told) in
     let load = loaded case names (toast_in heap) (chunks_in heap) c.take.new.self c.args.self.now.next here.quiet below here.belong.toast here.heap.chunks c.in_ok-take.ensures.block c.in_ok-take.ensures.done bytes known in
-    moved names c.args.self.now c.take.new.self (c.args.self.now.next + 1) here c.take.ensures.few load.hand (λ yes. absurd (false≢true (sym c.take.ensures.found ∙ yes)))
+    moved names c.args.self.now c.take.new.self (c.args.self.now.next + 1) _ here c.take.ensures.few load.hand (λ yes. absurd (false≢true (sym c.take.ensures.found ∙ yes)))
 
 pub returns-clause-here : goal.returns-clause-here
 returns-clause-here g c = λ names told.
@@ -74,3 +74,15 @@ returns-clause-here g c = λ names told.
     let known = subst (λ (t : Table). AreKnown t c.args.self.now.next c.take.new.self) (heap_rules_are case names c.heap_rules-table.result rules.kind (rules.columns ∙ c.new-columns.ensures ∙ c.column_types.ensures) (ap toast_oid_seen rules.toast ∙ c.toast_table-toast.ensures.oid) (rules.logs ∙ here.logs)) (c.in_ok-take.ensures.known names told) in
     let load = loaded case names (toast_in heap) (chunks_in heap) c.take.new.self c.args.self.now.next here.quiet below here.belong.toast here.heap.chunks c.in_ok-take.ensures.block c.in_ok-take.ensures.done bytes known in
     load.rows
+
+pub returns-clause-count : goal.returns-clause-count
+returns-clause-count g c = λ names told.
+    let here = c.requires.told names told in
+    let case = c.args.self.now.case.now in
+    let heap = heap_at c.args.self.now in
+    let rules = c.heap_rules-table.ensures in
+    let below = heap_count case names c.args.self.now.next (heap_in heap) here.heap.files.heap c.requires.inside in
+    let bytes = c.in_ok-take.ensures.bytes names told ∙ page_is case names (heap_in heap) c.args.self.now.next here.belong.heap in
+    let known = subst (λ (t : Table). AreKnown t c.args.self.now.next c.take.new.self) (heap_rules_are case names c.heap_rules-table.result rules.kind (rules.columns ∙ c.new-columns.ensures ∙ c.column_types.ensures) (ap toast_oid_seen rules.toast ∙ c.toast_table-toast.ensures.oid) (rules.logs ∙ here.logs)) (c.in_ok-take.ensures.known names told) in
+    let load = loaded case names (toast_in heap) (chunks_in heap) c.take.new.self c.args.self.now.next here.quiet below here.belong.toast here.heap.chunks c.in_ok-take.ensures.block c.in_ok-take.ensures.done bytes known in
+    load.count
