@@ -6,3 +6,4 @@ pub mod KeptLaws
 pub mod MetLaws
 pub mod Places
 mod RootLaws
+mod Taken

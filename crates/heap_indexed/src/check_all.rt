@@ -1,10 +1,12 @@
 //! The check of a heap against all its indexes.
-ghost use Rattle.std.specs.Prelude.{◌≡◌, ◌⊎◌, ◌+◌, ◌++◌, ◌∷◌, [], IfErr, IfOk, List, OnOk, length, map};
+ghost use Rattle.std.specs.Prelude.{◌≡◌, ◌⊎◌, ◌+◌, ◌*◌, ◌≤◌, ◌++◌, ◌∷◌, [], IfErr, IfOk, List, OnOk, length, map};
 ghost use Rattle.outside.specs.Outside.{Asked, IfTold, Names, Tells};
+ghost use Rattle.rel_files.specs.Relation.{count_of};
 ghost use Rattle.reports.specs.Added.{joined, nothing};
 ghost use Rattle.key_attrs.specs.Columns.{tree_columns};
 ghost use Rattle.bt_levels.specs.Files.{number_of};
 ghost use Rattle.bt_levels.specs.Sound.{file_of};
+ghost use Rattle.heap_files.specs.Files.{heap_in};
 ghost use Rattle.heap_check.specs.RowCursor.{AreAsked, asked_at};
 ghost use Rattle.heap_check.specs.declared.row_cursor.RowCursor.{RowCursor as Cursor};
 ghost use Rattle.indexed_rules.specs.Lists.{indexed_lists, joined_lists};
@@ -121,12 +123,22 @@ fn aparts_of(alloc: Global, meetings: &[Meeting]) -> Result<Vec<bool>, NoMemory>
     Ok(aparts)
 }
 
-// What is found of the rows and the entries of indexes, a report for each, and of which of them it is known that no two
-// entries have the same values.
+// What is found of the rows and the entries of indexes, a report for each, of which of them it is known that no two
+// entries have the same values, and how many times a block of the heap was taken in hand.
 #[derive(Drop)]
 struct Met {
     reports: VecDeque<Report>,
     aparts: Vec<bool>,
+    blocks: u64,
+}
+
+/// What is found of a heap together with indexes of it, by entries that meet rows.
+#[derive(Drop)]
+pub struct IndexesMet {
+    /// A report for each index, in their order.
+    pub reports: VecDeque<Report>,
+    /// How many times a block of the heap was taken in hand where entries met rows.
+    pub blocks: u64,
 }
 
 // What is found of the rows and the entries of each index (X1, U6, X2), told by entries that meet rows.
@@ -139,6 +151,8 @@ fn meet_all<F: Files>(alloc: Global, files: &mut F, at: IndexedTable<'_>) -> Res
     ensures aparts { Tells F.seen files.old result (λ met names.
         AreApartWhere names at.entry.trees.now met.aparts.items) }
     ensures aparts_count { IfOk result (λ met. length met.aparts.items ≡ length at.entry.trees.now) }
+    ensures blocks { IfOk result (λ met. met.blocks
+        ≤ count_of (heap_in at.entry.heap.now) * (1 + length at.entry.trees.now)) }
     ensures asked { Asked F.seen files.old files.new result PageFault.ReadFault }
 {
     set_tells_of_pages();
@@ -152,9 +166,14 @@ fn meet_all<F: Files>(alloc: Global, files: &mut F, at: IndexedTable<'_>) -> Res
         firsts: &firsts,
     };
     ranges.judge_all(files, &mut meetings, &mut cursor)?;
+    let blocks = cursor.taken();
     let aparts = aparts_of(alloc, &meetings)?;
     let reports = reports_of(alloc, meetings)?;
-    Ok(Met { reports, aparts })
+    Ok(Met {
+        reports,
+        aparts,
+        blocks,
+    })
 }
 
 // Adds to the report on each index, where nothing is in it, the rows whose keys earlier rows have (X3). Of some indexes
@@ -194,27 +213,32 @@ fn judge_keys<F: Files>(
 /// Judges a heap together with each of these indexes of it, in all of which nothing was found, and gives a report for
 /// each, in their order: that which [`check_indexed`] adds. Here the rows of a range of blocks are kept by their roots,
 /// each with its values, and the entries of each index meet them, in whatever order these stand: so each row of the
-/// heap is read once for all indexes, and again only in a range with a row that no entry met.
+/// heap is read once for all indexes, and again only in a range with a row that no entry met. Blocks of the heap are
+/// taken in hand once, and once more for each index at most; `blocks` says how many times. What equal keys (X3) are
+/// looked for in is not counted there.
 ///
 /// `ReadFault` comes only where the count of the files' faults rose, and `NoFile` and `TooLarge` never.
 pub fn meet_indexes<F: Files>(
     alloc: Global,
     files: &mut F,
     at: IndexedTable<'_>,
-) -> Result<VecDeque<Report>, CheckFault>
+) -> Result<IndexesMet, CheckFault>
     requires belong { BelongToIt at }
     requires hold { IfTold F.seen files.old (λ names. HoldIt names at) }
-    ensures reports { Tells F.seen files.old result (λ reports names. reports.items
+    ensures reports { Tells F.seen files.old result (λ met names. met.reports.items
         ≡ map (λ tree. indexed_lists at.entry.case.now names (number_of (file_of tree))) at.entry.trees.now) }
+    ensures blocks { IfOk result (λ met. met.blocks
+        ≤ count_of (heap_in at.entry.heap.now) * (1 + length at.entry.trees.now)) }
     ensures only { IfErr result (λ e. e ≡ CheckFault.ReadFault ⊎ e ≡ CheckFault.NoMemory) }
     ensures asked { Asked F.seen files.old files.new result CheckFault.ReadFault }
 {
     let Met {
         reports: joined,
         aparts,
+        blocks,
     } = meet_all(alloc, files, at)?;
     let reports = judge_keys(alloc, files, at, joined, &aparts)?;
-    Ok(reports)
+    Ok(IndexesMet { reports, blocks })
 }
 
 // The report of each index, told by look-ups.
@@ -260,6 +284,7 @@ pub fn check_indexes<F: Files>(
     if at.heap.heap().blocks() < MEET_BLOCKS {
         probe_indexes(alloc, files, at)
     } else {
-        meet_indexes(alloc, files, at)
+        let met = meet_indexes(alloc, files, at)?;
+        Ok(met.reports)
     }
 }

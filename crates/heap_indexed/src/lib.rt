@@ -13,4 +13,4 @@ mod meeting;
 mod ranges;
 
 pub use check::check_indexed;
-pub use check_all::{check_indexes, meet_indexes};
+pub use check_all::{IndexesMet, check_indexes, meet_indexes};

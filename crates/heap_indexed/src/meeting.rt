@@ -1,5 +1,5 @@
 //! The rows of a range of heap blocks against one index: its entries meet them, and those that none met are looked up.
-ghost use Rattle.std.specs.Prelude.{◌≡◌, ◌∷◌, ◌++◌, ◌-◌, ◌<◌, ◌≤◌, [], IfOk, List, OnErr, OnOk};
+ghost use Rattle.std.specs.Prelude.{◌≡◌, ◌∷◌, ◌++◌, ◌+◌, ◌-◌, ◌<◌, ◌≤◌, [], IfOk, List, OnErr, OnOk};
 ghost use Rattle.std.specs.Prelude.{true, false};
 ghost use Rattle.std.specs.Option.{option_copied};
 ghost use Rattle.outside.specs.Outside.{Asked, IfTold, Names};
@@ -9,7 +9,7 @@ ghost use Rattle.reports.specs.Lists.{Lists};
 ghost use Rattle.bt_levels.specs.declared.sound.SoundTree.{SoundTree as Tree};
 ghost use Rattle.bt_levels.specs.Sound.{HoldsTree, block_count, held_block, index_columns};
 ghost use Rattle.heap_files.specs.Files.{heap_in};
-ghost use Rattle.heap_check.specs.RowCursor.{IsAtRow, IsCursorOf, IsSameCursor, next_in, rows_here};
+ghost use Rattle.heap_check.specs.RowCursor.{IsAtRow, IsCursorOf, IsSameCursor, next_in, rows_here, taken_in};
 ghost use Rattle.heap_check.specs.declared.rows.LiveRow.{LiveRow as Row};
 ghost use Rattle.index_targets.specs.Passes.{strays_of};
 ghost use Rattle.leaf_meets.specs.Meeting.{HaveMetSome, all_entries};
@@ -196,6 +196,7 @@ impl Meeting {
         ensures pages { IfTold F.seen files.old (λ names. AreOf names index.entry.at.tree.now self.new.look_ups) }
         ensures behind { IfTold F.seen files.old (λ names. OnOk result (IsBehind names cursor.new)) }
         ensures next_block { OnOk result (next_in cursor.new ≡ next_in cursor.old) }
+        ensures taken { taken_in cursor.new ≤ taken_in cursor.old + (next_in cursor.old - first) }
         ensures same { IsSameCursor cursor.old cursor.new }
         ensures asked { Asked F.seen files.old files.new result PageFault.ReadFault }
     {
@@ -273,6 +274,7 @@ impl Meeting {
             index.entry.at.tree.now self.new)) }
         ensures behind { IfTold F.seen files.old (λ names. OnOk result (IsBehind names cursor.new)) }
         ensures next_block { OnOk result (next_in cursor.new ≡ next_in cursor.old) }
+        ensures taken { taken_in cursor.new ≤ taken_in cursor.old + (next_in cursor.old - first) }
         ensures same { IsSameCursor cursor.old cursor.new }
         ensures asked { Asked F.seen files.old files.new result PageFault.ReadFault }
     {

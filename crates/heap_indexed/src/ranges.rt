@@ -1,5 +1,5 @@
 //! The rows of a heap against all its indexes, range by range of its blocks: each block is read once for all of them.
-ghost use Rattle.std.specs.Prelude.{◌≡◌, ◌∷◌, ◌++◌, ◌+◌, ◌-◌, ◌<◌, ◌≤◌, [], List, length};
+ghost use Rattle.std.specs.Prelude.{◌≡◌, ◌∷◌, ◌++◌, ◌+◌, ◌-◌, ◌*◌, ◌<◌, ◌≤◌, [], List, length};
 ghost use Rattle.std.specs.Prelude.{None, OnOk, Some, false, slice_index_or, true, ℕ};
 ghost use Rattle.std.specs.Bool.{OnTrue};
 ghost use Rattle.std.specs.Option.{option_copied};
@@ -9,7 +9,7 @@ ghost use Rattle.reports.specs.Added.{joined, nothing};
 ghost use Rattle.reports.specs.Lists.{Lists};
 ghost use Rattle.bt_levels.specs.declared.sound.SoundTree.{SoundTree as Tree};
 ghost use Rattle.heap_files.specs.Files.{heap_in, targets_in};
-ghost use Rattle.heap_check.specs.RowCursor.{IsAtRow, IsCursorOf, IsSameCursor, next_in, rows_here};
+ghost use Rattle.heap_check.specs.RowCursor.{IsAtRow, IsCursorOf, IsSameCursor, next_in, rows_here, taken_in};
 ghost use Rattle.heap_check.specs.Rows.{block_rows, rows_of};
 ghost use Rattle.heap_check.specs.declared.rows.LiveRow.{LiveRow as Row};
 ghost use Rattle.index_targets.specs.Passes.{strays_of};
@@ -155,6 +155,7 @@ impl<'a> Ranges<'a> {
         ensures end { Tells F.seen files.old result (λ found names. found ≡ false → rows_here names cursor.new ≡ []) }
         ensures told { IfTold F.seen files.old (λ names. IsCursorOf names cursor.new) }
         ensures next_block { next_in cursor.new ≡ next_in cursor.old }
+        ensures taken { taken_in cursor.new ≡ taken_in cursor.old }
         ensures cursor { IsSameCursor cursor.old cursor.new }
         ensures asked { Asked F.seen files.old files.new result PageFault.ReadFault }
     {
@@ -184,6 +185,7 @@ impl<'a> Ranges<'a> {
         ensures count { OnOk result (length meetings.new ≡ length meetings.old) }
         ensures behind { IfTold F.seen files.old (λ names. OnOk result (IsBehind names cursor.new)) }
         ensures next_block { next_in cursor.new ≡ next_in cursor.old }
+        ensures taken { taken_in cursor.new ≡ taken_in cursor.old }
         ensures cursor { IsSameCursor cursor.old cursor.new }
         ensures asked { Asked F.seen files.old files.new result PageFault.ReadFault }
     {
@@ -219,6 +221,7 @@ impl<'a> Ranges<'a> {
         ensures count { OnOk result (length meetings.new ≡ length meetings.old) }
         ensures behind { IfTold F.seen files.old (λ names. OnOk result (IsBehind names cursor.new)) }
         ensures next_block { OnOk result (next_in cursor.new ≡ next_in cursor.old + 1) }
+        ensures taken { taken_in cursor.new ≤ taken_in cursor.old + 1 }
         ensures cursor { IsSameCursor cursor.old cursor.new }
         ensures asked { Asked F.seen files.old files.new result PageFault.ReadFault }
     {
@@ -248,6 +251,8 @@ impl<'a> Ranges<'a> {
         ensures progress { OnOk result (next_in cursor.old < count_of (heap_in self.entry.at.heap.now)
             → next_in cursor.old < next_in cursor.new) }
         ensures inside { OnOk result (next_in cursor.new ≤ count_of (heap_in self.entry.at.heap.now)) }
+        ensures taken { OnOk result (taken_in cursor.new
+            ≤ taken_in cursor.old + (next_in cursor.new - next_in cursor.old)) }
         ensures cursor { IsSameCursor cursor.old cursor.new }
         ensures asked { Asked F.seen files.old files.new result PageFault.ReadFault }
     {
@@ -289,6 +294,8 @@ impl<'a> Ranges<'a> {
         ensures count { OnOk result (length meetings.new ≡ length meetings.old) }
         ensures behind { IfTold F.seen files.old (λ names. OnOk result (IsBehind names cursor.new)) }
         ensures next_block { OnOk result (next_in cursor.new ≡ next_in cursor.old) }
+        ensures taken { taken_in cursor.new
+            ≤ taken_in cursor.old + (next_in cursor.old - first) * length self.entry.at.trees.now }
         ensures cursor { IsSameCursor cursor.old cursor.new }
         ensures asked { Asked F.seen files.old files.new result PageFault.ReadFault }
     {
@@ -325,6 +332,8 @@ impl<'a> Ranges<'a> {
         ensures progress { OnOk result (next_in cursor.old < count_of (heap_in self.entry.at.heap.now)
             → next_in cursor.old < next_in cursor.new) }
         ensures inside { OnOk result (next_in cursor.new ≤ count_of (heap_in self.entry.at.heap.now)) }
+        ensures taken { OnOk result (taken_in cursor.new ≤ taken_in cursor.old
+            + (next_in cursor.new - next_in cursor.old) * (1 + length self.entry.at.trees.now)) }
         ensures cursor { IsSameCursor cursor.old cursor.new }
         ensures asked { Asked F.seen files.old files.new result PageFault.ReadFault }
     {
@@ -352,6 +361,8 @@ impl<'a> Ranges<'a> {
             (EachFor (IsJudged self.entry.at.case.now names (count_of (heap_in self.entry.at.heap.now))
             (targets_in self.entry.at.heap.now)) self.entry.at.trees.now meetings.new)) }
         ensures count { OnOk result (length meetings.new ≡ length meetings.old) }
+        ensures taken { OnOk result (taken_in cursor.new ≤ taken_in cursor.old
+            + count_of (heap_in self.entry.at.heap.now) * (1 + length self.entry.at.trees.now)) }
         ensures asked { Asked F.seen files.old files.new result PageFault.ReadFault }
     {
         let heap = self.at.heap;

@@ -1,4 +1,5 @@
 pub mod Cases
 pub mod Owed
 mod Spots
+pub mod Taken
 pub mod Widths

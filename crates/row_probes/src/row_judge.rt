@@ -10,7 +10,7 @@ ghost use Rattle.bt_levels.specs.Sound.{file_of, index_columns, more_of, specs_o
 ghost use Rattle.reports.specs.Added.{doubt_at, report_lists};
 ghost use Rattle.bt_levels.specs.Files.{number_of};
 ghost use Rattle.heap_files.specs.Files.{heap_in};
-ghost use Rattle.heap_check.specs.RowCursor.{IsAtRow, IsSameCursor, next_in, rows_here};
+ghost use Rattle.heap_check.specs.RowCursor.{IsAtRow, IsSameCursor, next_in, rows_here, taken_in};
 ghost use Rattle.heap_check.specs.Rows.{block_rows};
 ghost use Rattle.heap_check.specs.declared.rows.LiveRow.{LiveRow as Row};
 ghost use Rattle.indexed_rules.specs.Lists.{missing_rule};
@@ -178,6 +178,7 @@ impl RowJudge<'_> {
             + length (rows_here names cursor.old) * look_length names self.entry.index.at.tree.now)) }
         ensures told { IfTold F.seen files.old (λ names. IsWithin names self.entry look_ups.new cursor.new) }
         ensures next_block { next_in cursor.new ≡ next_in cursor.old }
+        ensures taken { taken_in cursor.new ≡ taken_in cursor.old }
         ensures same { IsSameCursor cursor.old cursor.new }
         ensures asked { Asked F.seen files.old files.new result PageFault.ReadFault }
     {
@@ -208,6 +209,7 @@ impl RowJudge<'_> {
             + length (rows_here names cursor.old) * look_length names self.entry.index.at.tree.now)) }
         ensures told { IfTold F.seen files.old (λ names. IsWithin names self.entry look_ups.new cursor.new) }
         ensures next_block { next_in cursor.new ≡ next_in cursor.old }
+        ensures taken { taken_in cursor.new ≡ taken_in cursor.old }
         ensures same { IsSameCursor cursor.old cursor.new }
         ensures asked { Asked F.seen files.old files.new result PageFault.ReadFault }
     {
@@ -240,6 +242,7 @@ impl RowJudge<'_> {
         ensures told { IfTold F.seen files.old (λ names. OnOk result
             (IsBetween names self.entry look_ups.new cursor.new)) }
         ensures next_block { OnOk result (next_in cursor.new ≡ next_in cursor.old + 1) }
+        ensures taken { taken_in cursor.new ≤ taken_in cursor.old + 1 }
         ensures same { IsSameCursor cursor.old cursor.new }
         ensures asked { Asked F.seen files.old files.new result PageFault.ReadFault }
     {
@@ -248,7 +251,7 @@ impl RowJudge<'_> {
     }
 
     /// Judges the rows of the blocks from a cursor's next up to another: adds each that has no entry (X1), and each of
-    /// which a value in the index is compressed (U6).
+    /// which a value in the index is compressed (U6). Each of these blocks is taken in hand once at most.
     pub fn judge_blocks<F: Files>(
         self,
         files: &mut F,
@@ -271,6 +274,7 @@ impl RowJudge<'_> {
         ensures told { IfTold F.seen files.old (λ names. OnOk result
             (IsBetween names self.entry look_ups.new cursor.new)) }
         ensures next_block { OnOk result (next_in cursor.new ≡ next_in cursor.old + (end - next_in cursor.old)) }
+        ensures taken { taken_in cursor.new ≤ taken_in cursor.old + (end - next_in cursor.old) }
         ensures same { IsSameCursor cursor.old cursor.new }
         ensures asked { Asked F.seen files.old files.new result PageFault.ReadFault }
     {

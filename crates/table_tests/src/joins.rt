@@ -135,7 +135,7 @@ fn reported(alloc: Global, table: Table) -> Result<(Octets, u64), Fail> {
 fn met_of(alloc: Global, files: &mut UntoldFiles, at: IndexedTable<'_>) -> Result<Octets, Fail>
     requires { BelongToIt at }
 {
-    let mut reports = meet_indexes(alloc, files, at)?;
+    let mut reports = meet_indexes(alloc, files, at)?.reports;
     match reports.pop_front() {
         Some(report) => Ok(report.text(alloc)?),
         None => Err("no report".into()),

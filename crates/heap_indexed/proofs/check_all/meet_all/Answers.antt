@@ -91,3 +91,6 @@ returns-clause-aparts g c = λ names told k tree lt known.
     let are = c.in_ok-aparts.ensures.are ∙ ap (map (λ (m : Meeting). m.apart)) (c.deref-3.ensures.value ∙ end) in
     each-known (AreApart names) trees meetings (record { same = judged.same; each = λ j t d below. (judged.each j t d below).apart }) k tree lt
     (ap (λ (l : List Bool). slice_index_or l k false) (sym are) ∙ known)
+
+pub returns-clause-blocks : goal.returns-clause-blocks
+returns-clause-blocks g c = omega (arith, c.taken-blocks.ensures, c.in_ok-judge_all.ensures.taken, c.in_ok-cursor.ensures.taken)

@@ -1,4 +1,4 @@
-use Rattle.std.proofs.Common.{◌∙◌, ◌-◌, ap, sym}
+use Rattle.std.proofs.Common.{◌∙◌, ◌-◌, ap, sym, arith}
 use Rattle.std.proofs.lemmas.Result.{on_ok_weaker}
 use Rattle.reports.specs.Added.{joined, report_lists}
 use Rattle.heap_check.specs.RowCursor.{next_in}
@@ -27,3 +27,6 @@ judge_blocks-requires-clause-told g c = λ names told.
 
 pub returns-clause-behind : goal.returns-clause-behind
 returns-clause-behind g c = λ names told. on_ok_weaker c.judge_blocks.result (λ between. between.behind) (c.judge_blocks.ensures.told names told)
+
+pub returns-clause-taken : goal.returns-clause-taken
+returns-clause-taken g c = omega (arith, c.judge_blocks.ensures.taken, c.go_to.ensures.taken, c.go_to.ensures.next, c.next_block-end.ensures)

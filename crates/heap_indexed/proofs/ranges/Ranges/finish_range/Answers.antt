@@ -1,4 +1,4 @@
-use Rattle.std.proofs.Common.{◌≡◌, ◌∙◌, ◌-◌, List, [], get_or, refl, subst, sym, arith}
+use Rattle.std.proofs.Common.{◌≡◌, ◌∙◌, ◌+◌, ◌-◌, ◌*◌, ◌≤◌, ℕ, List, length, [], get_or, refl, subst, sym, arith}
 use Rattle.std.specs.Option.{option_copied}
 use Rattle.std.proofs.lemmas.List.{length-set}
 use Rattle.outside.proofs.Asking.{Passed-next, Passed-none}
@@ -6,7 +6,7 @@ use Rattle.case_file.specs.Record.{CaseRecord}
 use Rattle.bt_levels.specs.declared.sound.SoundTree.{SoundTree}
 use Rattle.heap_files.specs.declared.files.SoundHeap.{SoundHeap}
 use Rattle.reports.specs.Added.{joined}
-use Rattle.heap_check.specs.RowCursor.{next_in}
+use Rattle.heap_check.specs.RowCursor.{next_in, taken_in}
 use Rattle.heap_check.specs.declared.rows.LiveRow.{LiveRow}
 use Rattle.index_targets.specs.Passes.{strays_of}
 use Rattle.heap_indexed.specs.declared.meeting.Meeting.{Meeting}
@@ -16,6 +16,7 @@ use Rattle.row_probes.specs.Rows.{owed_for, rows_from}
 use Rattle.heap_indexed.proofs.Each.{above-set, below-set, still-before}
 use Rattle.row_keys.proofs.Places.{same-then}
 use Rattle.heap_indexed.proofs.Places.{index-at, same-table}
+use Rattle.heap_indexed.proofs.Taken.{at-most, for-one, for-some}
 use Rattle.heap_indexed.proofs.ranges.Ranges.finish_range.Goals as goal
 
 pub finish_range-requires-clause-index : goal.finish_range-requires-clause-index
@@ -52,6 +53,7 @@ loop-j-init g c = record {
   same = λ k d le. refl;
   done = λ names told done strays was k t d lt. absurd (omega arith);
   next_block = refl;
+  taken = omega arith;
   cursor = record { case = refl; heap = refl; asked = refl };
   asked = Passed-none;
 }
@@ -79,6 +81,24 @@ loop-j-preserved g c =
           (subst (λ (rs : List LiveRow). InWork names (done tree) (strays tree) rs tree (get_or c.loop-j.meetings c.loop-j.j c.index-meetings-j.result)) (sym same-rows)
           (still-before (λ (t : SoundTree) (m : Meeting). InWork names (done t) (strays t) rows t m) trees c.args.meetings.now c.loop-j.meetings c.loop-j.j inv.same was tree c.index-meetings-j.result c.index_at.ensures.tree (omega arith)))));
       next_block = next.next_block ∙ inv.next_block;
+      taken =
+          for-one (taken_in c.finish_range.new.cursor) (taken_in c.loop-j.cursor) (taken_in c.args.cursor.now) (next_in c.args.cursor.now - c.args.first) c.loop-j.j
+          (subst (λ (n : ℕ). taken_in c.finish_range.new.cursor ≤ taken_in c.loop-j.cursor + (n - c.args.first)) inv.next_block next.taken) inv.taken;
       cursor = same-then c.args.cursor.now c.loop-j.cursor c.finish_range.new.cursor inv.cursor next.same;
       asked = Passed-next inv.asked next.asked;
     }
+
+pub returns-in_err-finish_range-clause-taken : goal.returns-in_err-finish_range-clause-taken
+returns-in_err-finish_range-clause-taken g c =
+    let inv = c.loop-j.invariant in
+    let n : ℕ = next_in c.args.cursor.now - c.args.first in
+    let here = for-one (taken_in c.finish_range.new.cursor) (taken_in c.loop-j.cursor) (taken_in c.args.cursor.now) n c.loop-j.j
+    (subst (λ (k : ℕ). taken_in c.finish_range.new.cursor ≤ taken_in c.loop-j.cursor + (k - c.args.first)) inv.next_block c.finish_range.ensures.taken) inv.taken in
+    let most = for-some n (c.loop-j.j + 1) (length c.args.self.at.trees.now) (omega arith) in
+    at-most (taken_in c.finish_range.new.cursor) (taken_in c.args.cursor.now) (n * (c.loop-j.j + 1)) (n * length c.args.self.at.trees.now) here most
+
+pub returns-clause-taken : goal.returns-clause-taken
+returns-clause-taken g c =
+    let n : ℕ = next_in c.args.cursor.now - c.args.first in
+    let most = for-some n c.loop-j.j (length c.args.self.at.trees.now) (omega arith) in
+    at-most (taken_in c.loop-j.cursor) (taken_in c.args.cursor.now) (n * c.loop-j.j) (n * length c.args.self.at.trees.now) c.loop-j.invariant.taken most

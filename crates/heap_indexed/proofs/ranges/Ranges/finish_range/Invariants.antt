@@ -1,11 +1,11 @@
-use Rattle.std.proofs.Common.{◌≡◌, ℕ, ◌-◌, ◌<◌, ◌≤◌, [], length}
+use Rattle.std.proofs.Common.{◌≡◌, ℕ, ◌+◌, ◌-◌, ◌*◌, ◌<◌, ◌≤◌, [], length}
 use Rattle.std.specs.Prelude.{slice_index_or}
 use Rattle.std.specs.Option.{option_copied}
 use Rattle.outside.specs.Outside.{IfTold, Passed}
 use Rattle.bt_levels.specs.declared.sound.SoundTree.{SoundTree}
 use Rattle.reports.specs.Added.{joined}
 use Rattle.reports.specs.Lists.{Lists}
-use Rattle.heap_check.specs.RowCursor.{IsSameCursor, next_in}
+use Rattle.heap_check.specs.RowCursor.{IsSameCursor, next_in, taken_in}
 use Rattle.index_targets.specs.Passes.{strays_of}
 use Rattle.heap_indexed.specs.declared.meeting.Meeting.{Meeting}
 use Rattle.row_probes.specs.Judging.{IsBehind}
@@ -22,6 +22,7 @@ invariant-loop-j g l = record {
   done : IfTold g.F.Files.seen l.fn.files (λ names. (done strays : SoundTree → Lists) → AreInWork names done strays (rows_from l.self.at.case.now names l.first (next_in l.fn.cursor - l.first)) l.self.at.trees.now l.fn.meetings
       → (k : ℕ) (t : SoundTree) (d : Meeting) → k < l.j → InWork names (joined (done (slice_index_or l.self.at.trees.now k t)) (owed_for names (slice_index_or l.self.at.trees.now k t) (rows_from l.self.at.case.now names l.first (next_in l.fn.cursor - l.first)))) (joined (strays (slice_index_or l.self.at.trees.now k t)) (strays_of names (option_copied l.targets) (slice_index_or l.self.at.trees.now k t))) [] (slice_index_or l.self.at.trees.now k t) (slice_index_or l.meetings k d));
   next_block : next_in l.cursor ≡ next_in l.fn.cursor;
+  taken : taken_in l.cursor ≤ taken_in l.fn.cursor + (next_in l.fn.cursor - l.first) * l.j;
   cursor : IsSameCursor l.fn.cursor l.cursor;
   asked : Passed g.F.Files.seen l.fn.files l.files;
 }

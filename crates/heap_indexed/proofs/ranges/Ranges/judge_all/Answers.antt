@@ -1,4 +1,4 @@
-use Rattle.std.proofs.Common.{◌≡◌, ◌∙◌, ◌-◌, ◌<◌, ◌≤◌, ℕ, List, [], ap, sym, subst, arith}
+use Rattle.std.proofs.Common.{◌≡◌, ◌∙◌, ◌+◌, ◌-◌, ◌*◌, ◌<◌, ◌≤◌, ℕ, List, [], length, ap, sym, subst, arith}
 use Rattle.std.specs.Prelude.{Bool, None, Option, Some}
 use Rattle.outside.specs.Outside.{Names}
 use Rattle.outside.proofs.Asking.{Passed-next, Passed-none}
@@ -8,7 +8,7 @@ use Rattle.reports.specs.Added.{joined, nothing, report_lists}
 use Rattle.reports.specs.Lists.{Lists}
 use Rattle.rel_files.specs.Relation.{count_of}
 use Rattle.heap_files.specs.Files.{heap_in, targets_in}
-use Rattle.heap_check.specs.RowCursor.{next_in}
+use Rattle.heap_check.specs.RowCursor.{next_in, taken_in}
 use Rattle.index_targets.specs.Passes.{strays_of}
 use Rattle.heap_indexed.specs.declared.meeting.Meeting.{Meeting}
 use Rattle.heap_indexed.specs.Meetings.{AreInWork, EachFor, HasRoots, InWork, IsJudged}
@@ -21,6 +21,7 @@ use Rattle.std.specs.Option.{option_copied}
 use Rattle.heap_check.specs.Rows.{rows_of}
 use Rattle.heap_indexed.proofs.Places.{same-table}
 use Rattle.heap_indexed.proofs.RootLaws.{heap-roots}
+use Rattle.heap_indexed.proofs.Taken.{at-most, first-range, next-range, up-to}
 use Rattle.heap_indexed.proofs.ranges.Ranges.judge_all.Goals as goal
 
 -- the first range: nothing was found before it
@@ -85,6 +86,7 @@ loop-k-init g c =
           (first.work names told (λ (t : SoundTree). nothing) (λ (t : SoundTree). nothing) (c.requires.work names told));
       onward = λ le. omega arith;
       inside = first.inside;
+      taken = first-range (taken_in c.judge_range.new.cursor) (taken_in c.args.cursor.now) (next_in c.args.cursor.now) (next_in c.judge_range.new.cursor) (1 + length c.args.self.at.trees.now) c.requires.begun first.taken;
       cursor = first.cursor;
       asked = Passed-next Passed-none first.asked;
     }
@@ -127,6 +129,7 @@ loop-k-preserved g c =
           let before = inv.onward (omega (arith, le)) in
           omega (arith, before, more);
       inside = next.inside;
+      taken = next-range (taken_in c.judge_range-in-loop-k.new.cursor) (taken_in c.loop-k.cursor) (taken_in c.args.cursor.now) n m (1 + length c.args.self.at.trees.now) next.onward next.taken inv.taken;
       cursor = same-then c.args.cursor.now c.loop-k.cursor c.judge_range-in-loop-k.new.cursor inv.cursor next.cursor;
       asked = Passed-next inv.asked next.asked;
     }
@@ -150,3 +153,15 @@ returns-then-blocks-next_block-clause-judged g c = λ names told.
     let inside = inv.inside in
     let end : next_in c.loop-k.cursor ≡ count = omega (arith, blocks, inside, c.if-blocks-next_block.true, c.next_block.ensures) in
     all-judged c.args.self.at.case.now names count (next_in c.loop-k.cursor) (targets_in c.args.self.at.heap.now) c.args.self.at.trees.now c.loop-k.meetings end (inv.work names told)
+
+-- no block is behind the last
+all-taken : (a d n k m : ℕ) → n ≤ k → a ≤ d + n * m → a ≤ d + k * m
+all-taken a d n k m inside here = at-most a d (n * m) (k * m) here (up-to n k m inside)
+
+pub returns-then-blocks-next_block-clause-taken : goal.returns-then-blocks-next_block-clause-taken
+returns-then-blocks-next_block-clause-taken g c =
+    all-taken (taken_in c.loop-k.cursor) (taken_in c.args.cursor.now) (next_in c.loop-k.cursor) (count_of (heap_in c.args.self.at.heap.now)) (1 + length c.args.self.at.trees.now) c.loop-k.invariant.inside c.loop-k.invariant.taken
+
+pub returns-clause-taken : goal.returns-clause-taken
+returns-clause-taken g c =
+    all-taken (taken_in c.loop-k.cursor) (taken_in c.args.cursor.now) (next_in c.loop-k.cursor) (count_of (heap_in c.args.self.at.heap.now)) (1 + length c.args.self.at.trees.now) c.loop-k.invariant.inside c.loop-k.invariant.taken

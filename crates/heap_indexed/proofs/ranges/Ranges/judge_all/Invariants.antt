@@ -1,9 +1,9 @@
-use Rattle.std.proofs.Common.{◌≡◌, ◌≤◌, [], length}
+use Rattle.std.proofs.Common.{◌≡◌, ◌+◌, ◌*◌, ◌≤◌, [], length}
 use Rattle.std.specs.Prelude.{Some}
 use Rattle.outside.specs.Outside.{IfTold, Passed}
 use Rattle.rel_files.specs.Relation.{count_of}
 use Rattle.heap_files.specs.Files.{heap_in, targets_in}
-use Rattle.heap_check.specs.RowCursor.{IsSameCursor, next_in}
+use Rattle.heap_check.specs.RowCursor.{IsSameCursor, next_in, taken_in}
 use Rattle.index_targets.specs.Passes.{strays_of}
 use Rattle.row_probes.specs.Judging.{IsBehind}
 use Rattle.heap_indexed.specs.Meetings.{AreInWork}
@@ -18,6 +18,7 @@ invariant-loop-k g l = record {
   work : IfTold g.F.Files.seen l.fn.files (λ names. AreInWork names (λ tree. owed_for names tree (rows_from l.self.at.case.now names 0 (next_in l.cursor))) (λ tree. strays_of names (Some (targets_in l.self.at.heap.now)) tree) [] l.self.at.trees.now l.meetings);
   onward : l.k ≤ count_of (heap_in l.self.at.heap.now) → l.k ≤ next_in l.cursor;
   inside : next_in l.cursor ≤ count_of (heap_in l.self.at.heap.now);
+  taken : taken_in l.cursor ≤ taken_in l.fn.cursor + next_in l.cursor * (1 + length l.self.at.trees.now);
   cursor : IsSameCursor l.fn.cursor l.cursor;
   asked : Passed g.F.Files.seen l.fn.files l.files;
 }

@@ -1,8 +1,8 @@
-use Rattle.std.proofs.Common.{◌≡◌, ◌∙◌, ◌-◌, ℕ, [], sym, subst, arith}
+use Rattle.std.proofs.Common.{◌≡◌, ◌∙◌, ◌+◌, ◌-◌, ◌*◌, ◌≤◌, ℕ, [], length, sym, subst, arith}
 use Rattle.std.specs.Option.{option_copied}
 use Rattle.bt_levels.specs.declared.sound.SoundTree.{SoundTree}
 use Rattle.reports.specs.Added.{joined}
-use Rattle.heap_check.specs.RowCursor.{next_in}
+use Rattle.heap_check.specs.RowCursor.{next_in, taken_in}
 use Rattle.index_targets.specs.Passes.{strays_of}
 use Rattle.heap_indexed.specs.Meetings.{AreInWork}
 use Rattle.row_probes.specs.Rows.{owed_for, rows_from}
@@ -10,6 +10,7 @@ use Rattle.rel_files.specs.Relation.{count_of}
 use Rattle.heap_files.specs.Case.{heap_blocks}
 use Rattle.heap_files.specs.Files.{heap_in}
 use Rattle.heap_indexed.proofs.Places.{same-table}
+use Rattle.heap_indexed.proofs.Taken.{for-all}
 use Rattle.row_keys.proofs.Pages.{count-is}
 use Rattle.heap_indexed.proofs.RootLaws.{roots-part}
 use Rattle.heap_indexed.proofs.ranges.Ranges.judge_range.Goals as goal
@@ -56,3 +57,15 @@ returns-clause-work g c = λ names told done strays work.
 
 pub returns-clause-behind : goal.returns-clause-behind
 returns-clause-behind g c = λ names told. c.in_ok-finish_range.ensures.behind names (c.keep_blocks.ensures.asked.same ∙ told)
+
+pub returns-clause-taken : goal.returns-clause-taken
+returns-clause-taken g c =
+    let first = next_in c.args.cursor.now in
+    let mid = next_in c.keep_blocks.new.cursor in
+    let m = length c.args.self.at.trees.now in
+    let end = taken_in c.finish_range.new.cursor in
+    let between = taken_in c.keep_blocks.new.cursor in
+    let finished : end ≤ between + (mid - first) * m =
+    subst (λ (n : ℕ). end ≤ between + (mid - n) * m) c.next_block-first.ensures c.finish_range.ensures.taken in
+    subst (λ (n : ℕ). end ≤ taken_in c.args.cursor.now + (n - first) * (1 + m)) (sym c.in_ok-finish_range.ensures.next_block)
+    (for-all end between (taken_in c.args.cursor.now) (mid - first) m c.in_ok-keep_blocks.ensures.taken finished)

@@ -1,4 +1,4 @@
-use Rattle.std.proofs.Common.{◌≡◌, ◌∙◌, ◌≤◌, ◌++◌, List, length, ap, sym, subst}
+use Rattle.std.proofs.Common.{◌≡◌, ◌∙◌, ◌≤◌, ◌++◌, List, length, ap, sym, subst, arith}
 use Rattle.std.proofs.lemmas.Result.{on_ok_weaker}
 use Rattle.case_file.specs.Record.{CaseRecord}
 use Rattle.heap_check.specs.RowCursor.{case_at, next_in, rows_here}
@@ -6,6 +6,7 @@ use Rattle.heap_check.specs.Rows.{block_rows}
 use Rattle.heap_check.specs.declared.rows.LiveRow.{LiveRow}
 use Rattle.heap_indexed.specs.Meetings.{AreInWork}
 use Rattle.row_keys.proofs.Pages.{block-few}
+use Rattle.row_probes.proofs.Taken.{once-more}
 use Rattle.heap_indexed.proofs.Places.{same-table}
 use Rattle.heap_indexed.proofs.ranges.Ranges.keep_block.Goals as goal
 
@@ -38,3 +39,12 @@ returns-clause-kept g c = λ names told.
     subst (λ (rs : List LiveRow). AreInWork names done strays (range ++ rs) c.args.self.at.trees.now c.keep_rows.new.meetings) here
     (kept done strays range (c.in_ok-add_block.ensures names done strays range work)))
     (c.keep_rows.ensures.kept names same)
+
+pub returns-in_err-items-clause-taken : goal.returns-in_err-items-clause-taken
+returns-in_err-items-clause-taken g c = once-more _ _ c.take_block.ensures.taken
+
+pub returns-in_err-add_block-clause-taken : goal.returns-in_err-add_block-clause-taken
+returns-in_err-add_block-clause-taken g c = once-more _ _ c.take_block.ensures.taken
+
+pub returns-clause-taken : goal.returns-clause-taken
+returns-clause-taken g c = omega (arith, c.keep_rows.ensures.taken, once-more _ _ c.take_block.ensures.taken)

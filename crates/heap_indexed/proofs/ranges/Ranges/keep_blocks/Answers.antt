@@ -22,6 +22,7 @@ loop-k-init g c = record {
   behind = c.requires.behind;
   kept = λ names told done strays work. subst (λ (rows : List LiveRow). AreInWork names done strays rows c.args.self.at.trees.now c.args.meetings.now) (sym (rows-none c.args.self.at.case.now names (next_in c.args.cursor.now))) work;
   next_block = omega arith;
+  taken = omega arith;
   same = record { case = refl; heap = refl; asked = refl };
   asked = Passed-none;
 }
@@ -41,6 +42,7 @@ loop-k-preserved g c =
           (ap (λ (b : ℕ). rows_from case names first k ++ block_rows case names b) inv.next_block ∙ sym (rows-next case names first k))
           (next.kept names (inv.asked.same ∙ told) done strays (rows_from case names first k) (inv.kept names told done strays work));
       next_block = next.next_block ∙ omega (arith, inv.next_block);
+      taken = omega (arith, next.taken, inv.taken);
       same = same-then c.args.cursor.now c.loop-k.cursor c.keep_block.new.cursor inv.same next.cursor;
       asked = Passed-next inv.asked next.asked;
     }
@@ -66,3 +68,12 @@ returns-clause-kept g c = λ names told done strays work.
     let first = next_in c.args.cursor.now in
     let count : c.loop-k.k ≡ next_in c.loop-k.cursor - first = omega (arith, inv.next_block) in
     subst (λ (n : ℕ). AreInWork names done strays (rows_from c.args.self.at.case.now names first n) c.args.self.at.trees.now c.loop-k.meetings) count (inv.kept names told done strays work)
+
+pub returns-then-are_full-clause-taken : goal.returns-then-are_full-clause-taken
+returns-then-are_full-clause-taken g c =
+    let inv = c.loop-k.invariant in
+    let next = c.in_ok-keep_block.ensures in
+    omega (arith, inv.next_block, next.next_block, inv.taken, next.taken)
+
+pub returns-clause-taken : goal.returns-clause-taken
+returns-clause-taken g c = omega (arith, c.loop-k.invariant.next_block, c.loop-k.invariant.taken)

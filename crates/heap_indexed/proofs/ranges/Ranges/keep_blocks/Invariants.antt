@@ -1,8 +1,8 @@
-use Rattle.std.proofs.Common.{◌≡◌, ◌+◌, [], length}
+use Rattle.std.proofs.Common.{◌≡◌, ◌+◌, ◌≤◌, [], length}
 use Rattle.outside.specs.Outside.{IfTold, Passed}
 use Rattle.bt_levels.specs.declared.sound.SoundTree.{SoundTree}
 use Rattle.reports.specs.Lists.{Lists}
-use Rattle.heap_check.specs.RowCursor.{IsSameCursor, next_in}
+use Rattle.heap_check.specs.RowCursor.{IsSameCursor, next_in, taken_in}
 use Rattle.row_probes.specs.Judging.{IsBehind}
 use Rattle.heap_indexed.specs.Meetings.{AreInWork}
 use Rattle.row_probes.specs.Rows.{rows_from}
@@ -16,6 +16,7 @@ invariant-loop-k g l = record {
   kept : IfTold g.F.Files.seen l.fn.files (λ names. (done strays : SoundTree → Lists) → AreInWork names done strays [] l.self.at.trees.now l.fn.meetings
       → AreInWork names done strays (rows_from l.self.at.case.now names (next_in l.fn.cursor) l.k) l.self.at.trees.now l.meetings);
   next_block : next_in l.cursor ≡ next_in l.fn.cursor + l.k;
+  taken : taken_in l.cursor ≤ taken_in l.fn.cursor + l.k;
   same : IsSameCursor l.fn.cursor l.cursor;
   asked : Passed g.F.Files.seen l.fn.files l.files;
 }

@@ -54,6 +54,7 @@ loop-k-init g c = record {
   kept = λ names told done strays range work. record { range = range; is = refl; each = c.in_ok-keep_pages.ensures names done strays range (c.requires.told names told) work };
   few = λ names told. omega arith;
   next_block = refl;
+  taken = refl;
   same = record { case = refl; heap = refl; asked = refl };
   asked = Passed-none;
 }
@@ -72,6 +73,7 @@ loop-k-preserved g c =
           let before = inv.few names told in
           omega arith;
       next_block = next.next_block ∙ inv.next_block;
+      taken = next.taken ∙ inv.taken;
       same = same-then c.args.cursor.now c.loop-k.cursor c.keep_next.new.cursor inv.same next.cursor;
       asked = Passed-next inv.asked next.asked;
     }

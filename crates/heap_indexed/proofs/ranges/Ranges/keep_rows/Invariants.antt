@@ -3,7 +3,7 @@ use Rattle.outside.specs.Outside.{IfTold, Passed}
 use Rattle.bt_levels.specs.declared.sound.SoundTree.{SoundTree}
 use Rattle.reports.specs.Lists.{Lists}
 use Rattle.heap_check.specs.declared.rows.LiveRow.{LiveRow}
-use Rattle.heap_check.specs.RowCursor.{IsCursorOf, IsSameCursor, next_in, rows_here}
+use Rattle.heap_check.specs.RowCursor.{IsCursorOf, IsSameCursor, next_in, rows_here, taken_in}
 use Rattle.heap_indexed.specs.Meetings.{AreInWork, HaveKept}
 use Rattle.heap_indexed.proofs.ranges.Ranges.keep_rows.Given as goal
 
@@ -16,6 +16,7 @@ invariant-loop-k g l = record {
       → HaveKept names done strays (range ++ rows_here names l.fn.cursor) (rows_here names l.cursor) l.self.at.trees.now l.meetings);
   few : IfTold g.F.Files.seen l.fn.files (λ names. length (rows_here names l.cursor) + l.k ≤ length (rows_here names l.fn.cursor));
   next_block : next_in l.cursor ≡ next_in l.fn.cursor;
+  taken : taken_in l.cursor ≡ taken_in l.fn.cursor;
   same : IsSameCursor l.fn.cursor l.cursor;
   asked : Passed g.F.Files.seen l.fn.files l.files;
 }

@@ -19,6 +19,7 @@ loop-k-init g c = record {
   visits = λ names told. omega arith;
   few = λ names told. omega arith;
   next_block = refl;
+  taken = refl;
   same = record { case = refl; heap = refl; asked = refl };
   asked = Passed-none;
 }
@@ -40,6 +41,7 @@ loop-k-preserved g c =
           let before = inv.few names told in
           omega arith;
       next_block = next.next_block ∙ inv.next_block;
+      taken = next.taken ∙ inv.taken;
       same = same-then c.args.cursor.now c.loop-k.cursor c.judge_next.new.cursor inv.same next.same;
       asked = Passed-next inv.asked next.asked;
     }

@@ -3,7 +3,7 @@ use Rattle.outside.specs.Adds.{Leaves}
 use Rattle.outside.specs.Outside.{IfTold, Passed}
 use Rattle.reports.specs.Added.{report_lists}
 use Rattle.row_probes.specs.Looking.{look_length}
-use Rattle.heap_check.specs.RowCursor.{IsSameCursor, next_in, rows_here}
+use Rattle.heap_check.specs.RowCursor.{IsSameCursor, next_in, rows_here, taken_in}
 use Rattle.row_probes.specs.Judging.{IsWithin}
 use Rattle.row_keys.specs.Rows.{IsIndexAt}
 use Rattle.row_probes.specs.Rows.{owed_for}
@@ -18,6 +18,7 @@ invariant-loop-k g l = record {
   visits : IfTold g.F.Files.seen l.fn.files (λ names. l.look_ups.visits.count + length (rows_here names l.cursor) * look_length names l.self.index.at.tree.now ≤ l.fn.look_ups.visits.count + length (rows_here names l.fn.cursor) * look_length names l.self.index.at.tree.now);
   few : IfTold g.F.Files.seen l.fn.files (λ names. length (rows_here names l.cursor) + l.k ≤ length (rows_here names l.fn.cursor));
   next_block : next_in l.cursor ≡ next_in l.fn.cursor;
+  taken : taken_in l.cursor ≡ taken_in l.fn.cursor;
   same : IsSameCursor l.fn.cursor l.cursor;
   asked : Passed g.F.Files.seen l.fn.files l.files;
 }

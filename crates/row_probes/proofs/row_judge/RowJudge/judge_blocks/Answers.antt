@@ -32,6 +32,7 @@ loop-k-init g c = record {
   lists = λ names told. loop-none report_lists (of-block c.args.self.index names (next_in c.args.cursor.now)) c.args.report.now;
   visits = λ names told. omega arith;
   next_block = omega arith;
+  taken = omega arith;
   same = record { case = refl; heap = refl; asked = refl };
   asked = Passed-none;
 }
@@ -59,6 +60,7 @@ loop-k-preserved g c =
           (next.visits names (inv.asked.same ∙ told)) (inv.visits names told)
           (ap length (rows-next index.at.case.now names first k) ∙ length-append (rows_from index.at.case.now names first k) (rows (first + k)) ∙ ap (λ (b : ℕ). length (rows_from index.at.case.now names first k) + length (rows b)) (sym inv.next_block));
       next_block = next.next_block ∙ omega (arith, inv.next_block);
+      taken = omega (arith, next.taken, inv.taken);
       same = same-then c.args.cursor.now c.loop-k.cursor c.judge_next_block.new.cursor inv.same next.same;
       asked = Passed-next inv.asked next.asked;
     }
@@ -99,3 +101,9 @@ returns-in_err-judge_next_block-clause-ready g c = λ names told. c.judge_next_b
 
 pub returns-clause-ready : goal.returns-clause-ready
 returns-clause-ready g c = λ names told. (c.loop-k.invariant.told names told).ready
+
+pub returns-in_err-judge_next_block-clause-taken : goal.returns-in_err-judge_next_block-clause-taken
+returns-in_err-judge_next_block-clause-taken g c = omega (arith, c.judge_next_block.ensures.taken, c.loop-k.invariant.taken, c.loop-k-test.true)
+
+pub returns-clause-taken : goal.returns-clause-taken
+returns-clause-taken g c = omega (arith, c.loop-k.invariant.taken, c.loop-k-test.false)

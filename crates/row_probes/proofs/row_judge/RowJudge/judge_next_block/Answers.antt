@@ -1,4 +1,4 @@
-use Rattle.std.proofs.Common.{◌∙◌, ◌≤◌, List, length, sym, subst}
+use Rattle.std.proofs.Common.{◌∙◌, ◌≤◌, List, length, sym, subst, arith}
 use Rattle.std.proofs.lemmas.Result.{on_ok_weaker}
 use Rattle.outside.proofs.Adding.{Adds-exit, Begins-none}
 use Rattle.reports.specs.Added.{report_lists}
@@ -8,6 +8,7 @@ use Rattle.heap_check.specs.declared.rows.LiveRow.{LiveRow}
 use Rattle.row_probes.specs.Rows.{owed_for}
 use Rattle.row_keys.proofs.Pages.{block-few}
 use Rattle.row_keys.proofs.Places.{same-index}
+use Rattle.row_probes.proofs.Taken.{once-more}
 use Rattle.row_probes.proofs.row_judge.RowJudge.judge_next_block.Goals as goal
 
 pub take_block-requires-clause-told : goal.take_block-requires-clause-told
@@ -46,3 +47,9 @@ returns-clause-told g c = λ names told.
     let same = c.take_block.ensures.asked.same ∙ told in
     let within = c.judge_block.ensures.told names same in
     on_ok_weaker c.judge_block.result (λ none. record { ready = within.ready; behind = record { cursor_of = within.cursor_of; none = none } }) (c.judge_block.ensures.end names same)
+
+pub returns-in_err-take_block-clause-taken : goal.returns-in_err-take_block-clause-taken
+returns-in_err-take_block-clause-taken g c = once-more _ _ c.take_block.ensures.taken
+
+pub returns-clause-taken : goal.returns-clause-taken
+returns-clause-taken g c = omega (arith, c.judge_block.ensures.taken, once-more _ _ c.take_block.ensures.taken)
