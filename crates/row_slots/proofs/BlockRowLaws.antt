@@ -6,11 +6,11 @@ use Rattle.std.proofs.lemmas.List.{length-map}
 use Rattle.std.proofs.lemmas.Bool.{cases_eq, cases_lt, eq-eqb, eqb-true, le-leb, leb-true, lt-ltb, ltb-true, ne_eqb}
 use Rattle.key_orders.specs.declared.Tid.{Tid}
 use Rattle.key_orders.specs.declared.columns.Value.{Value}
-use Rattle.stored_keys.specs.RowLists.{LiesAt, keys_read}
+use Rattle.stored_keys.specs.RowLists.{LiesAt, LiesFrom, NUMBERS, bytes_at, keys_read, number_bytes}
 use Rattle.stored_keys.specs.Stored.{key_read, stored_key}
-use Rattle.stored_keys.proofs.RowLaws.{read_there}
+use Rattle.stored_keys.proofs.RowLaws.{as_number, in_bytes, read_there}
 use Rattle.row_slots.specs.BlockRows.{AreFree, AreSlots, is_among, key_at, rows_at}
-use Rattle.row_slots.specs.Slots.{AreKept, AreStarts, NUMBERS, is_item_of, is_within, key_of, keys_of, keys_with_rows, number_bytes, slot_of}
+use Rattle.row_slots.specs.Slots.{AreKept, AreStarts, is_item_of, is_within, key_of, keys_of, keys_with_rows, slot_of}
 use Rattle.row_slots.proofs.BlockLaws.{bool_ext}
 use Rattle.row_slots.proofs.PutLaws.{kept_set, kept_with_number, key_of_number, key_of_some, still}
 use Rattle.row_slots.proofs.SlotLaws.{Within, both, is_within_tells, slot_found, within_is}
@@ -51,9 +51,9 @@ number_put records arena slot n low k = elim (cases_eq k slot) [
 
 -- Several
 
-abbrev as_number : Bool → ℕ
-as_number true = 1
-as_number false = 0
+abbrev flag_number : Bool → ℕ
+flag_number true = 1
+flag_number false = 0
 
 among_is : (slot count k : ℕ) → slot ≤ k → k < slot + count → is_among slot count k ≡ true
 among_is slot count k low high = rw (le-leb slot k low, lt-ltb k (slot + count) high) refl
@@ -95,23 +95,6 @@ one_row records arena slot rows i k key mid new is before put = put ∙ elim (ca
       (λ h. let a = among_tells slot (i + 1) k h in among_is slot i k a.0 (omega (arith, a.0, a.1))))
 ]
 
--- what the first so many rows leave outside of all
-pub outside_same : (records arena : List ℕ) (slot : ℕ) (rows : List (List Value)) (i count k : ℕ) → i ≤ count → is_among slot count k ≡ false
-    → rows_at records arena slot rows i k ≡ key_at records arena k
-outside_same records arena slot rows i count k le out =
-    ap (λ (b : Bool). cond b (slice_get rows (k - slot)) (key_at records arena k))
-    (not_among slot i k (λ h. omega (arith, ap as_number (sym (among_is slot count k h.0 (omega (arith, h.1))) ∙ out))))
-
--- which slots these are plays no part in what they say then
-pub over_others : (mid old arena : List ℕ) (slot : ℕ) (rows : List (List Value)) (count k : ℕ)
-    → (is_among slot count k ≡ false → key_at mid arena k ≡ key_at old arena k)
-    → rows_at mid arena slot rows count k ≡ rows_at old arena slot rows count k
-over_others mid old arena slot rows count k same = by (is_among slot count k) refl
-  where
-    by : (b : Bool) → is_among slot count k ≡ b → rows_at mid arena slot rows count k ≡ rows_at old arena slot rows count k
-    by true e = (λ i. cond (e i) (slice_get rows (k - slot)) (key_at mid arena k)) ∙ sym (λ i. cond (e i) (slice_get rows (k - slot)) (key_at old arena k))
-    by false e = (λ i. cond (e i) (slice_get rows (k - slot)) (key_at mid arena k)) ∙ same e ∙ sym (λ i. cond (e i) (slice_get rows (k - slot)) (key_at old arena k))
-
 -- Rows behind others
 
 abbrev pub lies_behind : (front bytes : List ℕ) (at : ℕ) → LiesAt bytes at → LiesAt (front ++ bytes) (length front + at)
@@ -130,20 +113,25 @@ lies_inside bytes at lies =
     omega (arith, lies.at_is, ap length lies.bytes, length-append lies.before (stored_key lies.key ++ lies.rest))
 
 pub count_read : (starts bytes : List ℕ) (rows : List (List Value)) → keys_read starts bytes ≡ rows → length rows ≡ length starts
-count_read starts bytes rows are = sym (ap length are) ∙ length-map starts (λ start. key_read (drop start bytes))
+count_read starts bytes rows are = sym (ap length are) ∙ length-map starts (λ start. key_read (bytes_at bytes start))
 
-pub get-read : (starts bytes : List ℕ) (i : ℕ) → i < length starts → slice_get (keys_read starts bytes) i ≡ Some (key_read (drop (get_or starts i 0) bytes))
+get-read : (starts bytes : List ℕ) (i : ℕ) → i < length starts → slice_get (keys_read starts bytes) i ≡ Some (key_read (bytes_at bytes (get_or starts i 0)))
 get-read [] bytes i low = absurd (omega (arith, low))
 get-read (at ∷ starts) bytes zero low = refl
 get-read (at ∷ starts) bytes (suc i) low = get-read starts bytes i (omega (arith, low))
 
-pub key_behind : (front bytes starts : List ℕ) (i : ℕ) → i < length starts → All (LiesAt bytes) starts
+pub key_behind : (front bytes starts : List ℕ) (i : ℕ) → i < length starts → get_or starts i 0 < NUMBERS → All (LiesFrom bytes) starts
     → Some (key_read (drop (length front + get_or starts i 0) (front ++ bytes))) ≡ slice_get (keys_read starts bytes) i
-key_behind front bytes starts i low lie =
+key_behind front bytes starts i low place lie =
     let at : ℕ = get_or starts i 0 in
-    let lies : LiesAt bytes at = lie i 0 low in
-    ap (λ key. Some key) (read_there (front ++ bytes) (length front + at) (lies_behind front bytes at lies) ∙ sym (read_there bytes at lies))
+    let lies : LiesAt bytes at = lie i 0 low place in
+    ap (λ key. Some key) (read_there (front ++ bytes) (length front + at) (lies_behind front bytes at lies) ∙ sym (read_there bytes at lies) ∙ ap key_read (sym (in_bytes bytes at place)))
     ∙ sym (get-read starts bytes i low)
+
+pub number_behind : (bytes starts : List ℕ) (i : ℕ) → i < length starts → NUMBERS ≤ get_or starts i 0
+    → Some (key_read (number_bytes (get_or starts i 0 - NUMBERS))) ≡ slice_get (keys_read starts bytes) i
+number_behind bytes starts i low number =
+    ap (λ k. Some (key_read k)) (sym (as_number bytes (get_or starts i 0) number)) ∙ sym (get-read starts bytes i low)
 
 pub still_there : (records arena more : List ℕ) → AreKept records arena → (k : ℕ) → key_at records (arena ++ more) k ≡ key_at records arena k
 still_there records arena more kept k = still records arena more k kept
@@ -201,7 +189,7 @@ module _ (first : ℕ) (starts records : List ℕ) (block count slot : ℕ) (are
     where
       by : (b : Bool) → is_item_of block count t ≡ b → is_item_of block count t ≡ false
       by false e = e
-      by true e = absurd (omega (arith, ap as_number (sym (within_is first starts t (item_within t e)) ∙ out)))
+      by true e = absurd (omega (arith, ap flag_number (sym (within_is first starts t (item_within t e)) ∙ out)))
 
   pub block_fresh : (arena : List ℕ) → AreFree records slot count → (t : Tid) → is_item_of block count t ≡ true → keys_of first starts records arena t ≡ None
   block_fresh arena free t h =

@@ -1,5 +1,4 @@
 pub mod MetLaws
-pub mod NumberLaws
 pub mod SlotLaws
 pub mod PutLaws
 pub mod BlockLaws

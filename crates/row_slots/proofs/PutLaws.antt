@@ -9,12 +9,12 @@ use Rattle.std.proofs.lemmas.List.Concat.{flat_map-append}
 use Rattle.std.proofs.lemmas.List.Elements.{All-append, All-cons, All-nil}
 use Rattle.key_orders.specs.declared.Tid.{Tid}
 use Rattle.key_orders.specs.declared.columns.Value.{Value}
-use Rattle.stored_keys.specs.RowLists.{LiesAt}
+use Rattle.stored_keys.specs.RowLists.{LiesAt, NUMBERS, number_bytes}
 use Rattle.stored_keys.specs.Stored.{IsStorable, key_read, stored_key, stored_value}
 use Rattle.stored_keys.proofs.RowLaws.{lies_more, read_there}
 use Rattle.row_slots.specs.Met.{same_tid}
 use Rattle.row_slots.specs.declared.slots.BegunRow.{BegunRow}
-use Rattle.row_slots.specs.Slots.{AreBits, AreKept, AreStarts, IsBegunRow, NUMBERS, Tables, found_slot, is_within, key_of, keys_of, keys_with, number_bytes, slot_bytes, slot_of}
+use Rattle.row_slots.specs.Slots.{AreBits, AreKept, AreStarts, IsBegunRow, Tables, found_slot, is_within, key_of, keys_of, keys_with, slot_bytes, slot_of}
 use Rattle.row_slots.proofs.SlotLaws.{Within, found_below, found_some, is_within_tells, slot_test, tid_is}
 
 abbrev as_number : Bool → ℕ

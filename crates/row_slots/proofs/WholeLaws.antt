@@ -8,7 +8,8 @@ use Rattle.root_set.specs.Packed.{is_set}
 use Rattle.stored_keys.specs.Stored.{key_read, values_read}
 use Rattle.stored_keys.proofs.SameLaws.{keys_decide}
 use Rattle.row_slots.specs.Met.{is_key}
-use Rattle.row_slots.specs.Slots.{AreAllSet, AreStarts, NUMBERS, found_slot, is_within, key_of, keys_of, mets_of, slot_bytes, slot_of}
+use Rattle.stored_keys.specs.RowLists.{NUMBERS}
+use Rattle.row_slots.specs.Slots.{AreAllSet, AreStarts, found_slot, is_within, key_of, keys_of, mets_of, slot_bytes, slot_of}
 use Rattle.row_slots.proofs.PutLaws.{in_arena, key_some}
 use Rattle.row_slots.proofs.SlotLaws.{below, is_within_tells, key_there}
 

@@ -1,15 +1,13 @@
 -- How rows are kept: a slot for each line pointer, block after block, with the place of the key of the row that is
--- rooted there, or with the key where it is one number below 2147483648; the other keys side by side; and a bit for each
--- slot, whether its row was met. Slots count from 0.
-use mir.Syntax.{w32}
-use Rattle.std.specs.Int.{to_le_bytes}
-use Rattle.std.specs.Prelude.{◌≡◌, ◌≢◌, ◌+◌, ◌-◌, ◌*◌, ◌^◌, ◌<◌, ◌≤◌, ◌==◌, ◌&&◌, ◌||◌, ◌∷◌, ◌++◌, [], ℕ}
+-- rooted there, or with the key where it is one number below 2147483648; the other keys side by side; and a bit for
+-- each slot, whether its row was met. Slots count from 0.
+use Rattle.std.specs.Prelude.{◌≡◌, ◌≢◌, ◌+◌, ◌-◌, ◌*◌, ◌<◌, ◌≤◌, ◌==◌, ◌&&◌, ◌||◌, ◌∷◌, ◌++◌, [], ℕ}
 use Rattle.std.specs.Prelude.{All, Bool, List, None, Option, Some, cond, drop, false, get_or, length, nat_le, nat_lt}
 use Rattle.std.specs.Prelude.{replicate, slice_get, true}
 use Rattle.std.specs.List.{flat_map}
 use Rattle.key_orders.specs.declared.Tid.{Tid}
 use Rattle.key_orders.specs.declared.columns.Value.{Value}
-use Rattle.stored_keys.specs.RowLists.{LiesAt}
+use Rattle.stored_keys.specs.RowLists.{LiesAt, NUMBERS, number_bytes}
 use Rattle.stored_keys.specs.Stored.{IsStorable, key_read, stored_value}
 use Rattle.root_set.specs.Packed.{is_set}
 use Rattle.row_slots.specs.declared.slots.BegunRow.{BegunRow}
@@ -47,19 +45,11 @@ slot_of first starts tid = start_of first starts tid + tid.item - 1
 abbrev pub found_slot : ℕ → List ℕ → Tid → Option ℕ
 found_slot first starts tid = cond (is_within first starts tid) (Some (slot_of first starts tid)) None
 
--- from this number on a slot says that its row's key is one number, which the rest is
-abbrev pub NUMBERS : ℕ
-NUMBERS = 2 ^ 31
-
--- a number as a key
-abbrev pub number_bytes : ℕ → List ℕ
-number_bytes n = 1 ∷ 6 ∷ to_le_bytes w32 n
-
 -- the bytes at which the key of a slot is read
 abbrev pub slot_bytes : List ℕ → ℕ → List ℕ
 slot_bytes arena r = cond (nat_lt r NUMBERS) (drop (r - 1) arena) (number_bytes (r - NUMBERS))
 
--- 0 says that no row is rooted there; any other number below those is one more than the place of the key
+-- 0 says that no row is rooted there; any other number below `NUMBERS` is one more than the place of the key
 unfoldable pub key_of : List ℕ → ℕ → Option (List Value)
 key_of arena r = cond (r == 0) None (Some (key_read (slot_bytes arena r)))
 

@@ -1,15 +1,14 @@
 //! Rows of a block that are kept at once, in slots one after another.
-ghost use Rattle.std.specs.Prelude.{◌≡◌, ◌+◌, ◌<◌, ◌≤◌, ◌==◌, ℕ, All, cond, drop, length};
-ghost use Rattle.std.specs.Prelude.{IfSome, None, OnOk, Some, false};
+ghost use Rattle.std.specs.Prelude.{◌≡◌, ◌+◌, ◌-◌, ◌<◌, ◌≤◌, ◌==◌, ℕ, All, cond, drop, length};
+ghost use Rattle.std.specs.Prelude.{IfSome, None, OnOk, Some};
 ghost use Rattle.std.specs.Bool.{OnFalse, OnTrue};
-ghost use Rattle.stored_keys.specs.RowLists.{LiesAt, keys_read};
+ghost use Rattle.stored_keys.specs.RowLists.{LiesAt, LiesFrom, NUMBERS, keys_read, number_bytes};
 ghost use Rattle.stored_keys.specs.Stored.{key_read};
-ghost use Rattle.row_slots.specs.BlockRows.{AreFree, AreSlots, is_among, key_at, rows_at};
-ghost use Rattle.row_slots.specs.Slots.{AreKept, NUMBERS, number_bytes};
+ghost use Rattle.row_slots.specs.BlockRows.{AreFree, AreSlots, key_at, rows_at};
+ghost use Rattle.row_slots.specs.Slots.{AreKept};
 
-use crate::slots::{NUMBERS, bytes_from};
 use outside::NoMemory;
-use stored_keys::RowBytes;
+use stored_keys::{NUMBERS, RowBytes};
 
 /// The slot of item 1 of a block, where the range has so many line pointers of it.
 pub(crate) fn block_slots(first: u32, starts: &[u32], block: u32, count: usize) -> Option<usize>
@@ -48,72 +47,27 @@ pub(crate) fn are_free(records: &[u32], slot: usize, count: usize) -> bool
     true
 }
 
-// The number that the key is which lies at the beginning of these bytes, if it is one for a slot. `None` says nothing.
+// Says in a slot what the key of its row is: a number, or where it lies, so many bytes behind a base.
 #[inline]
-fn slot_number(bytes: &[u8]) -> Option<u32>
-    ensures number { IfSome result (λ n. key_read bytes.now ≡ key_read (number_bytes n)) }
-    ensures low { IfSome result (λ n. n < NUMBERS) }
-{
-    if bytes.len() < 6 || bytes[0] != 1 || bytes[1] != 6 {
-        return None;
-    }
-    let number = u32::from_le_bytes([bytes[2], bytes[3], bytes[4], bytes[5]]);
-    if NUMBERS <= number {
-        return None;
-    }
-    Some(number)
-}
-
-// Says in a slot that the key of its row is this number.
-#[inline]
-fn put_number(records: &mut [u32], arena: &[u8], slot: usize, number: u32)
+fn put_row(records: &mut [u32], arena: &[u8], slot: usize, base: u32, start: u32)
     requires slot { slot < length records.old }
-    requires low { number < NUMBERS }
+    requires lies { start < NUMBERS → LiesAt arena.now (base + start) }
+    requires low { start < NUMBERS → base + start + 1 < NUMBERS }
     requires kept { AreKept records.old arena.now }
     ensures kept { AreKept records.new arena.now }
-    ensures keys { (k : ℕ) → key_at records.new arena.now k
-        ≡ cond (k == slot) (Some (key_read (number_bytes number))) (key_at records.old arena.now k) }
+    ensures place { start < NUMBERS → (k : ℕ) → key_at records.new arena.now k
+        ≡ cond (k == slot) (Some (key_read (drop (base + start) arena.now))) (key_at records.old arena.now k) }
+    ensures number { NUMBERS ≤ start → (k : ℕ) → key_at records.new arena.now k
+        ≡ cond (k == slot) (Some (key_read (number_bytes (start - NUMBERS)))) (key_at records.old arena.now k) }
 {
-    records[slot] = NUMBERS + number;
-}
-
-// Keeps rows at slots one after another, if the key of each is a number for a slot; whether it did. Else slots of these
-// rows may have changed, and no other has.
-fn keep_numbers(records: &mut [u32], arena: &[u8], slot: usize, rows: RowBytes<'_>) -> bool
-    requires slots { slot + length rows.starts.now ≤ length records.old }
-    requires kept { AreKept records.old arena.now }
-    ensures kept { AreKept records.new arena.now }
-    ensures keys { OnTrue result ((k : ℕ) → key_at records.new arena.now k
-        ≡ rows_at records.old arena.now slot (keys_read rows.entry.starts.now rows.entry.bytes.now)
-        (length rows.entry.starts.now) k) }
-    ensures others { (k : ℕ) → is_among slot (length rows.entry.starts.now) k ≡ false
-        → key_at records.new arena.now k ≡ key_at records.old arena.now k }
-{
-    for i in 0..rows.starts.len() {
-        let Some(number) = slot_number(bytes_from(rows.bytes, rows.starts[i])) else {
-            return false;
-        };
-        put_number(records, arena, slot + i, number);
+    if NUMBERS <= start {
+        records[slot] = start;
+        return;
     }
-    true
+    records[slot] = base + start + 1;
 }
 
-// Says in a slot where the key of its row lies.
-#[inline]
-fn put_row(records: &mut [u32], arena: &[u8], slot: usize, place: u32)
-    requires slot { slot < length records.old }
-    requires lies { LiesAt arena.now place }
-    requires low { place + 1 < NUMBERS }
-    requires kept { AreKept records.old arena.now }
-    ensures kept { AreKept records.new arena.now }
-    ensures keys { (k : ℕ) → key_at records.new arena.now k
-        ≡ cond (k == slot) (Some (key_read (drop place arena.now))) (key_at records.old arena.now k) }
-{
-    records[slot] = place + 1;
-}
-
-/// Keeps rows at slots one after another: numbers in the slots, where all are such, and else the keys in the arena.
-/// After `NoMemory` slots of these rows may have changed.
+/// Keeps rows at slots one after another. After `NoMemory` no slot has changed.
 pub(crate) fn keep_in(
     records: &mut [u32],
     arena: &mut Vec<u8>,
@@ -121,16 +75,13 @@ pub(crate) fn keep_in(
     rows: RowBytes<'_>,
 ) -> Result<(), NoMemory>
     requires slots { slot + length rows.starts.now ≤ length records.old }
-    requires lie { All (LiesAt rows.bytes.now) rows.starts.now }
+    requires lie { All (LiesFrom rows.bytes.now) rows.starts.now }
     requires kept { AreKept records.old arena.old.items }
     ensures kept { AreKept records.new arena.new.items }
     ensures keys { OnOk result ((k : ℕ) → key_at records.new arena.new.items k
         ≡ rows_at records.old arena.old.items slot (keys_read rows.entry.starts.now rows.entry.bytes.now)
         (length rows.entry.starts.now) k) }
 {
-    if keep_numbers(records, arena, slot, rows) {
-        return Ok(());
-    }
     let used = arena.len();
     if NUMBERS as usize <= used || NUMBERS as usize - used <= rows.bytes.len() {
         return Err(NoMemory);
@@ -138,7 +89,7 @@ pub(crate) fn keep_in(
     let base = used as u32;
     arena.extend_from_slice(rows.bytes)?;
     for i in 0..rows.starts.len() {
-        put_row(records, arena, slot + i, base + rows.starts[i]);
+        put_row(records, arena, slot + i, base, rows.starts[i]);
     }
     Ok(())
 }

@@ -4,21 +4,18 @@ ghost use Rattle.std.specs.Prelude.{IfOk, None, Ok, OnErr, OnOk, Some, true};
 ghost use Rattle.std.specs.Bool.{OnFalse, OnTrue};
 ghost use Rattle.key_orders.specs.declared.columns.Value.{Value as Shown};
 ghost use Rattle.key_orders.specs.declared.columns.Value.TheVariants.{Int};
+ghost use Rattle.stored_keys.specs.RowLists.{NUMBERS, number_bytes};
 ghost use Rattle.stored_keys.specs.Rows.{row_values};
 ghost use Rattle.key_attrs.specs.Columns.{tree_columns};
 ghost use Rattle.row_slots.specs.Met.{is_key, keyed, met_by};
-ghost use Rattle.row_slots.specs.Slots.{AreBits, AreStarts, NUMBERS, found_slot, key_of, keys_of, mets_of};
-ghost use Rattle.row_slots.specs.Slots.{number_bytes};
+ghost use Rattle.row_slots.specs.Slots.{AreBits, AreStarts, found_slot, key_of, keys_of, mets_of};
 ghost use Rattle.row_slots.specs.Told.{TellsKey};
 
 use crate::bits::{is_set, set_bit};
 use key_attrs::{IndexColumns, has_stored_key};
 use key_orders::Tid;
 use outside::NoMemory;
-use stored_keys::{RowValues, is_number, is_stored};
-
-/// From this number on a slot says that its row's key is one number, which the rest is.
-pub(crate) const NUMBERS: u32 = 0x8000_0000;
+use stored_keys::{NUMBERS, RowValues, is_number, is_stored};
 
 /// Which rows are kept, and their keys.
 #[derive(Clone, Copy)]
@@ -53,7 +50,7 @@ pub(crate) fn find(first: u32, starts: &[u32], tid: Tid) -> Option<usize>
 
 // The bytes from a place on.
 #[inline]
-pub(crate) fn bytes_from(arena: &[u8], at: u32) -> &[u8]
+fn bytes_from(arena: &[u8], at: u32) -> &[u8]
     ensures { result.now ≡ drop at arena.now }
 {
     match arena.split_at_checked(at as usize) {

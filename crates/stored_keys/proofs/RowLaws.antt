@@ -1,14 +1,17 @@
 -- Keys that lie among bytes one after another.
-use Rattle.std.proofs.Common.{◌≡◌, ◌∙◌, ℕ, ℤ, List, [], ◌∷◌, ◌++◌, length, drop, refl, ap, subst, sym, append_assoc, append-nil}
-use Rattle.std.specs.Prelude.{All, Err, FitsSigned, Ok, OnErr, Result}
+use Rattle.std.proofs.Common.{◌≡◌, ◌∙◌, ℕ, ℤ, ◌+◌, ◌-◌, ◌<◌, ◌≤◌, ◌^◌, List, [], ◌∷◌, ◌++◌, length, drop, refl, ap, arith, inl, inr, subst, sym, append_assoc, append-nil}
+use Rattle.std.specs.Prelude.{All, Bool, Err, FitsSigned, Ok, OnErr, Result, cond}
+use Rattle.std.specs.Int.{cast_signed}
+use Rattle.std.proofs.lemmas.Bool.{cases_lt, le-ltb, lt-ltb}
+use Rattle.std.proofs.lemmas.Nat.{from_le_bytes-to_le_bytes_4}
 use Rattle.std.proofs.lemmas.List.{map-append}
 use Rattle.std.proofs.lemmas.List.Elements.{All-cons, All-head, All-nil, All-push, All-tail, All-weaker}
 use Rattle.std.proofs.Math.Seq.{drop-append_seam}
 use mir.Syntax.{w64}
 use Rattle.key_orders.specs.declared.columns.Value.{Value}
 use Rattle.key_orders.specs.declared.columns.Value.TheVariants.{Int}
-use Rattle.stored_keys.specs.RowLists.{LiesAt, keys_read}
-use Rattle.stored_keys.specs.Stored.{IsStorable, key_read, stored_key}
+use Rattle.stored_keys.specs.RowLists.{LiesAt, LiesFrom, NUMBERS, bytes_at, keys_read, number_bytes}
+use Rattle.stored_keys.specs.Stored.{IsStorable, key_read, stored_key, value_read}
 use Rattle.stored_keys.proofs.StoredLaws.{key_back}
 
 -- A number as a key
@@ -52,29 +55,61 @@ lies_last bytes key storable = record {
   bytes = ap (λ w. bytes ++ w) (sym (append-nil (stored_key key)));
 }
 
+-- A number in place of a place
+
+pub in_bytes : (bytes : List ℕ) (start : ℕ) → start < NUMBERS → bytes_at bytes start ≡ drop start bytes
+in_bytes bytes start low = ap (λ (b : Bool). cond b (drop start bytes) (number_bytes (start - NUMBERS))) (lt-ltb start NUMBERS low)
+
+pub as_number : (bytes : List ℕ) (start : ℕ) → NUMBERS ≤ start → bytes_at bytes start ≡ number_bytes (start - NUMBERS)
+as_number bytes start high = ap (λ (b : Bool). cond b (drop start bytes) (number_bytes (start - NUMBERS))) (le-ltb start NUMBERS high)
+
+pub number_read : (n : ℕ) → n < 2 ^ 32 → key_read (number_bytes n) ≡ Int (cast_signed w64 n) ∷ []
+unfolding key_read value_read
+number_read n low = ap (λ (m : ℕ). one (cast_signed w64 m)) (from_le_bytes-to_le_bytes_4 n low)
+
 -- Keys one after another
 
-pub still_lie : (starts bytes more : List ℕ) → All (LiesAt bytes) starts → All (LiesAt (bytes ++ more)) starts
-still_lie starts bytes more = All-weaker (LiesAt bytes) (LiesAt (bytes ++ more)) (λ at lies. lies_more bytes more at lies) starts
+pub still_lie : (starts bytes more : List ℕ) → All (LiesFrom bytes) starts → All (LiesFrom (bytes ++ more)) starts
+still_lie starts bytes more = All-weaker (LiesFrom bytes) (LiesFrom (bytes ++ more)) (λ start lies low. lies_more bytes more start (lies low)) starts
 
-pub still_read : (starts bytes more : List ℕ) → All (LiesAt bytes) starts → keys_read starts (bytes ++ more) ≡ keys_read starts bytes
+still_there : (bytes more : List ℕ) (start : ℕ) → LiesFrom bytes start → key_read (bytes_at (bytes ++ more) start) ≡ key_read (bytes_at bytes start)
+still_there bytes more start lies = elim (cases_lt start NUMBERS) [
+  | inl low ↦
+      ap key_read (in_bytes (bytes ++ more) start low)
+      ∙ (read_there (bytes ++ more) start (lies_more bytes more start (lies low)) ∙ sym (read_there bytes start (lies low)))
+      ∙ ap key_read (sym (in_bytes bytes start low))
+  | inr high ↦ ap key_read (as_number (bytes ++ more) start high ∙ sym (as_number bytes start high))
+]
+
+pub still_read : (starts bytes more : List ℕ) → All (LiesFrom bytes) starts → keys_read starts (bytes ++ more) ≡ keys_read starts bytes
 still_read [] bytes more lie = refl
-still_read (at ∷ starts) bytes more lie =
-    let lies : LiesAt bytes at = All-head (LiesAt bytes) at starts lie in
-    (λ i. (read_there (bytes ++ more) at (lies_more bytes more at lies) ∙ sym (read_there bytes at lies)) i ∷ still_read starts bytes more (All-tail (LiesAt bytes) at starts lie) i)
+still_read (start ∷ starts) bytes more lie =
+    (λ i. still_there bytes more start (All-head (LiesFrom bytes) start starts lie) i ∷ still_read starts bytes more (All-tail (LiesFrom bytes) start starts lie) i)
 
-pub one_lies : (starts bytes : List ℕ) (at : ℕ) (key : List Value) → All (LiesAt bytes) starts → at ≡ length bytes → All IsStorable key → All (LiesAt (bytes ++ stored_key key)) (starts ++ at ∷ [])
+pub one_lies : (starts bytes : List ℕ) (at : ℕ) (key : List Value) → All (LiesFrom bytes) starts → at ≡ length bytes → All IsStorable key → All (LiesFrom (bytes ++ stored_key key)) (starts ++ at ∷ [])
 one_lies starts bytes at key lie is storable =
-    All-push (LiesAt (bytes ++ stored_key key)) starts at (still_lie starts bytes (stored_key key) lie)
-    (subst (LiesAt (bytes ++ stored_key key)) (sym is) (lies_last bytes key storable))
+    All-push (LiesFrom (bytes ++ stored_key key)) starts at (still_lie starts bytes (stored_key key) lie)
+    (λ low. subst (LiesAt (bytes ++ stored_key key)) (sym is) (lies_last bytes key storable))
 
-pub one_read : (starts bytes : List ℕ) (at : ℕ) (key : List Value) → All (LiesAt bytes) starts → at ≡ length bytes → All IsStorable key → keys_read (starts ++ at ∷ []) (bytes ++ stored_key key) ≡ keys_read starts bytes ++ key ∷ []
-one_read starts bytes at key lie is storable =
-    map-append (λ start. key_read (drop start (bytes ++ stored_key key))) starts (at ∷ [])
+pub one_read : (starts bytes : List ℕ) (at : ℕ) (key : List Value) → All (LiesFrom bytes) starts → at ≡ length bytes → at < NUMBERS → All IsStorable key → keys_read (starts ++ at ∷ []) (bytes ++ stored_key key) ≡ keys_read starts bytes ++ key ∷ []
+one_read starts bytes at key lie is low storable =
+    map-append (λ start. key_read (bytes_at (bytes ++ stored_key key) start)) starts (at ∷ [])
     ∙ (λ i. still_read starts bytes (stored_key key) lie i ++ here i ∷ [])
   where
-    here : key_read (drop at (bytes ++ stored_key key)) ≡ key
-    here = ap (λ k. key_read (drop k (bytes ++ stored_key key))) is ∙ read_there (bytes ++ stored_key key) (length bytes) (lies_last bytes key storable)
+    here : key_read (bytes_at (bytes ++ stored_key key) at) ≡ key
+    here =
+        ap key_read (in_bytes (bytes ++ stored_key key) at low)
+        ∙ ap (λ k. key_read (drop k (bytes ++ stored_key key))) is ∙ read_there (bytes ++ stored_key key) (length bytes) (lies_last bytes key storable)
+
+pub number_row : (starts bytes : List ℕ) (n : ℕ) (key : List Value) → key_read (number_bytes n) ≡ key → keys_read (starts ++ (NUMBERS + n) ∷ []) bytes ≡ keys_read starts bytes ++ key ∷ []
+number_row starts bytes n key is =
+    map-append (λ start. key_read (bytes_at bytes start)) starts ((NUMBERS + n) ∷ [])
+    ∙ ap (λ k. keys_read starts bytes ++ k ∷ []) here
+  where
+    here : key_read (bytes_at bytes (NUMBERS + n)) ≡ key
+    here =
+        let back : NUMBERS + n - NUMBERS ≡ n = omega arith in
+        ap key_read (as_number bytes (NUMBERS + n) (omega arith) ∙ ap number_bytes back) ∙ is
 
 -- what is so is so after an error
 pub whatever : {T E : Type 0} (r : Result T E) (P : Type 0) → P → OnErr r P

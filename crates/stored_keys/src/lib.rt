@@ -11,7 +11,7 @@ mod write;
 
 pub use laws::keys_are_read_back;
 pub use read::read_value;
-pub use rows::{RowBytes, StoredRows};
+pub use rows::{NUMBERS, RowBytes, StoredRows};
 pub use same::{after_value, is_number, is_stored, same_values};
 pub use values::RowValues;
 pub use write::{LONGEST_VALUE, push_value, write_key};

@@ -1,9 +1,9 @@
 //! Keys of rows, one after another.
-ghost use Rattle.std.specs.Prelude.{◌≡◌, ◌++◌, ◌∷◌, ◌<◌, [], All, IfSome, OnErr, OnOk, length};
+ghost use Rattle.std.specs.Prelude.{◌≡◌, ◌++◌, ◌∷◌, ◌<◌, [], All, IfOk, IfSome, OnErr, OnOk, length};
 ghost use Rattle.key_orders.specs.declared.columns.Value.TheVariants.{Int};
-ghost use Rattle.stored_keys.specs.RowLists.{HasMore, LiesAt, keys_read};
+ghost use Rattle.stored_keys.specs.RowLists.{HasMore, LiesFrom, NUMBERS, keys_read, number_bytes};
 ghost use Rattle.stored_keys.specs.Rows.{row_values};
-ghost use Rattle.stored_keys.specs.Stored.{IsStorable, stored_key};
+ghost use Rattle.stored_keys.specs.Stored.{IsStorable, key_read, stored_key};
 
 use crate::values::RowValues;
 use crate::write::{store_key, store_number};
@@ -11,6 +11,10 @@ use key_orders::ValueRef;
 use outside::NoMemory;
 use std::alloc::Global;
 use std::marker::Model;
+
+/// No place among bytes is this or more: from here on a number in place of one says that the key is one number, which
+/// the rest is.
+pub const NUMBERS: u32 = 0x8000_0000;
 
 /// The values that rows have in an index, row by row, as they are stored. Contracts see a list of lists of values. It
 /// keeps its memory, so that it serves one page after another.
@@ -20,7 +24,7 @@ pub struct StoredRows {
     bytes: Vec<u8>,
 }
 
-/// The same, as they lie: where each row begins among bytes.
+/// The same, as they lie: where each row begins among bytes, or the number that its key is, with [`NUMBERS`] added.
 #[derive(Clone, Copy)]
 pub struct RowBytes<'a> {
     pub starts: &'a [u32],
@@ -30,13 +34,13 @@ pub struct RowBytes<'a> {
 impl Model for StoredRows {
     ghost use Rattle.std.specs.Prelude.{List, All};
     ghost use Rattle.key_orders.specs.declared.columns.Value.{Value as Shown};
-    ghost use Rattle.stored_keys.specs.RowLists.{LiesAt, keys_read};
+    ghost use Rattle.stored_keys.specs.RowLists.{LiesFrom, keys_read};
 
     ghost Value = { List (List Shown) };
 
     ghost view = { λ r. keys_read r.starts.items r.bytes.items };
 
-    ghost invariant = { λ r. All (LiesAt r.bytes.items) r.starts.items };
+    ghost invariant = { λ r. All (LiesFrom r.bytes.items) r.starts.items };
 }
 
 // The value of a row that has one, if that is a number.
@@ -53,18 +57,40 @@ fn one_number(values: RowValues<'_>) -> Option<i64>
     }
 }
 
-// Adds a row behind the bytes, a number alone all at once. After `NoMemory` a part of it may have been added.
+// The value of a row that has one, if that is a number which stands in place of a place.
 #[inline]
-fn store_row(arena: &mut Vec<u8>, values: RowValues<'_>) -> Result<(), NoMemory>
+fn small_number(values: RowValues<'_>) -> Option<u32>
+    ensures is { IfSome result (λ n. key_read (number_bytes n) ≡ row_values values.entry) }
+    ensures low { IfSome result (λ n. n < NUMBERS) }
+{
+    let bits = one_number(values)?.cast_unsigned();
+    if bits < NUMBERS as u64 {
+        Some(bits as u32)
+    } else {
+        None
+    }
+}
+
+// Adds a row behind the bytes, a number alone all at once, and gives its place. After `NoMemory` a part of it may have
+// been added.
+#[inline]
+fn store_row(arena: &mut Vec<u8>, values: RowValues<'_>) -> Result<u32, NoMemory>
     requires few { length (row_values values) < 256 }
+    ensures place { IfOk result (λ start. start ≡ length arena.old.items) }
+    ensures low { IfOk result (λ start. start < NUMBERS) }
     ensures ok { OnOk result (arena.new.items ≡ arena.old.items ++ stored_key (row_values values.entry)) }
     ensures storable { OnOk result (All IsStorable (row_values values.entry)) }
     ensures err { OnErr result (HasMore arena.old.items arena.new.items) }
 {
-    match one_number(values) {
-        Some(n) => store_number(arena, n),
-        None => store_key(arena, values),
+    let used = arena.len();
+    if NUMBERS as usize <= used {
+        return Err(NoMemory);
     }
+    match one_number(values) {
+        Some(n) => store_number(arena, n)?,
+        None => store_key(arena, values)?,
+    }
+    Ok(used as u32)
 }
 
 impl StoredRows {
@@ -93,10 +119,11 @@ impl StoredRows {
         ensures ok { OnOk result (self.new ≡ self.old ++ row_values values.entry ∷ []) }
         ensures err { OnErr result (self.new ≡ self.old) }
     {
-        let Ok(start) = u32::try_from(self.bytes.len()) else {
-            return Err(NoMemory);
-        };
-        store_row(&mut self.bytes, values)?;
+        if let Some(number) = small_number(values) {
+            self.starts.push(NUMBERS + number)?;
+            return Ok(());
+        }
+        let start = store_row(&mut self.bytes, values)?;
         self.starts.push(start)?;
         Ok(())
     }
@@ -104,7 +131,7 @@ impl StoredRows {
     /// The rows as they lie.
     pub fn as_bytes(&self) -> RowBytes<'_>
         ensures keys { keys_read result.starts.now result.bytes.now ≡ self.now }
-        ensures lie { All (LiesAt result.bytes.now) result.starts.now }
+        ensures lie { All (LiesFrom result.bytes.now) result.starts.now }
     {
         RowBytes {
             starts: &self.starts,

@@ -11,7 +11,7 @@ use crate::values::RowValues;
 use key_orders::{Value, ValueRef};
 use outside::NoMemory;
 
-// How many bytes there may be, so that each has a place in 32 bits.
+// Where a key may begin at most, so that it has a place in 32 bits; and how long a value may be.
 const MOST: usize = 0xffff_fff0;
 
 /// How many bytes a value takes at most that an index may have: no page holds a longer one.
@@ -75,18 +75,6 @@ fn write_bytes(arena: &mut Vec<u8>, bytes: &[u8])
     push_bytes(arena, bytes);
 }
 
-fn write_values(arena: &mut Vec<u8>, values: &[ValueRef<'_>])
-    requires room { vec_len arena.old + length (flat_map shown_bytes values.now) ≤ vec_capacity arena.old }
-    requires short { length (flat_map shown_bytes values.now) < 2 ^ 32 }
-    ensures items { arena.new.items ≡ arena.old.items ++ flat_map shown_bytes values.now }
-    ensures capacity { vec_capacity arena.old ≤ vec_capacity arena.new }
-    ensures storable { All (λ v. IsStorable (value_shown v)) values.now }
-{
-    for i in 0..values.len() {
-        write_value(arena, values[i]);
-    }
-}
-
 fn int_len(n: i64) -> usize
     ensures { result ≡ length (stored_value (Value.Int n)) }
 {
@@ -111,47 +99,6 @@ fn stored_len(v: ValueRef<'_>) -> usize
         ValueRef::Int(n) => int_len(n),
         ValueRef::Bytes(bytes) => bytes_len(bytes),
     }
-}
-
-/// Of so much room what is left beside the values of a key, if they need no more.
-pub fn left_beside(values: &[ValueRef<'_>], room: usize) -> Option<usize>
-    ensures { IfSome result (λ left. left + length (flat_map shown_bytes values.now) ≡ room) }
-{
-    let mut left = room;
-    for i in 0..values.len() {
-        let len = stored_len(values[i]);
-        if left < len {
-            return None;
-        }
-        left -= len;
-    }
-    Some(left)
-}
-
-/// Adds these values behind the bytes, if memory is there and the place of each byte is below 4294967295.
-pub fn write_key(arena: &mut Vec<u8>, values: RowValues<'_>) -> Result<(), NoMemory>
-    requires few { length (row_values values) < 256 }
-    ensures ok { OnOk result (arena.new.items ≡ arena.old.items ++ stored_key (row_values values.entry)) }
-    ensures short { OnOk result (vec_len arena.old + 1 < 2 ^ 32) }
-    ensures storable { OnOk result (All IsStorable (row_values values.entry)) }
-    ensures err { OnErr result (arena.new.items ≡ arena.old.items) }
-{
-    let used = arena.len();
-    if MOST < used {
-        return Err(NoMemory);
-    }
-    let room = MOST - used;
-    let Some(beside) = left_beside(values.key, room) else {
-        return Err(NoMemory);
-    };
-    let Some(left) = left_beside(values.more, beside) else {
-        return Err(NoMemory);
-    };
-    arena.reserve(room - left + 1)?;
-    push_bytes(arena, &[(values.key.len() + values.more.len()) as u8]);
-    write_values(arena, values.key);
-    write_values(arena, values.more);
-    Ok(())
 }
 
 // Adds a value behind the bytes, if memory is there.
@@ -182,8 +129,7 @@ fn store_values(arena: &mut Vec<u8>, values: &[ValueRef<'_>]) -> Result<(), NoMe
     Ok(())
 }
 
-/// Adds these values behind the bytes as `write_key` does, wherever these end. After `NoMemory` a part of them may have
-/// been added.
+/// Adds these values behind the bytes, if memory is there. After `NoMemory` a part of them may have been added.
 pub(crate) fn store_key(arena: &mut Vec<u8>, values: RowValues<'_>) -> Result<(), NoMemory>
     requires few { length (row_values values) < 256 }
     ensures ok { OnOk result (arena.new.items ≡ arena.old.items ++ stored_key (row_values values.entry)) }
@@ -194,6 +140,25 @@ pub(crate) fn store_key(arena: &mut Vec<u8>, values: RowValues<'_>) -> Result<()
     store_values(arena, values.key)?;
     store_values(arena, values.more)?;
     Ok(())
+}
+
+/// Adds these values behind the bytes, if memory is there and these end below 4 GiB. After `NoMemory` nothing changed.
+pub fn write_key(arena: &mut Vec<u8>, values: RowValues<'_>) -> Result<(), NoMemory>
+    requires few { length (row_values values) < 256 }
+    ensures ok { OnOk result (arena.new.items ≡ arena.old.items ++ stored_key (row_values values.entry)) }
+    ensures short { OnOk result (vec_len arena.old + 1 < 2 ^ 32) }
+    ensures storable { OnOk result (All IsStorable (row_values values.entry)) }
+    ensures err { OnErr result (arena.new.items ≡ arena.old.items) }
+{
+    let used = arena.len();
+    if MOST < used {
+        return Err(NoMemory);
+    }
+    let stored = store_key(arena, values);
+    if stored.is_err() {
+        arena.truncate(used);
+    }
+    stored
 }
 
 /// Adds the key that is this number behind the bytes, all of it at once.

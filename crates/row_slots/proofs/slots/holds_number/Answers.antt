@@ -2,9 +2,9 @@ use Rattle.std.proofs.Common.{◌≡◌, ◌∙◌, ◌+◌, ◌-◌, ◌^◌, �
 use Rattle.std.specs.Prelude.{Some}
 use Rattle.std.proofs.lemmas.Bool.{OnTrue_at, OnTrue_from, eqb-true}
 use Rattle.stored_keys.specs.Stored.{key_read}
-use Rattle.stored_keys.proofs.RowLaws.{one}
-use Rattle.row_slots.specs.Slots.{NUMBERS, key_of}
-use Rattle.row_slots.proofs.NumberLaws.{number_read}
+use Rattle.stored_keys.proofs.RowLaws.{number_read, one}
+use Rattle.stored_keys.specs.RowLists.{NUMBERS}
+use Rattle.row_slots.specs.Slots.{key_of}
 use Rattle.row_slots.proofs.PutLaws.{in_arena, key_of_number, key_some}
 use Rattle.row_slots.proofs.slots.holds_number.Goals as goal
 
