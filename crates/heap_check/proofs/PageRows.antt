@@ -36,10 +36,10 @@ use Rattle.heap_check.specs.declared.rows.LiveRow.{LiveRow}
 use Rattle.heap_check.specs.RowCursor.{case_at, rows_ahead, rows_here}
 use Rattle.heap_check.specs.PageRows.{ArePageRows, HasValue, HasValues, IsPageRow, value_there}
 use Rattle.heap_check.specs.RowPages.{HasAttributes, IsKnown, is_live_by, is_live_in, rows_in_hand}
-use Rattle.heap_check.specs.RowRoots.{AreChainsWhere, AreRoots}
-use Rattle.heap_check.specs.declared.row_roots.Roots.{Roots}
+use Rattle.item_states.specs.Roots.{AreChainsWhere, AreRoots, root_item}
+use Rattle.item_states.specs.declared.roots.Roots.{Roots}
 use Rattle.heap_check.specs.RowValues.{FitTypes, column_asked}
-use Rattle.heap_check.specs.Rows.{block_rows, cell_of, cells_of, each_from, item_rows, root_item, row_at, toast_bytes}
+use Rattle.heap_check.specs.Rows.{block_rows, cell_of, cells_of, each_from, item_rows, row_at, toast_bytes}
 use Rattle.heap_check.proofs.Lists.{each_upto-next, each_upto-none}
 use Rattle.heap_check.proofs.RowCells.{cell_there}
 use Rattle.heap_check.proofs.RowFits.{attributes_fit, fits_attribute}

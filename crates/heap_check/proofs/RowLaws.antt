@@ -54,7 +54,8 @@ use Rattle.heap_check.specs.declared.row_cells.Cell.{Cell}
 use Rattle.heap_check.specs.declared.rows.LiveRow.{LiveRow}
 use Rattle.heap_check.specs.RowLaws.{AreAttributesOf, AreCellsOf, AreLiveTuples, IsBefore, IsCellOf, IsLiveAt, IsRowOfTuple, IsWholeRow, RowsAreLive, TidsRise, in_lower_block, in_place, in_same_block, in_toast_table, no_columns, of_missing, of_null, one_more, packed_in_place, packed_in_toast_table, states_at}
 use Rattle.heap_check.specs.RowValues.{FitTypes}
-use Rattle.heap_check.specs.Rows.{block_rows, cell_of, cells_of, external_cell, heap_page, item_rows, page_rows, root_item, row_at, row_by, rows_by_rule, rows_of, toast_bytes}
+use Rattle.item_states.specs.Roots.{root_item}
+use Rattle.heap_check.specs.Rows.{block_rows, cell_of, cells_of, external_cell, heap_page, item_rows, page_rows, row_at, row_by, rows_by_rule, rows_of, toast_bytes}
 use Rattle.heap_check.proofs.FromFiles.{heap_has_nothing, values_are_whole}
 use Rattle.heap_check.proofs.RowCells.{cells_of-next, cells_of-none}
 use Rattle.heap_check.proofs.LiveTuples.{live_are_read, sound_tuple}

@@ -18,7 +18,7 @@ use Rattle.heap_pages.proofs.QuietLaws.{plain_unchained}
 use Rattle.heap_pages.specs.Quiet.{IsPlain}
 use Rattle.heap_check.specs.declared.row_page.RowPage.{RowPage}
 use Rattle.heap_check.specs.RowPages.{TellsOf, is_live_by}
-use Rattle.heap_check.specs.RowRoots.{AreRoots}
+use Rattle.item_states.specs.Roots.{AreRoots}
 use Rattle.item_states.specs.Places.{AreInPlace}
 
 -- A page on which each item passes

@@ -16,8 +16,8 @@ use Rattle.heap_pages.specs.Verdicts.{item_verdict}
 use Rattle.heap_pages.specs.declared.verdict.ItemVerdict.TheVariants.{Passes}
 use Rattle.heap_files.specs.Case.{heap_blocks, table_of}
 use Rattle.heap_check.specs.RowCursor.{rows_ahead, rows_unread}
-use Rattle.heap_check.specs.declared.row_roots.Roots.{Roots}
-use Rattle.heap_check.specs.RowRoots.{AreRoots}
+use Rattle.item_states.specs.declared.roots.Roots.{Roots}
+use Rattle.item_states.specs.Roots.{AreRoots}
 use Rattle.heap_check.specs.RowPages.{HasAttributes, IsInHand, IsSamePage, TellsOf, is_live_by, is_live_in, rows_in_hand}
 use Rattle.heap_check.specs.RowValues.{IsThere}
 use Rattle.heap_check.proofs.Lists.{each_below-next, each_below-none, each_upto-next, each_upto-none}

@@ -1,6 +1,5 @@
 pub mod Rows
 pub mod RowFits
-pub mod RowRoots
 pub mod RowValues
 pub mod RowPages
 pub mod RowCursor

@@ -28,7 +28,7 @@ use Rattle.heap_check.specs.declared.row_page.RowPage.{RowPage}
 use Rattle.heap_check.specs.declared.row_values.AskedColumns.{AskedColumns}
 use Rattle.heap_check.specs.declared.rows.LiveRow.{LiveRow}
 use Rattle.heap_check.specs.RowFits.{FitColumns}
-use Rattle.heap_check.specs.RowRoots.{AreRoots}
+use Rattle.item_states.specs.Roots.{AreRoots}
 use Rattle.heap_check.specs.RowValues.{FitAsked, IsThere, asked_cell, column_asked, count_asked}
 use Rattle.heap_check.specs.Rows.{each_from, item_rows, row_at}
 

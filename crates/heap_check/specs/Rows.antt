@@ -1,5 +1,5 @@
 -- The live rows of a heap: each live tuple with the root of its chain and a cell for each column.
-use Rattle.std.specs.Prelude.{ℕ, zero, suc, if◌then◌else◌, List, [], ◌∷◌, ◌++◌, length, slice_get, unwrap_or}
+use Rattle.std.specs.Prelude.{ℕ, zero, suc, if◌then◌else◌, List, [], ◌∷◌, ◌++◌, length, slice_get}
 use Rattle.std.specs.Prelude.{Option, Some, None}
 use Rattle.outside.specs.Outside.{Names}
 use Rattle.outside.specs.Adds.{each_below, one_list}
@@ -13,8 +13,8 @@ use Rattle.case_file.specs.Record.{CaseRecord}
 use Rattle.case_file.specs.declared.case.Column.{Column}
 use Rattle.varlena_attrs.specs.Forms.{Attribute, Null, Missing, Plain, Packed, External}
 use Rattle.varlena_attrs.specs.declared.places.ToastPointer.{ToastPointer}
-use Rattle.liveness.specs.declared.states.ItemState.{ItemState}
-use Rattle.hot_chains.specs.Chains.{is_live_tuple, root_of}
+use Rattle.hot_chains.specs.Chains.{is_live_tuple}
+use Rattle.item_states.specs.Roots.{root_item}
 use Rattle.toast_chunks.specs.Pointer.{is_compressed}
 use Rattle.toast_chunks.specs.Value.{joined_bytes}
 use Rattle.toast_chunks.specs.declared.map.Chunk.{Chunk}
@@ -67,10 +67,6 @@ unfoldable pub cells_of : (ToastPointer → List ℕ) → List Column → List A
 cells_of bytes columns list = each_below one_list (cell_at bytes columns list) (length columns)
 
 -- Rows
-
--- the lowest root from which the item is found. In a heap without findings each live tuple has one
-abbrev pub root_item : ℕ → List ItemState → ℕ → ℕ
-root_item block states i = unwrap_or (root_of block states i) i
 
 -- what the live tuple at item i of a page of a case's heap is as a row
 unfoldable pub row_at : CaseRecord → Names → ℕ → List ℕ → ℕ → LiveRow

@@ -6,7 +6,6 @@ mod row_cells;
 mod row_cursor;
 mod row_laws;
 mod row_page;
-mod row_roots;
 mod row_values;
 mod rows;
 

@@ -125,7 +125,7 @@ impl RowCursor<'_> {
     {
         rows.clear();
         let page = &self.page;
-        if !page.plain || page.roots.has_chains || page.done != 0 || MAX_KEY_COLUMNS < count {
+        if !page.plain || page.roots.has_chains() || page.done != 0 || MAX_KEY_COLUMNS < count {
             return Ok(false);
         }
         let Some(end) = first.checked_add(count) else {

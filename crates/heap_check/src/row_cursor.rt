@@ -293,7 +293,8 @@ impl<'a> RowCursor<'a> {
         self.next
     }
 
-    /// How many times a block was taken in hand so far, also where reading it failed; at its last value the count stays.
+    /// How many times a block was taken in hand so far, also where it couldn't be read. At its last value the count
+    /// stays.
     pub fn taken(&self) -> u64
         ensures { result ≡ taken_in self.now }
     {

@@ -18,12 +18,11 @@ ghost use Rattle.heap_check.specs.RowPages.{HasAttributes, IsBodyOf};
 ghost use Rattle.heap_check.specs.RowValues.{AreValuesOf, IsReadableValue};
 ghost use Rattle.heap_check.specs.Rows.{item_rows};
 
-use crate::row_roots::Roots;
 use crate::row_values::{RowTuple, RowValues, ValueSources};
 use heap_files::SoundHeap;
 use heap_pages::TableRules;
 use heap_tuples::{tuple_columns, tuple_in};
-use item_states::{find_states, line_pointer};
+use item_states::{Roots, find_states, line_pointer};
 use key_orders::ColType;
 use liveness::{ItemState, Life};
 use outside::Files;

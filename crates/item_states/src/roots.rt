@@ -2,7 +2,7 @@
 ghost use Rattle.std.specs.Prelude.{◌≡◌, ℕ, ◌≤◌, List, length, OnOk};
 ghost use Rattle.liveness.specs.declared.states.ItemState.{ItemState as State};
 ghost use Rattle.hot_chains.specs.Quiet.{HasNoChains};
-ghost use Rattle.heap_check.specs.Rows.{root_item};
+ghost use Rattle.item_states.specs.Roots.{root_item};
 
 use hot_chains::{Chains, has_no_chains, pages_without_chains};
 use liveness::ItemState;
@@ -13,32 +13,40 @@ use std::alloc::Global;
 /// tuples is its own root: for these no table is made. It keeps its memory, so that it serves one page
 /// after another.
 #[derive(Drop)]
-pub(crate) struct Roots {
-    /// The chains of the page, where it has some.
-    pub(crate) chains: Chains,
-    pub(crate) has_chains: bool,
+pub struct Roots {
+    // The chains of the page, where it has some.
+    chains: Chains,
+    has_chains: bool,
 }
 
 impl Roots {
-    ghost use Rattle.heap_check.specs.RowRoots.{AreRoots};
+    ghost use Rattle.item_states.specs.Roots.{AreRoots};
 
     /// Of no page yet. It takes no memory.
-    pub(crate) fn new(alloc: Global) -> Roots {
+    pub fn new(alloc: Global) -> Roots {
         Roots {
             chains: Chains::new(alloc),
             has_chains: false,
         }
     }
 
+    /// Whether the page has chains: else each live tuple of it is its own root.
+    #[inline]
+    pub fn has_chains(&self) -> bool
+        ensures { result ≡ self.now.has_chains }
+    {
+        self.has_chains
+    }
+
     /// For a page without chains.
-    pub(crate) fn clear(&mut self)
+    pub fn clear(&mut self)
         ensures { (block : ℕ) (items : List State) → HasNoChains items → AreRoots block items self.new }
     {
         self.has_chains = false;
     }
 
     /// Finds the roots of a page, by its block and the states of its items.
-    pub(crate) fn find(&mut self, block: u32, items: &[ItemState]) -> Result<(), NoMemory>
+    pub fn find(&mut self, block: u32, items: &[ItemState]) -> Result<(), NoMemory>
         requires { length items.now ≤ 2042 }
         ensures { OnOk result (AreRoots block items.now self.new) }
     {
@@ -52,7 +60,7 @@ impl Roots {
     /// The lowest root from which an item is found, or the item itself where there is none, which can't
     /// be of a live tuple of a sound heap.
     #[tactic(auto, unfolding(hot_chains::specs::Table::root_in))]
-    pub(crate) fn root_of(&self, item: u16) -> u16
+    pub fn root_of(&self, item: u16) -> u16
         requires { 1 ≤ item }
         ensures root { (block : ℕ) (items : List State) → item ≤ length items → AreRoots block items self.now
             → result ≡ root_item block items item }

@@ -54,7 +54,7 @@ loop-i-preserved c =
           let many : length values ≡ c.args.count = omega (arith, told.count, c.in-Some.ensures) in
           item_rows_are page.block asked c.args.first c.args.count i (item_rows case names page.block page.bytes) rows c.push.new.self values (row_at case names page.block page.bytes (i + 1)) pushed c.loop-i.invariant.count (c.loop-i.invariant.are names are)
           (one_here case names toast chunks page (i + 1) known first last c.if-not-page.false told.normal)
-          (row_here case names toast chunks page (i + 1) known first last c.if-not-page.false told.normal types asked c.args.first c.args.count values c.if-page.false
+          (row_here case names toast chunks page (i + 1) known first last c.if-not-page.false told.normal types asked c.args.first c.args.count values (sym c.has_chains.ensures ∙ c.if-has_chains.false)
           (columns_readable case types c.sound.ensures c.column_types.ensures).aligned c.column_types.ensures many (λ list has. told.values list has starts));
     }
 

@@ -5,7 +5,7 @@ use Rattle.liveness.specs.LogFiles.{log_files_of, logs_of}
 use Rattle.liveness.specs.declared.states.ItemState.{ItemState}
 use Rattle.heap_pages.specs.States.{AreStatesOf}
 use Rattle.heap_pages.specs.Table.{logs_in, table_seen, table_with}
-use Rattle.heap_check.specs.RowRoots.{AreRoots}
+use Rattle.item_states.specs.Roots.{AreRoots}
 use Rattle.item_states.specs.Places.{AreInPlace}
 use Rattle.heap_check.proofs.RowStates.{all_in_place, plain_tells, states_tell}
 use Rattle.heap_check.proofs.row_page.RowPage.know.Goals as goal
