@@ -1,7 +1,7 @@
 pub mod First
 pub mod Keys
 pub mod Seen
-pub mod Asked
+pub mod OnWay
 pub mod TreeLaws
 pub mod ListedLaws
 pub mod LevelLaws

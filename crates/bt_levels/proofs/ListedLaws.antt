@@ -128,7 +128,7 @@ module _ (tree : Tree) (long : Option ℕ) where
     unfolding first_doubt
     doubt_none = λ k. old_by (is_none-of (first_rule tree.blocks (tree.block 0)) rule_none k) (eq-eqb _ _ version_4 k)
 
-    quiet : is_first_quiet tree ≡ true
+    pub quiet : is_first_quiet tree ≡ true
     quiet = both_yes (is_none (first_rule tree.blocks (tree.block 0))) (is_none (first_doubt tree.blocks (tree.block 0))) (is_none-of _ rule_none) (is_none-of _ doubt_none)
 
     findings_none : (b : ℕ) → 1 ≤ b → b < tree.blocks → (block_lists tree b).findings ≡ []

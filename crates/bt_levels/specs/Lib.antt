@@ -4,3 +4,4 @@ pub mod Broken
 pub mod Files
 pub mod Sound
 pub mod Window
+pub mod OnWay

@@ -1,6 +1,6 @@
 //! Judges the segments, the blocks and the levels of an index.
-ghost use Rattle.std.specs.Prelude.{◌≡◌, ◌+◌, ◌-◌, ◌*◌, ◌<◌, ◌↔◌, IfOk, IfSome, IsSome};
-ghost use Rattle.std.specs.Prelude.{None, length, min, true};
+ghost use Rattle.std.specs.Prelude.{◌≡◌, ◌+◌, ◌-◌, ◌*◌, ◌<◌, ◌↔◌, IfOk, IfSome, IsSome, OnOk};
+ghost use Rattle.std.specs.Prelude.{None, false, length, min, true};
 ghost use Rattle.outside.specs.Adds.{AddsIn};
 ghost use Rattle.outside.specs.Outside.{Asked, AskedAtMost, IfTold, Tells};
 ghost use Rattle.rel_files.specs.Relation.{IsAttached, count_of, long_of};
@@ -8,15 +8,18 @@ ghost use Rattle.reports.specs.Added.{report_lists};
 ghost use Rattle.bt_pages.specs.Seen.{HasSeen, StaysSeen};
 ghost use Rattle.bt_pages.specs.Trees.{tree_seen};
 ghost use Rattle.bt_pages.specs.Broken.{AreEmpty};
+ghost use Rattle.bt_walks.specs.Budget.{TakesReads};
 ghost use Rattle.bt_walks.specs.Shape.{IsShapeOf};
 ghost use Rattle.bt_walks.specs.Trees.{HoldsPages, first_broken_in};
+ghost use Rattle.bt_walks.specs.UnderWay.{budget_left};
 ghost use Rattle.bt_levels.specs.Lists.{blocks_lists, first_lists, index_lists, is_first_quiet, level_finding_lists};
 ghost use Rattle.bt_levels.specs.Lists.{level_lists, other_lists, pages_lists, segment_lists};
+ghost use Rattle.bt_levels.specs.OnWay.{IsOnWay, IsWalkOf};
 
 use crate::meta::{first_doubt, first_rule};
 use crate::window::Window;
 use bt_pages::{SeenTree, TreeRules, add_found};
-use bt_walks::{TreeShape, first_broken_rule};
+use bt_walks::{LeafWalk, TreeShape};
 use outside::{Files, NoMemory};
 use page_layout::{PageView, Rule};
 use reports::{PageFault, Place, Rel, Report};
@@ -61,61 +64,87 @@ fn judge_first<F: Files>(
     Ok(rule.is_none() && doubt.is_none())
 }
 
-// Judges the blocks from 1 on, one after the other: after one read at most 4081 for each of them.
+// Judges the blocks from 1 on, one after the other: after one read at most 4081 for each of them, beside those that the
+// walk along the leaves takes, which goes on where one of them is next.
 fn judge_others<F: Files>(
+    alloc: Global,
     files: &mut F,
     tree: &mut SeenTree<'_>,
+    walk: &mut LeafWalk<'_>,
     report: &mut Report,
 ) -> Result<(), PageFault>
     requires attached { IfTold F.seen files.old (λ names. IsAttached names tree.old.rules.relation.now) }
     requires seen { IfTold F.seen files.old (λ names. HasSeen names tree.old) }
     requires some { 0 < count_of tree.old.rules.relation.now }
+    requires walk { IsWalkOf tree.old.rules walk.old }
     ensures lists { IfTold F.seen files.old (λ names. AddsIn report_lists result report.old report.new
         (other_lists (tree_seen names tree.old.rules))) }
     ensures tree { StaysSeen F.seen files.old tree.old tree.new }
-    ensures asked { AskedAtMost (1 + 4081 * (count_of tree.old.rules.relation.now - 1)) F.seen files.old files.new
-        result PageFault.ReadFault }
+    ensures walk { IsWalkOf tree.old.rules walk.new }
+    ensures way { OnOk result (IfTold F.seen files.old (λ names.
+        IsOnWay names tree.old.rules walk.old → IsOnWay names tree.old.rules walk.new)) }
+    ensures taken { TakesReads F.seen files.old files.new (1 + 4081 * (count_of tree.old.rules.relation.now - 1))
+        (budget_left walk.old) (budget_left walk.new) }
+    ensures asked { Asked F.seen files.old files.new result PageFault.ReadFault }
 {
     let mut window = Window::new();
     window.begin(files, tree)?;
     for k in 0..tree.rules.relation.blocks() - 1 {
+        walk.follow(alloc, files, window.held(k + 1))?;
         window.judge_next(files, tree, k + 1, report)?;
     }
     Ok(())
 }
 
-// Judges block 0, and where nothing is found of it the others.
-fn judge_blocks<F: Files>(
+// Judges block 0, and where nothing is found of it the others, while a walk goes along the leaves; without that walk
+// something is found.
+fn judge_blocks<'t, F: Files>(
     alloc: Global,
     files: &mut F,
-    tree: &TreeRules<'_>,
+    tree: &TreeRules<'t>,
     report: &mut Report,
-) -> Result<(), PageFault>
+) -> Result<Option<LeafWalk<'t>>, PageFault>
     requires attached { IfTold F.seen files.old (λ names. IsAttached names tree.now.relation.now) }
     ensures lists { IfTold F.seen files.old (λ names. AddsIn report_lists result report.old report.new
         (blocks_lists (tree_seen names tree.now))) }
-    ensures asked { AskedAtMost (4081 * count_of tree.now.relation.now) F.seen files.old files.new result
+    ensures walk { IfOk result (λ walk. IfSome walk (IsWalkOf tree.now)) }
+    ensures some { IfOk result (λ walk. IfSome walk (λ w. 0 < count_of tree.now.relation.now)) }
+    ensures way { Tells F.seen files.old result (λ walk names. IfSome walk (IsOnWay names tree.now)) }
+    ensures none { Tells F.seen files.old result (λ walk names. walk ≡ None
+        → is_first_quiet (tree_seen names tree.now) ≡ false) }
+    ensures left { IfOk result (λ walk. IfSome walk (λ w. TakesReads F.seen files.old files.new
+        (4087 * count_of tree.now.relation.now) 0 (budget_left w))) }
+    ensures asked { AskedAtMost (4087 * count_of tree.now.relation.now) F.seen files.old files.new result
         PageFault.ReadFault }
 {
     let mut page = [0u8; 8192];
-    if judge_first(files, tree, &mut page, report)? {
-        let mut seen = SeenTree::new(alloc, *tree)?;
-        judge_others(files, &mut seen, report)?;
+    if !judge_first(files, tree, &mut page, report)? {
+        return Ok(None);
     }
-    Ok(())
+    let mut walk = LeafWalk::begin(alloc, files, tree)?;
+    let mut seen = SeenTree::new(alloc, *tree)?;
+    judge_others(alloc, files, &mut seen, &mut walk, report)?;
+    Ok(Some(walk))
 }
 
-// Judges the segments and the blocks. It reads at most 4081 times for each block.
-fn judge_pages<F: Files>(
+// Judges the segments and the blocks, while a walk goes along the leaves; without that walk something is found.
+fn judge_pages<'t, F: Files>(
     alloc: Global,
     files: &mut F,
-    tree: &TreeRules<'_>,
+    tree: &TreeRules<'t>,
     report: &mut Report,
-) -> Result<(), PageFault>
+) -> Result<Option<LeafWalk<'t>>, PageFault>
     requires attached { IfTold F.seen files.old (λ names. IsAttached names tree.now.relation.now) }
     ensures lists { IfTold F.seen files.old (λ names. AddsIn report_lists result report.old report.new
         (pages_lists (tree_seen names tree.now) (long_of tree.now.relation.now))) }
-    ensures asked { AskedAtMost (4081 * count_of tree.now.relation.now) F.seen files.old files.new result
+    ensures walk { IfOk result (λ walk. IfSome walk (IsWalkOf tree.now)) }
+    ensures some { IfOk result (λ walk. IfSome walk (λ w. 0 < count_of tree.now.relation.now)) }
+    ensures way { Tells F.seen files.old result (λ walk names. IfSome walk (IsOnWay names tree.now)) }
+    ensures none { Tells F.seen files.old result (λ walk names. walk ≡ None
+        → is_first_quiet (tree_seen names tree.now) ≡ false) }
+    ensures left { IfOk result (λ walk. IfSome walk (λ w. TakesReads F.seen files.old files.new
+        (4087 * count_of tree.now.relation.now) 0 (budget_left w))) }
+    ensures asked { AskedAtMost (4087 * count_of tree.now.relation.now) F.seen files.old files.new result
         PageFault.ReadFault }
 {
     add_segment(report, tree.number, tree.relation.long_segment())?;
@@ -136,15 +165,18 @@ fn add_level_finding(
     }
 }
 
-// Judges the levels of an index whose pages keep their rules, and says what a search of it needs to know,
-// if nothing is found there.
+// Judges the levels of an index whose pages keep their rules, with the walk along its leaves so far, and says what a
+// search of it needs to know, if nothing is found there.
 fn judge_levels<F: Files>(
     alloc: Global,
     files: &mut F,
     tree: &TreeRules<'_>,
+    walk: &mut LeafWalk<'_>,
     report: &mut Report,
 ) -> Result<Option<TreeShape>, PageFault>
     requires some { 0 < count_of tree.now.relation.now }
+    requires walk { IsWalkOf tree.now walk.old }
+    requires way { IfTold F.seen files.old (λ names. IsOnWay names tree.now walk.old) }
     requires pages { IfTold F.seen files.old (λ names. HoldsPages names tree.now) }
     ensures lists { IfTold F.seen files.old (λ names. AddsIn report_lists result report.old report.new
         (level_lists (tree_seen names tree.now))) }
@@ -152,10 +184,10 @@ fn judge_levels<F: Files>(
         IsSome shape ↔ (first_broken_in (tree_seen names tree.now) ≡ None)) }
     ensures shape { Tells F.seen files.old result (λ shape names.
         IfSome shape (IsShapeOf (tree_seen names tree.now))) }
-    ensures asked { AskedAtMost (15 * count_of tree.now.relation.now) F.seen files.old files.new result
-        PageFault.ReadFault }
+    ensures asked { AskedAtMost (budget_left walk.old + 2 * count_of tree.now.relation.now) F.seen files.old files.new
+        result PageFault.ReadFault }
 {
-    let found = first_broken_rule(alloc, files, tree)?;
+    let found = walk.finish(alloc, files)?;
     add_level_finding(report, tree.number, found.finding)?;
     match found.finding {
         None => Ok(Some(found.shape)),
@@ -194,10 +226,12 @@ pub fn judge_index<F: Files>(
         PageFault.ReadFault }
 {
     let before = report.counts();
-    judge_pages(alloc, files, tree, report)?;
-    if !is_as_before(report, before) || tree.relation.blocks() == 0 {
+    let Some(mut walk) = judge_pages(alloc, files, tree, report)? else {
+        return Ok(None);
+    };
+    if !is_as_before(report, before) {
         return Ok(None);
     }
-    let shape = judge_levels(alloc, files, tree, report)?;
+    let shape = judge_levels(alloc, files, tree, &mut walk, report)?;
     Ok(shape)
 }

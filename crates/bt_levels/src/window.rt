@@ -11,6 +11,7 @@ ghost use Rattle.bt_pages.specs.Trees.{tree_seen};
 ghost use Rattle.bt_levels.specs.Window.{held_page};
 
 use bt_pages::{SeenTree, judge_page};
+use bt_walks::InHand;
 use outside::Files;
 use page_layout::PageView;
 use rel_files::ReadFault;
@@ -80,6 +81,19 @@ impl Window {
             right: [0; 8192],
             is_right: false,
         }
+    }
+
+    // The page that is judged next, which is that of block b.
+    pub fn held(&self, b: u32) -> InHand<'_>
+        ensures block { result.block ≡ b }
+        ensures page { result.page.now ≡ held_page self.now }
+    {
+        let page = if self.is_right {
+            &self.right
+        } else {
+            &self.left
+        };
+        InHand { block: b, page }
     }
 
     // Reads block 1, if there is one.

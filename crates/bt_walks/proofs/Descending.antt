@@ -26,6 +26,7 @@ use Rattle.bt_walks.specs.Reading.{IsOfLevel, IsReading}
 use Rattle.bt_walks.specs.Sets.{is_in}
 use Rattle.bt_walks.specs.Trees.{image_of, order_in, same_in}
 use Rattle.bt_walks.specs.Walked.{AreLevelsJudged, ChangesDownlinks, HasCountedNone, HasEnough, IsLevelJudged, IsTreeJudged, StandsBefore}
+use Rattle.bt_walks.specs.UnderWay.{AtLevel}
 use Rattle.bt_walks.proofs.Counting.{few_below}
 use Rattle.bt_walks.proofs.Judging.{levels_of, reads_below}
 use Rattle.bt_walks.proofs.Tallies.{level_is_walked, none_half_dead}
@@ -37,15 +38,6 @@ top_reads tree dead d root is at turns =
     let few = few_below (image_of tree) (suc (image_of tree).level) in
     subst (λ k. IsReading (image_of tree) dead (suc (image_of tree).level) d.turns_left k (downlinks (image_of tree) 0)) (sym at)
     (record { pages = 0; few = omega (arith, few, turns); leads = refl; of_level = tt; is = ap (λ (r : ℕ). (None, r) ∷ []) is })
-
--- the loop over the levels stands before this one, which has this number and stands n levels below the top
-pub record AtLevel (tree : Tree) (levels : Levels) (m n : ℕ) : Type 0 where
-  pub stands : StandsBefore tree m levels (downlinks (image_of tree) n)
-  pub before : IsBefore (same_in tree) (order_in tree) (image_of tree) (is_in levels.dead) (is_in levels.stands) m n
-  pub enough : HasEnough tree (suc m) levels
-  -- the right halves that were counted and those that are left are all, and no half-dead page stands above the leaves
-  pub right_halves : levels.right_halves + halves_down (image_of tree) m n ≡ halves_down (image_of tree) (image_of tree).level 0
-  pub half_dead : levels.half_dead ≡ 0
 
 -- the sums of the counts, at the top, from one level to the next, and at the end
 top_halves : (n all : ℕ) → n ≡ 0 → n + all ≡ all
@@ -108,6 +100,14 @@ module _ (tree : Tree) (local : HasSoundPages (order_in tree) (image_of tree)) (
                 ∙ sym (cond-false ((image_of tree).root == 0) 0 (half_dead_among (image_of tree) (chain_of (image_of tree) (entry_at (image_of tree) (image_of tree).level))) rooted);
           };
         }
+
+    -- so on the leaves all levels are judged
+    pub leaves_on : AtLevel tree levels 0 n → IsLevelJudged tree 0 (downlinks (image_of tree) n) levels new judged → AreLevelsJudged tree new judged.finding
+    leaves_on at is = by judged.finding refl
+      where
+        by : (o : Option Finding) → judged.finding ≡ o → AreLevelsJudged tree new judged.finding
+        by None e = last_on at is e
+        by (Some f) e = found_on 0 f at is e
 
     pub next_on : (m : ℕ) (after : Levels) → AtLevel tree levels (suc m) n → IsLevelJudged tree (suc m) (downlinks (image_of tree) n) levels new judged → judged.finding ≡ None
         → new.fastroot ≡ levels.fastroot → ChangesDownlinks new after

@@ -6,6 +6,7 @@ pub mod Counting
 pub mod Hands
 pub mod Tallies
 pub mod Walking
+pub mod UnderWay
 pub mod Seeing
 pub mod FirstPage
 pub mod Judging

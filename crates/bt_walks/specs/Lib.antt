@@ -7,4 +7,5 @@ pub mod Downlinks
 pub mod Reading
 pub mod Counts
 pub mod Walked
+pub mod UnderWay
 pub mod Shape

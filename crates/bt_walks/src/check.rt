@@ -1,40 +1,36 @@
-//! The rules L1 to L9 of an index.
-ghost use Rattle.std.specs.Prelude.{◌≡◌, ◌≢◌, ◌<◌, ◌+◌, ◌*◌, ℕ, List, [], None, length, suc, IfOk, OnOk, false};
+//! The rules L1 and L9 of an index, and what the walks along its levels begin with.
+ghost use Rattle.std.specs.Prelude.{◌≡◌, ◌<◌, ◌+◌, ◌*◌, ℕ, List, [], None, length, suc, IfOk, OnOk, false};
 ghost use Rattle.outside.specs.Outside.{Asked, AskedAtMost, IfTold, Names, Tells};
 ghost use Rattle.rel_files.specs.Faults.{read_fault};
-ghost use Rattle.rel_files.specs.Relation.{count_of};
+ghost use Rattle.rel_files.specs.Relation.{IsAttached, count_of};
 ghost use Rattle.tree_search.specs.Levels.{downlinks};
 ghost use Rattle.tree_rules.specs.Tests.{are_roots_misplaced, is_misplaced};
 ghost use Rattle.tree_rules.specs.Walk.{first_outside, is_outside, unreached_finding};
 ghost use Rattle.bt_meta.specs.Pages.{meta_of};
 ghost use Rattle.bt_pages.specs.Trees.{tree_seen};
-ghost use Rattle.bt_walks.specs.Budget.{TakesReads, pages_below};
+ghost use Rattle.bt_walks.specs.Budget.{TakesReads};
 ghost use Rattle.bt_walks.specs.Sets.{is_in};
-ghost use Rattle.bt_walks.specs.Shape.{IsShapeOf};
-ghost use Rattle.bt_walks.specs.Trees.{HoldsPages, first_broken_in, image_of};
+ghost use Rattle.bt_walks.specs.Trees.{HoldsPages, image_of};
 ghost use Rattle.bt_walks.specs.Downlinks.{TreeDownlink, turns_of};
 ghost use Rattle.bt_walks.specs.Reading.{IsReading};
-ghost use Rattle.bt_walks.specs.Walked.{AreLevelsJudged, ChangesDownlinks, HasCountedNone, HasEnough};
-ghost use Rattle.bt_walks.specs.Walked.{IsReady, IsSameIndex, IsTreeJudged};
+ghost use Rattle.bt_walks.specs.Walked.{ChangesDownlinks, HasCountedNone, HasEnough};
+ghost use Rattle.bt_walks.specs.Walked.{IsReady};
 ghost use Rattle.bt_walks.specs.Walked.{StandsBefore, budget_of, dead_of, fastroot_of, standing_of, tree_of, upper_of};
 
 use crate::block_set::BlockSet;
 use crate::downlinks::Downlinks;
 use crate::levels::Levels;
-use crate::shape::{LevelsFound, TreeShape};
 use bt_meta::{Meta, meta};
 use bt_pages::{TreeRules, glance_at};
 use outside::{Files, NoMemory};
 use page_layout::{PageView, Rule};
 use rel_files::ReadFault;
-use reports::PageFault;
 use std::alloc::Global;
-use tree_image::kept_rules_make_a_sound_image;
 
-// What the metapage says.
-fn read_meta<F: Files>(files: &mut F, tree: &TreeRules<'_>) -> Result<Meta, ReadFault>
+/// What the metapage says.
+pub(crate) fn read_meta<F: Files>(files: &mut F, tree: &TreeRules<'_>) -> Result<Meta, ReadFault>
     requires some { 0 < count_of tree.now.relation.now }
-    requires pages { IfTold F.seen files.old (λ names. HoldsPages names tree.now) }
+    requires attached { IfTold F.seen files.old (λ names. IsAttached names tree.now.relation.now) }
     ensures told { Tells F.seen files.old result (λ meta names. meta ≡ meta_of ((tree_seen names tree.now).block 0)) }
     ensures asked { AskedAtMost 1 F.seen files.old files.new result read_fault }
 {
@@ -50,7 +46,7 @@ fn is_misplaced<F: Files>(
     b: u32,
     level: u32,
 ) -> Result<bool, ReadFault>
-    requires pages { IfTold F.seen files.old (λ names. HoldsPages names tree.now) }
+    requires attached { IfTold F.seen files.old (λ names. IsAttached names tree.now.relation.now) }
     ensures told { Tells F.seen files.old result (λ misplaced names. b < count_of tree.now.relation.now
         → misplaced ≡ is_misplaced (image_of (tree_seen names tree.now)) b level) }
     ensures asked { AskedAtMost 2 F.seen files.old files.new result read_fault }
@@ -62,16 +58,16 @@ fn is_misplaced<F: Files>(
     Ok(page.idle || page.special.level != level)
 }
 
-// L1.
-fn are_roots_misplaced<F: Files>(
+/// L1.
+pub(crate) fn are_roots_misplaced<F: Files>(
     files: &mut F,
     tree: &TreeRules<'_>,
     meta: &Meta,
 ) -> Result<bool, ReadFault>
-    requires pages { IfTold F.seen files.old (λ names. HoldsPages names tree.now) }
+    requires attached { IfTold F.seen files.old (λ names. IsAttached names tree.now.relation.now) }
     requires meta { IfTold F.seen files.old (λ names. meta.now ≡ meta_of ((tree_seen names tree.now).block 0)) }
-    ensures told { Tells F.seen files.old result (λ misplaced names.
-        misplaced ≡ are_roots_misplaced (image_of (tree_seen names tree.now))) }
+    ensures told { Tells F.seen files.old result (λ misplaced names. HoldsPages names tree.now
+        → misplaced ≡ are_roots_misplaced (image_of (tree_seen names tree.now))) }
     ensures asked { AskedAtMost 4 F.seen files.old files.new result read_fault }
 {
     let is_root_misplaced = is_misplaced(files, tree, meta.root, meta.level)?;
@@ -88,7 +84,7 @@ fn is_outside<F: Files>(
 ) -> Result<bool, ReadFault>
     requires blocks { length stands.now ≡ count_of tree.now.relation.now }
     requires inside { b < count_of tree.now.relation.now }
-    requires pages { IfTold F.seen files.old (λ names. HoldsPages names tree.now) }
+    requires attached { IfTold F.seen files.old (λ names. IsAttached names tree.now.relation.now) }
     ensures told { Tells F.seen files.old result (λ outside names.
         outside ≡ is_outside (image_of (tree_seen names tree.now)) (is_in stands.now) b) }
     ensures asked { AskedAtMost 2 F.seen files.old files.new result read_fault }
@@ -108,7 +104,7 @@ fn first_outside<F: Files>(
 ) -> Result<Option<u32>, ReadFault>
     requires blocks { length stands.now ≡ count_of tree.now.relation.now }
     requires some { 0 < count_of tree.now.relation.now }
-    requires pages { IfTold F.seen files.old (λ names. HoldsPages names tree.now) }
+    requires attached { IfTold F.seen files.old (λ names. IsAttached names tree.now.relation.now) }
     ensures told { Tells F.seen files.old result (λ found names.
         found ≡ first_outside (image_of (tree_seen names tree.now)) (is_in stands.now)
         (count_of tree.now.relation.now)) }
@@ -124,8 +120,12 @@ fn first_outside<F: Files>(
 }
 
 impl<'t> Levels<'t> {
-    // Before the top level.
-    fn new(alloc: Global, tree: TreeRules<'t>, meta: &Meta) -> Result<Levels<'t>, NoMemory>
+    /// Before the top level.
+    pub(crate) fn new(
+        alloc: Global,
+        tree: TreeRules<'t>,
+        meta: &Meta,
+    ) -> Result<Levels<'t>, NoMemory>
         ensures ready { IfOk result IsReady }
         ensures tree { IfOk result (λ levels. tree_of levels ≡ tree.entry) }
         ensures fastroot { IfOk result (λ levels. fastroot_of levels ≡ meta.now.fastroot) }
@@ -158,13 +158,14 @@ impl<'t> Levels<'t> {
         })
     }
 
-    // On to the level below the one whose first page this is.
-    fn descend<F: Files>(&mut self, files: &mut F, first: u32) -> Result<(), ReadFault>
+    /// On to the level below the one whose first page this is.
+    pub(crate) fn descend<F: Files>(&mut self, files: &mut F, first: u32) -> Result<(), ReadFault>
         requires ready { IsReady self.old }
-        requires pages { IfTold F.seen files.old (λ names. HoldsPages names (tree_of self.old)) }
+        requires attached { IfTold F.seen files.old (λ names. IsAttached names (tree_of self.old).relation.now) }
         ensures ready { IsReady self.new }
         ensures downlinks { ChangesDownlinks self.old self.new }
-        ensures told { OnOk result (IfTold F.seen files.old (λ names. (level : ℕ) (left : List TreeDownlink)
+        ensures told { OnOk result (IfTold F.seen files.old (λ names. HoldsPages names (tree_of self.old)
+            → (level : ℕ) (left : List TreeDownlink)
             → IsReading (image_of (tree_seen names (tree_of self.old))) (dead_of self.old) (suc level)
             (turns_of (upper_of self.old)) (record { items = []; lower = None; block = first }) left
             → fastroot_of self.old ≡ (image_of (tree_seen names (tree_of self.old))).fastroot
@@ -176,91 +177,17 @@ impl<'t> Levels<'t> {
         self.upper.settle(files, &self.tree, &self.dead)?;
         Ok(())
     }
-
-    // L2 to L8, level by level from the top down.
-    fn judge_levels<F: Files>(
-        &mut self,
-        alloc: Global,
-        files: &mut F,
-        meta: &Meta,
-    ) -> Result<Option<(Rule, u32)>, PageFault>
-        requires ready { IsReady self.old }
-        requires pages { IfTold F.seen files.old (λ names. HoldsPages names (tree_of self.old)) }
-        requires meta { IfTold F.seen files.old (λ names.
-            meta.now ≡ meta_of ((tree_seen names (tree_of self.old)).block 0)) }
-        requires dead { (b : ℕ) → dead_of self.old b ≡ false }
-        requires standing { (b : ℕ) → standing_of self.old b ≡ false }
-        requires counts { HasCountedNone self.old }
-        ensures ready { IsReady self.new }
-        ensures same { IsSameIndex self.old self.new }
-        ensures told { Tells F.seen files.old result (λ found names. let tree = tree_seen names (tree_of self.old) in
-            (image_of tree).root ≢ 0 → are_roots_misplaced (image_of tree) ≡ false
-            → StandsBefore tree (image_of tree).level self.old (downlinks (image_of tree) 0)
-            → HasEnough tree (suc (image_of tree).level) self.old
-            → AreLevelsJudged tree self.new found) }
-        ensures taken { TakesReads F.seen files.old files.new (2 * count_of (tree_of self.old).relation.now)
-            (budget_of self.old) (budget_of self.new) }
-        ensures asked { Asked F.seen files.old files.new result PageFault.ReadFault }
-    {
-        kept_rules_make_a_sound_image();
-        for k in 0..self.tree.relation.blocks() {
-            let level = meta.level - k;
-            let judged = self.judge(alloc, files, level == meta.fastlevel)?;
-            if judged.finding.is_some() || level == 0 {
-                return Ok(judged.finding);
-            }
-            self.descend(files, judged.first)?;
-        }
-        Ok(None)
-    }
-
-    // L1 to L8.
-    fn judge_all<F: Files>(
-        &mut self,
-        alloc: Global,
-        files: &mut F,
-        meta: &Meta,
-    ) -> Result<Option<(Rule, u32)>, PageFault>
-        requires ready { IsReady self.old }
-        requires pages { IfTold F.seen files.old (λ names. HoldsPages names (tree_of self.old)) }
-        requires meta { IfTold F.seen files.old (λ names.
-            meta.now ≡ meta_of ((tree_seen names (tree_of self.old)).block 0)) }
-        requires dead { (b : ℕ) → dead_of self.old b ≡ false }
-        requires standing { (b : ℕ) → standing_of self.old b ≡ false }
-        requires counts { HasCountedNone self.old }
-        requires top { IfTold F.seen files.old (λ names. let tree = tree_seen names (tree_of self.old) in
-            StandsBefore tree (image_of tree).level self.old (downlinks (image_of tree) 0)) }
-        requires enough { IfTold F.seen files.old (λ names. let tree = tree_seen names (tree_of self.old) in
-            HasEnough tree (suc (image_of tree).level) self.old) }
-        ensures ready { IsReady self.new }
-        ensures same { IsSameIndex self.old self.new }
-        ensures told { Tells F.seen files.old result (λ found names.
-            IsTreeJudged (tree_seen names (tree_of self.old)) self.new found) }
-        ensures taken { TakesReads F.seen files.old files.new (2 * count_of (tree_of self.old).relation.now + 4)
-            (budget_of self.old) (budget_of self.new) }
-        ensures asked { Asked F.seen files.old files.new result PageFault.ReadFault }
-    {
-        kept_rules_make_a_sound_image();
-        if meta.root == 0 {
-            return Ok(None);
-        }
-        if are_roots_misplaced(files, &self.tree, meta)? {
-            return Ok(Some((Rule::L1, 0)));
-        }
-        let found = self.judge_levels(alloc, files, meta)?;
-        Ok(found)
-    }
 }
 
-// L9.
-fn first_unreached<F: Files>(
+/// L9.
+pub(crate) fn first_unreached<F: Files>(
     files: &mut F,
     tree: &TreeRules<'_>,
     stands: &BlockSet,
 ) -> Result<Option<(Rule, u32)>, ReadFault>
     requires blocks { length stands.now ≡ count_of tree.now.relation.now }
     requires some { 0 < count_of tree.now.relation.now }
-    requires pages { IfTold F.seen files.old (λ names. HoldsPages names tree.now) }
+    requires attached { IfTold F.seen files.old (λ names. IsAttached names tree.now.relation.now) }
     ensures told { Tells F.seen files.old result (λ found names.
         found ≡ unreached_finding (image_of (tree_seen names tree.now)) (is_in stands.now)) }
     ensures asked { AskedAtMost (2 * count_of tree.now.relation.now) F.seen files.old files.new result read_fault }
@@ -269,44 +196,4 @@ fn first_unreached<F: Files>(
         Some(b) => Ok(Some((Rule::L9, b))),
         None => Ok(None),
     }
-}
-
-/// Judges the levels of an index: the first of L1 to L9 that it breaks, and the block that is named for it,
-/// or None where it breaks none of them. Its single pages break no rule, where the files tell what they hold.
-///
-/// The shape has the fast root of the metapage; and where no rule is broken, how many pages of all levels are
-/// right halves, and how many leaves of the lowest level's chain are half-dead.
-///
-/// Each page of a level is read once, and once more while the level below it is walked; of others a few
-/// bytes are read. Whatever the files hold, there are at most 15 reads for each block. `ReadFault` comes only
-/// where the count of the files' faults rose.
-pub fn first_broken_rule<F: Files>(
-    alloc: Global,
-    files: &mut F,
-    tree: &TreeRules<'_>,
-) -> Result<LevelsFound, PageFault>
-    requires some { 0 < count_of tree.now.relation.now }
-    requires pages { IfTold F.seen files.old (λ names. HoldsPages names tree.now) }
-    ensures told { Tells F.seen files.old result (λ found names.
-        found.finding ≡ first_broken_in (tree_seen names tree.now)) }
-    ensures shape { Tells F.seen files.old result (λ found names.
-        IsShapeOf (tree_seen names tree.now) found.shape) }
-    ensures asked { AskedAtMost (15 * count_of tree.now.relation.now) F.seen files.old files.new result
-        PageFault.ReadFault }
-{
-    let meta = read_meta(files, tree)?;
-    let mut levels = Levels::new(alloc, *tree, &meta)?;
-    let finding = match levels.judge_all(alloc, files, &meta)? {
-        Some(finding) => Some(finding),
-        None => first_unreached(files, tree, &levels.stands)?,
-    };
-    Ok(LevelsFound {
-        finding,
-        shape: TreeShape {
-            fastroot: meta.fastroot,
-            fastlevel: meta.fastlevel,
-            right_halves: levels.right_halves,
-            half_dead: levels.half_dead,
-        },
-    })
 }

@@ -1,12 +1,12 @@
 //! The downlinks to a level, read one after the other along the level above: a cursor with one page in
 //! hand, and no list.
 ghost use Rattle.std.specs.Prelude.{◌≡◌, ◌≢◌, ◌<◌, ◌≤◌, ◌+◌, [], ◌∷◌, ℕ, List, length, option_map, slice_get, suc};
-ghost use Rattle.std.specs.Prelude.{false, not, IfOk, None, OnOk, Some};
+ghost use Rattle.std.specs.Prelude.{false, not, None, OnOk, Some};
 ghost use Rattle.outside.specs.Outside.{Asked, AskedAtMost, IfTold};
 ghost use Rattle.page_layout.specs.Page.{count_of, page_rule_of};
 ghost use Rattle.page_layout.specs.View.{page_bytes};
 ghost use Rattle.rel_files.specs.Faults.{read_fault};
-ghost use Rattle.rel_files.specs.Relation.{count_of as blocks_of};
+ghost use Rattle.rel_files.specs.Relation.{IsAttached, count_of as blocks_of};
 ghost use Rattle.tree_rules.specs.Same.{same_keys};
 ghost use Rattle.tree_rules.specs.Meeting.{is_next, next_separator};
 ghost use Rattle.tree_rules.specs.Tests.{same_bound};
@@ -173,11 +173,11 @@ impl Downlinks {
         requires some { 0 < turns_of self.old }
         requires readable { AreReadableDownlinks tree.now.columns.specs.now self.old }
         requires blocks { length dead.now ≡ blocks_of tree.now.relation.now }
-        requires pages { IfTold F.seen files.old (λ names. HoldsPages names tree.now) }
+        requires attached { IfTold F.seen files.old (λ names. IsAttached names tree.now.relation.now) }
         ensures readable { AreReadableDownlinks tree.now.columns.specs.now self.new }
         ensures turns { turns_of self.new + 1 ≡ turns_of self.old }
-        ensures reads { OnOk result (IfTold F.seen files.old (λ names.
-            (level m : ℕ) (left : List TreeDownlink) → next_of self.old ≢ 0
+        ensures reads { OnOk result (IfTold F.seen files.old (λ names. HoldsPages names tree.now
+            → (level m : ℕ) (left : List TreeDownlink) → next_of self.old ≢ 0
             → Reads (tree_seen names tree.now) (is_in dead.now) (suc level) (suc m) self.old left
             → Reads (tree_seen names tree.now) (is_in dead.now) (suc level) m self.new left)) }
         ensures asked { AskedAtMost 1 F.seen files.old files.new result read_fault }
@@ -203,10 +203,10 @@ impl Downlinks {
     ) -> Result<(), ReadFault>
         requires readable { AreReadableDownlinks tree.now.columns.specs.now self.old }
         requires blocks { length dead.now ≡ blocks_of tree.now.relation.now }
-        requires pages { IfTold F.seen files.old (λ names. HoldsPages names tree.now) }
+        requires attached { IfTold F.seen files.old (λ names. IsAttached names tree.now.relation.now) }
         ensures readable { AreReadableDownlinks tree.now.columns.specs.now self.new }
-        ensures reads { OnOk result (IfTold F.seen files.old (λ names.
-            (level : ℕ) (left : List TreeDownlink)
+        ensures reads { OnOk result (IfTold F.seen files.old (λ names. HoldsPages names tree.now
+            → (level : ℕ) (left : List TreeDownlink)
             → Reads (tree_seen names tree.now) (is_in dead.now) (suc level) (turns_of self.old) self.old left
             → Reads (tree_seen names tree.now) (is_in dead.now) (suc level) (turns_of self.new) self.new left
             × IsSettled self.new)) }
@@ -309,10 +309,10 @@ impl Downlinks {
     ) -> Result<(), PageFault>
         requires readable { AreReadableDownlinks tree.now.columns.specs.now self.old }
         requires blocks { length dead.now ≡ blocks_of tree.now.relation.now }
-        requires pages { IfTold F.seen files.old (λ names. HoldsPages names tree.now) }
+        requires attached { IfTold F.seen files.old (λ names. IsAttached names tree.now.relation.now) }
         ensures readable { AreReadableDownlinks tree.now.columns.specs.now self.new }
-        ensures reads { OnOk result (IfTold F.seen files.old (λ names.
-            (level : ℕ) (d : TreeDownlink) (left : List TreeDownlink) → IsSettled self.old
+        ensures reads { OnOk result (IfTold F.seen files.old (λ names. HoldsPages names tree.now
+            → (level : ℕ) (d : TreeDownlink) (left : List TreeDownlink) → IsSettled self.old
             → Reads (tree_seen names tree.now) (is_in dead.now) (suc level) (turns_of self.old) self.old (d ∷ left)
             → Reads (tree_seen names tree.now) (is_in dead.now) (suc level) (turns_of self.new) self.new left
             × IsSettled self.new)) }

@@ -2,7 +2,7 @@
 ghost use Rattle.std.specs.Prelude.{◌≡◌, ◌<◌, ◌≤◌, ◌+◌, ◌*◌, ℕ, Some, length};
 ghost use Rattle.outside.specs.Outside.{Asked, AskedAtMost, IfTold, Tells};
 ghost use Rattle.rel_files.specs.Faults.{read_fault};
-ghost use Rattle.rel_files.specs.Relation.{count_of};
+ghost use Rattle.rel_files.specs.Relation.{IsAttached, count_of};
 ghost use Rattle.tree_search.specs.Searchable.{IsInUse};
 ghost use Rattle.bt_meta.specs.Pages.{opaque_of};
 ghost use Rattle.bt_pages.specs.Trees.{tree_seen};
@@ -16,7 +16,7 @@ use rel_files::ReadFault;
 
 // The left sibling of a block, 0 where it has none or isn't a block.
 fn left_of<F: Files>(files: &mut F, tree: &TreeRules<'_>, b: u32) -> Result<u32, ReadFault>
-    requires pages { IfTold F.seen files.old (λ names. HoldsPages names tree.now) }
+    requires attached { IfTold F.seen files.old (λ names. IsAttached names tree.now.relation.now) }
     ensures told { Tells F.seen files.old result (λ left names. b < count_of tree.now.relation.now
         → left ≡ (opaque_of ((tree_seen names tree.now).block b)).prev) }
     ensures asked { AskedAtMost 2 F.seen files.old files.new result read_fault }
@@ -38,12 +38,13 @@ pub fn first_page<F: Files>(
     steps: &mut u32,
 ) -> Result<Option<u32>, ReadFault>
     requires few { steps.old ≤ count_of tree.now.relation.now }
-    requires pages { IfTold F.seen files.old (λ names. HoldsPages names tree.now) }
+    requires attached { IfTold F.seen files.old (λ names. IsAttached names tree.now.relation.now) }
     ensures fewer { steps.new ≤ steps.old }
     ensures told { Tells F.seen files.old result (λ first names. let x = image_of (tree_seen names tree.now) in
-        IsInUse x entry → IsWithin x entry steps.old → IsFirstPage x entry first) }
+        HoldsPages names tree.now → IsInUse x entry → IsWithin x entry steps.old → IsFirstPage x entry first) }
     ensures steps { Tells F.seen files.old result (λ first names. let x = image_of (tree_seen names tree.now) in
-        IsInUse x entry → (b : ℕ) → first ≡ Some b → steps.new + length (lefts_of x entry) ≡ steps.old) }
+        HoldsPages names tree.now → IsInUse x entry → (b : ℕ) → first ≡ Some b
+        → steps.new + length (lefts_of x entry) ≡ steps.old) }
     ensures taken { TakesReads F.seen files.old files.new 2 (2 * steps.old) (2 * steps.new) }
     ensures asked { Asked F.seen files.old files.new result read_fault }
 {

@@ -1,10 +1,9 @@
-//! The walk along one level of an index, from its first page to its last, while the downlinks to it are
-//! read along the level above.
-ghost use Rattle.std.specs.Prelude.{◌≡◌, ◌<◌, ◌≤◌, ◌+◌, ℕ, List, false, true, length, not, None, OnOk, IfOk};
+//! What is kept while the levels of an index are walked, and how a walk along one of them goes past a page.
+ghost use Rattle.std.specs.Prelude.{◌≡◌, ◌<◌, ◌+◌, ℕ, List, Option, false, true, not, None, OnOk, IfOk};
 ghost use Rattle.outside.specs.Outside.{Asked, AskedAtMost, IfTold, Names, Tells};
 ghost use Rattle.page_layout.specs.Page.{page_rule_of};
 ghost use Rattle.rel_files.specs.Faults.{read_fault};
-ghost use Rattle.rel_files.specs.Relation.{count_of};
+ghost use Rattle.rel_files.specs.Relation.{IsAttached, count_of};
 ghost use Rattle.tree_search.specs.Levels.{is_live, lower_after};
 ghost use Rattle.tree_rules.specs.Meeting.{is_next, next_separator, unmet_after};
 ghost use Rattle.tree_rules.specs.Same.{same_keys};
@@ -17,22 +16,22 @@ ghost use Rattle.bt_meta.specs.Flags.{is_half_dead};
 ghost use Rattle.bt_meta.specs.Pages.{opaque_of};
 ghost use Rattle.tree_image.specs.Image.{page_image};
 ghost use Rattle.bt_pages.specs.Trees.{tree_seen};
-ghost use Rattle.bt_walks.specs.Budget.{TakesReads, pages_below};
+ghost use Rattle.bt_walks.specs.Budget.{TakesReads};
 ghost use Rattle.bt_walks.specs.Downlinks.{IsSoundHand, TreeDownlink, hand_of, in_hand, page_of};
 ghost use Rattle.bt_walks.specs.Pages.{HasPlainItems, is_low_page};
 ghost use Rattle.bt_walks.specs.Reading.{IsOfLevel};
 ghost use Rattle.bt_walks.specs.Trees.{HoldsPages, image_of, order_in, same_in};
-ghost use Rattle.bt_walks.specs.Walked.{BeginsChain, ChangesBound, ChangesDownlinks, ChangesPage, ChangesSets};
-ghost use Rattle.bt_walks.specs.Walked.{HasMarked, HasPassed, HasRoom, HasWalked, IsReady, IsSameIndex, IsWalking};
-ghost use Rattle.bt_walks.specs.Walked.{KeepsBudget, StandsBefore, TreeWalk, budget_of, chain_from};
-ghost use Rattle.bt_walks.specs.Walked.{lower_of, page_in, steps_of, tree_of};
-ghost use Rattle.bt_walks.specs.Walked.{upper_of, walks_of};
+ghost use Rattle.bt_walks.specs.UnderWay.{IsHeld};
+ghost use Rattle.bt_walks.specs.Walked.{ChangesBound, ChangesDownlinks, ChangesPage, ChangesSets};
+ghost use Rattle.bt_walks.specs.Walked.{HasMarked, HasPassed, HasRoom, IsReady, IsSameIndex, IsWalking};
+ghost use Rattle.bt_walks.specs.Walked.{KeepsBudget, StandsBefore, TreeWalk, budget_of};
+ghost use Rattle.bt_walks.specs.Walked.{lower_of, page_in, tree_of, upper_of, walks_of};
 
 use crate::block_set::BlockSet;
 use crate::bounds::{high_key_of, is_low_page};
+use crate::course::InHand;
 use crate::downlinks::Downlinks;
 use crate::marks::marks_of;
-use bt_meta::opaque;
 use bt_pages::TreeRules;
 use key_orders::Separator;
 use level_walk::{LevelWalk, PageRole, PageSeen};
@@ -75,15 +74,22 @@ fn is_dead(role: PageRole) -> bool
 }
 
 impl<'t> Levels<'t> {
-    // Reads a block, and says whether it is one whose items can be read.
-    fn read<F: Files>(&mut self, files: &mut F, b: u32) -> Result<bool, ReadFault>
+    // Takes the page of a block, which is in hand or is read, and says whether it is one whose items can be read.
+    pub(crate) fn take<F: Files>(
+        &mut self,
+        files: &mut F,
+        b: u32,
+        hand: Option<InHand<'_>>,
+    ) -> Result<bool, ReadFault>
         requires some { 0 < walks_of self.old }
-        requires pages { IfTold F.seen files.old (λ names. HoldsPages names (tree_of self.old)) }
+        requires attached { IfTold F.seen files.old (λ names. IsAttached names (tree_of self.old).relation.now) }
+        requires hand { IfTold F.seen files.old (λ names. IsHeld (tree_seen names (tree_of self.old)) hand) }
         ensures page { ChangesPage self.old self.new }
         ensures walks { walks_of self.new + 1 ≡ walks_of self.old }
         ensures items { IfOk result (λ good. good ≡ true
             → (page_rule_of PageKind.Tree (page_in self.new) ≡ None) × (b < count_of (tree_of self.old).relation.now)) }
-        ensures told { Tells F.seen files.old result (λ good names. (level : ℕ)
+        ensures told { Tells F.seen files.old result (λ good names. HoldsPages names (tree_of self.old)
+            → (level : ℕ)
             → IsOfLevel (image_of (tree_seen names (tree_of self.old))) level b
             → (good ≡ true) × (page_in self.new ≡ (tree_seen names (tree_of self.old)).block b)) }
         ensures asked { AskedAtMost 1 F.seen files.old files.new result read_fault }
@@ -92,7 +98,10 @@ impl<'t> Levels<'t> {
         if b >= self.tree.relation.blocks() {
             return Ok(false);
         }
-        self.tree.relation.read_block(files, b, &mut self.page)?;
+        match hand {
+            Some(hand) if hand.block == b => self.page = *hand.page,
+            _ => self.tree.relation.read_block(files, b, &mut self.page)?,
+        }
         Ok(
             PageView::new(&self.page)
                 .page_rule(PageKind::Tree)
@@ -181,10 +190,11 @@ impl<'t> Levels<'t> {
         seen: &PageSeen,
     ) -> Result<(), PageFault>
         requires ready { IsReady self.old }
-        requires pages { IfTold F.seen files.old (λ names. HoldsPages names (tree_of self.old)) }
+        requires attached { IfTold F.seen files.old (λ names. IsAttached names (tree_of self.old).relation.now) }
         ensures ready { IsReady self.new }
         ensures downlinks { ChangesDownlinks self.old self.new }
-        ensures told { OnOk result (IfTold F.seen files.old (λ names. (level : ℕ) (left : List TreeDownlink)
+        ensures told { OnOk result (IfTold F.seen files.old (λ names. HoldsPages names (tree_of self.old)
+            → (level : ℕ) (left : List TreeDownlink)
             → is_next left seen.now.block ≡ seen.now.linked
             → StandsBefore (tree_seen names (tree_of self.old)) level self.old left
             → StandsBefore (tree_seen names (tree_of self.old)) level self.new (unmet_after left seen.now.block))) }
@@ -219,7 +229,7 @@ impl<'t> Levels<'t> {
     }
 
     // Goes past the page in hand, block b of the level.
-    fn pass<F: Files>(
+    pub(crate) fn pass<F: Files>(
         &mut self,
         alloc: Global,
         files: &mut F,
@@ -230,13 +240,14 @@ impl<'t> Levels<'t> {
         requires page { page_rule_of PageKind.Tree (page_in self.old) ≡ None }
         requires inside { b < count_of (tree_of self.old).relation.now }
         requires room { HasRoom self.old }
-        requires pages { IfTold F.seen files.old (λ names. HoldsPages names (tree_of self.old)) }
+        requires attached { IfTold F.seen files.old (λ names. IsAttached names (tree_of self.old).relation.now) }
         ensures ready { IsReady self.new }
         ensures same { IsSameIndex self.old self.new }
         ensures page { page_in self.new ≡ page_in self.old }
         ensures kept { KeepsBudget self.old self.new }
         ensures taken { TakesReads F.seen files.old files.new 0 (budget_of self.old) (budget_of self.new) }
-        ensures told { Tells F.seen files.old result (λ carried names. (level : ℕ) (w : TreeWalk)
+        ensures told { Tells F.seen files.old result (λ carried names. HoldsPages names (tree_of self.old)
+            → (level : ℕ) (w : TreeWalk)
             → IsOfLevel (image_of (tree_seen names (tree_of self.old))) level b
             → page_in self.old ≡ (tree_seen names (tree_of self.old)).block b
             → IsWalking (tree_seen names (tree_of self.old)) level self.old walk.now w
@@ -249,42 +260,5 @@ impl<'t> Levels<'t> {
         self.follow(alloc, files, &seen)?;
         self.mark(b, role, seen.marks.half_dead);
         Ok(walk.pass(&seen, self.fastroot))
-    }
-
-    // The walk along a level from its first page on, as long as pages may be walked over.
-    pub(crate) fn walk<F: Files>(
-        &mut self,
-        alloc: Global,
-        files: &mut F,
-        first: u32,
-    ) -> Result<LevelWalk, PageFault>
-        requires ready { IsReady self.old }
-        requires pages { IfTold F.seen files.old (λ names. HoldsPages names (tree_of self.old)) }
-        ensures ready { IsReady self.new }
-        ensures same { IsSameIndex self.old self.new }
-        ensures told { Tells F.seen files.old result (λ carried names. (level : ℕ) (ds : List TreeDownlink)
-            → StandsBefore (tree_seen names (tree_of self.old)) level self.old ds
-            → BeginsChain (tree_seen names (tree_of self.old)) level first
-            → length (chain_from (tree_seen names (tree_of self.old)) first)
-            + pages_below (image_of (tree_seen names (tree_of self.old))) level ≤ walks_of self.old
-            → HasWalked (tree_seen names (tree_of self.old)) level ds first self.old self.new carried) }
-        ensures steps { steps_of self.new ≡ steps_of self.old }
-        ensures taken { TakesReads F.seen files.old files.new 0 (budget_of self.old) (budget_of self.new) }
-        ensures asked { Asked F.seen files.old files.new result PageFault.ReadFault }
-    {
-        self.lower = None;
-        let mut walk = LevelWalk::new();
-        let mut b = first;
-        while self.walks_left > 0 {
-            if b == 0 {
-                return Ok(walk);
-            }
-            if !self.read(files, b)? {
-                return Ok(walk);
-            }
-            walk = self.pass(alloc, files, b, &walk)?;
-            b = opaque(PageView::new(&self.page)).next;
-        }
-        Ok(walk)
     }
 }

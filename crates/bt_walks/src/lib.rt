@@ -7,13 +7,16 @@
 mod block_set;
 mod bounds;
 mod check;
+mod course;
 mod downlinks;
 mod first_page;
 mod judge;
+mod leaf_walk;
 mod levels;
 mod marks;
 mod shape;
 
 pub use block_set::BlockSet;
-pub use check::first_broken_rule;
+pub use course::InHand;
+pub use leaf_walk::LeafWalk;
 pub use shape::{LevelsFound, TreeShape};

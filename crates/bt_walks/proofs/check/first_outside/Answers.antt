@@ -9,8 +9,8 @@ use Rattle.bt_walks.specs.Sets.{is_in}
 use Rattle.bt_walks.specs.Trees.{image_of}
 use Rattle.bt_walks.proofs.check.first_outside.Goals as goal
 
-pub is_outside-requires-clause-pages : goal.is_outside-requires-clause-pages
-is_outside-requires-clause-pages g c names told = c.requires.pages names (sym c.loop-k.invariant.asked.same ∙ told)
+pub is_outside-requires-clause-attached : goal.is_outside-requires-clause-attached
+is_outside-requires-clause-attached g c names told = c.requires.attached names (sym c.loop-k.invariant.asked.same ∙ told)
 
 pub loop-k-init : goal.loop-k-init
 loop-k-init g c = record { none = λ names told. refl; asked = PassedAtMost-none }

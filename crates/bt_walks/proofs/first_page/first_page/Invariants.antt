@@ -6,7 +6,7 @@ use Rattle.tree_rules.specs.Links.{to_left}
 use Rattle.tree_rules.proofs.Loops.{LeftWalk}
 use Rattle.bt_pages.specs.Trees.{tree_seen}
 use Rattle.bt_walks.specs.Budget.{TakesReads}
-use Rattle.bt_walks.specs.Trees.{image_of}
+use Rattle.bt_walks.specs.Trees.{HoldsPages, image_of}
 use Rattle.bt_walks.specs.Walked.{lefts_of}
 use Rattle.rel_files.specs.Relation.{count_of}
 use Rattle.bt_walks.proofs.first_page.first_page.Given as goal
@@ -15,12 +15,12 @@ use Rattle.bt_walks.proofs.first_page.first_page.Given as goal
 abbrev pub invariant-loop-steps : goal.invariant-loop-steps
 invariant-loop-steps g l = record {
   fewer : l.steps ≤ l.fn.steps;
-  left : IfTold g.F.Files.seen l.fn.files (λ names. IsInUse (image_of (tree_seen names l.tree)) l.entry
+  left : IfTold g.F.Files.seen l.fn.files (λ names. HoldsPages names l.tree → IsInUse (image_of (tree_seen names l.tree)) l.entry
       → LeftWalk (to_left (image_of (tree_seen names l.tree))) l.entry (count_of l.tree.relation.now) (l.fn.steps - l.steps) l.block l.next);
-  count : IfTold g.F.Files.seen l.fn.files (λ names. IsInUse (image_of (tree_seen names l.tree)) l.entry
+  count : IfTold g.F.Files.seen l.fn.files (λ names. HoldsPages names l.tree → IsInUse (image_of (tree_seen names l.tree)) l.entry
       → l.fn.steps - l.steps + length (linked_from (to_left (image_of (tree_seen names l.tree))) (count_of l.tree.relation.now - (l.fn.steps - l.steps)) l.next)
       ≡ length (lefts_of (image_of (tree_seen names l.tree)) l.entry));
-  used : IfTold g.F.Files.seen l.fn.files (λ names. IsInUse (image_of (tree_seen names l.tree)) l.entry
+  used : IfTold g.F.Files.seen l.fn.files (λ names. HoldsPages names l.tree → IsInUse (image_of (tree_seen names l.tree)) l.entry
       → l.next ≢ 0 → IsInUse (image_of (tree_seen names l.tree)) l.next);
   taken : TakesReads g.F.Files.seen l.fn.files l.files 2 (2 * l.fn.steps) (2 * l.steps);
   asked : Passed g.F.Files.seen l.fn.files l.files;

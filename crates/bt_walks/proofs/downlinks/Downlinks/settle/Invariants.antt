@@ -4,13 +4,14 @@ use Rattle.bt_pages.specs.Trees.{tree_seen}
 use Rattle.bt_walks.specs.Budget.{TakesReads}
 use Rattle.bt_walks.specs.Downlinks.{AreReadableDownlinks, Reads, TreeDownlink, turns_of}
 use Rattle.bt_walks.specs.Sets.{is_in}
+use Rattle.bt_walks.specs.Trees.{HoldsPages}
 use Rattle.bt_walks.proofs.downlinks.Downlinks.settle.Given as goal
 
 -- the same downlinks are left
 abbrev pub invariant-loop-self : goal.invariant-loop-self
 invariant-loop-self g l = record {
   readable : AreReadableDownlinks l.tree.columns.specs.now l.self;
-  reads : IfTold g.F.Files.seen l.fn.files (λ names. (level : ℕ) (left : List TreeDownlink)
+  reads : IfTold g.F.Files.seen l.fn.files (λ names. HoldsPages names l.tree → (level : ℕ) (left : List TreeDownlink)
       → Reads (tree_seen names l.tree) (is_in l.dead) (suc level) (turns_of l.fn.self) l.fn.self left
       → Reads (tree_seen names l.tree) (is_in l.dead) (suc level) (turns_of l.self) l.self left);
   fewer : turns_of l.self ≤ turns_of l.fn.self;

@@ -11,10 +11,10 @@ use Rattle.bt_walks.proofs.Hands.{next_upper, turn_reads}
 use Rattle.bt_walks.proofs.downlinks.Downlinks.turn.Goals as goal
 
 pub returns-in_ok-read_block-clause-reads : goal.returns-in_ok-read_block-clause-reads
-returns-in_ok-read_block-clause-reads g c names told level m left ne reads =
+returns-in_ok-read_block-clause-reads g c names told holds level m left ne reads =
     let tree = tree_seen names c.args.tree.now in
     let dead = is_in c.args.dead.now in
-    let keeps = (c.requires.pages names told).pages in
+    let keeps = holds.pages in
     let old = c.args.self.now in
     let u = next_upper tree dead level keeps m old left c.requires.nothing ne reads in
     let page = c.in_ok-read_block.ensures.bytes names told in

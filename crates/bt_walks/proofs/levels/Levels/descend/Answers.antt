@@ -8,10 +8,10 @@ use Rattle.bt_walks.specs.Walked.{tree_of}
 use Rattle.bt_walks.proofs.levels.Levels.descend.Goals as goal
 
 pub returns-clause-told : goal.returns-clause-told
-returns-clause-told g c names told level left reading fastroot =
+returns-clause-told g c names told holds level left reading fastroot =
     let tree = tree_seen names (tree_of c.args.self.now) in
     let begun = c.begin.ensures in
-    let settled = c.in_ok-settle.ensures.reads names told level left
+    let settled = c.in_ok-settle.ensures.reads names told holds level left
     (record {
       hand = begun.sound tree.specs tree.more;
       reading = subst (λ k. IsReading (image_of tree) (is_in c.args.self.now.dead) (suc level) c.begin.new.self.turns_left k left) (sym (begun.cursor tree.specs tree.more))

@@ -7,11 +7,11 @@ use Rattle.bt_walks.proofs.Walking.{met}
 use Rattle.bt_walks.proofs.levels.Levels.follow.Goals as goal
 
 pub returns-in_ok-pass-clause-told : goal.returns-in_ok-pass-clause-told
-returns-in_ok-pass-clause-told g c names told level left linked before =
+returns-in_ok-pass-clause-told g c names told holds level left linked before =
     let levels = c.args.self.now in
     let tree = tree_seen names (tree_of levels) in
     let m = met left c.args.seen.now.block (linked ∙ c.if-seen.true) in
-    let passed = c.in_ok-pass.ensures.reads names told level m.first m.rest before.settled (subst (Reads tree (is_in levels.dead) (suc level) levels.upper.turns_left levels.upper) m.is before.reads) in
+    let passed = c.in_ok-pass.ensures.reads names told holds level m.first m.rest before.settled (subst (Reads tree (is_in levels.dead) (suc level) levels.upper.turns_left levels.upper) m.is before.reads) in
     record {
       fastroot = before.fastroot;
       reads = subst (Reads tree (is_in levels.dead) (suc level) c.pass.new.self.turns_left c.pass.new.self) (sym m.left) passed.0;

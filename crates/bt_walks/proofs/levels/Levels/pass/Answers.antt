@@ -3,6 +3,7 @@ use Rattle.tree_search.specs.Levels.{is_live, lower_after}
 use Rattle.tree_rules.specs.Meeting.{is_next, unmet_after}
 use Rattle.level_walk.specs.Roles.{role_named}
 use Rattle.level_walk.proofs.Carried.{role_is}
+use Rattle.rel_files.specs.Relation.{IsAttached}
 use Rattle.bt_meta.specs.Flags.{is_half_dead}
 use Rattle.bt_meta.specs.Pages.{opaque_of}
 use Rattle.tree_image.specs.Image.{page_image}
@@ -14,9 +15,9 @@ use Rattle.bt_walks.proofs.Seeing.{seen_plain, seen_whole}
 use Rattle.bt_walks.proofs.Walking.{page_passed}
 use Rattle.bt_walks.proofs.levels.Levels.pass.Goals as goal
 
-pub follow-requires-clause-pages : goal.follow-requires-clause-pages
-follow-requires-clause-pages g c names told =
-    subst (λ t. HoldsPages names t) (sym (ap tree_of c.in_ok-keep_bound.ensures.bound)) (c.requires.pages names told)
+pub follow-requires-clause-attached : goal.follow-requires-clause-attached
+follow-requires-clause-attached g c names told =
+    subst (λ t. IsAttached names t.relation.now) (sym (ap tree_of c.in_ok-keep_bound.ensures.bound)) (c.requires.attached names told)
 
 pub mark-requires-clause-room : goal.mark-requires-clause-room
 mark-requires-clause-room g c =
@@ -24,7 +25,7 @@ mark-requires-clause-room g c =
     (let bound = subst HasRoom (sym c.in_ok-keep_bound.ensures.bound) (record { right_halves = c.requires.room.right_halves; half_dead = c.requires.room.half_dead }) in record { right_halves = bound.right_halves; half_dead = bound.half_dead })
 
 pub returns-clause-told : goal.returns-clause-told
-returns-clause-told g c names told level w of_level at k =
+returns-clause-told g c names told holds level w of_level at k =
     let s0 = c.args.self.now in
     let s1 = c.keep_bound.new.self in
     let s2 = c.follow.new.self in
@@ -32,7 +33,6 @@ returns-clause-told g c names told level w of_level at k =
     let tree = tree_seen names (tree_of s0) in
     let b = c.args.b in
     let seen = c.see-seen.result in
-    let holds = c.requires.pages names told in
     let sees = c.see-seen.ensures.seen names level w holds of_level at k in
     let same = ap tree_of c.in_ok-keep_bound.ensures.bound in
     let role = c.role-role.result in
@@ -47,7 +47,7 @@ returns-clause-told g c names told level w of_level at k =
     let follows : StandsBefore tree level s1 w.ahead → StandsBefore tree level s2 (unmet_after w.ahead b) = λ before.
     subst (λ q. StandsBefore tree level s2 (unmet_after w.ahead q)) c.see-seen.ensures.block
     (subst (λ t. StandsBefore (tree_seen names t) level s2 (unmet_after w.ahead seen.block)) same
-    (c.in_ok-follow.ensures.told names told level w.ahead sees.linked (subst (λ t. StandsBefore (tree_seen names t) level s1 w.ahead) (sym same) before))) in
+    (c.in_ok-follow.ensures.told names told (subst (λ t. HoldsPages names t) (sym same) holds) level w.ahead sees.linked (subst (λ t. StandsBefore (tree_seen names t) level s1 w.ahead) (sym same) before))) in
     let shown = sees.marks.half_dead in
     let half_dead : seen.marks.half_dead ≡ ((image_of tree).page b).half_dead = sym shown ∙ ap (λ q. ((image_of tree).page q).half_dead) c.see-seen.ensures.block in
     page_passed tree level s0 s1 s2 s3 c.args.walk.now c.pass.result w b seen of_level k c.see-seen.ensures.block sees c.in_ok-keep_bound.ensures.bound bound

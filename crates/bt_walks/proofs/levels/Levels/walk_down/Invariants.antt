@@ -4,10 +4,10 @@ use Rattle.tree_search.specs.Levels.{downlinks}
 use Rattle.tree_rules.specs.Tests.{are_roots_misplaced}
 use Rattle.bt_pages.specs.Trees.{tree_seen}
 use Rattle.bt_walks.specs.Budget.{TakesReads}
-use Rattle.bt_walks.specs.Trees.{image_of}
+use Rattle.bt_walks.specs.Trees.{HoldsPages, image_of}
 use Rattle.bt_walks.specs.Walked.{HasEnough, IsReady, IsSameIndex, StandsBefore, budget_of, tree_of}
-use Rattle.bt_walks.proofs.Descending.{AtLevel}
-use Rattle.bt_walks.proofs.levels.Levels.judge_levels.Given as goal
+use Rattle.bt_walks.specs.UnderWay.{AtLevel}
+use Rattle.bt_walks.proofs.levels.Levels.walk_down.Given as goal
 
 -- nothing was found on the levels so far
 abbrev pub invariant-loop-k : goal.invariant-loop-k
@@ -16,7 +16,7 @@ invariant-loop-k g l = record {
   same : IsSameIndex l.fn.self l.self;
   within : l.k ≤ l.meta.level;
   at : IfTold g.F.Files.seen l.fn.files (λ names. let tree = tree_seen names (tree_of l.fn.self) in
-      (image_of tree).root ≢ 0 → are_roots_misplaced (image_of tree) ≡ false
+      HoldsPages names (tree_of l.fn.self) → (image_of tree).root ≢ 0 → are_roots_misplaced (image_of tree) ≡ false
       → StandsBefore tree (image_of tree).level l.fn.self (downlinks (image_of tree) 0)
       → HasEnough tree (suc (image_of tree).level) l.fn.self
       → AtLevel tree l.self (l.meta.level - l.k) l.k);
