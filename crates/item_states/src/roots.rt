@@ -1,5 +1,5 @@
 //! The roots of the items of a page.
-ghost use Rattle.std.specs.Prelude.{◌≡◌, ℕ, ◌≤◌, List, length, OnOk};
+ghost use Rattle.std.specs.Prelude.{◌≡◌, ℕ, ◌≤◌, [], List, length, OnOk};
 ghost use Rattle.liveness.specs.declared.states.ItemState.{ItemState as State};
 ghost use Rattle.hot_chains.specs.Quiet.{HasNoChains};
 ghost use Rattle.item_states.specs.Roots.{root_item};
@@ -22,8 +22,10 @@ pub struct Roots {
 impl Roots {
     ghost use Rattle.item_states.specs.Roots.{AreRoots};
 
-    /// Of no page yet. It takes no memory.
-    pub fn new(alloc: Global) -> Roots {
+    /// Of no page yet: none of an item. It takes no memory.
+    pub fn new(alloc: Global) -> Roots
+        ensures { (block : ℕ) → AreRoots block [] result }
+    {
         Roots {
             chains: Chains::new(alloc),
             has_chains: false,
@@ -45,7 +47,8 @@ impl Roots {
         self.has_chains = false;
     }
 
-    /// Finds the roots of a page, by its block and the states of its items.
+    /// Finds the roots of a page, by its block and the states of its items. `NoMemory` comes only where the page has
+    /// chains, and their table finds no room.
     pub fn find(&mut self, block: u32, items: &[ItemState]) -> Result<(), NoMemory>
         requires { length items.now ≤ 2042 }
         ensures { OnOk result (AreRoots block items.now self.new) }

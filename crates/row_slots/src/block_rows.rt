@@ -1,6 +1,6 @@
 //! Rows of a block that are kept at once, in slots one after another.
 ghost use Rattle.std.specs.Prelude.{◌≡◌, ◌+◌, ◌-◌, ◌<◌, ◌≤◌, ◌==◌, ℕ, All, cond, drop, length};
-ghost use Rattle.std.specs.Prelude.{IfSome, None, OnOk, Some};
+ghost use Rattle.std.specs.Prelude.{IfSome, None, OnErr, OnOk, Some};
 ghost use Rattle.std.specs.Bool.{OnFalse, OnTrue};
 ghost use Rattle.stored_keys.specs.RowLists.{LiesAt, LiesFrom, NUMBERS, keys_read, number_bytes};
 ghost use Rattle.stored_keys.specs.Stored.{key_read};
@@ -81,6 +81,7 @@ pub(crate) fn keep_in(
     ensures keys { OnOk result ((k : ℕ) → key_at records.new arena.new.items k
         ≡ rows_at records.old arena.old.items slot (keys_read rows.entry.starts.now rows.entry.bytes.now)
         (length rows.entry.starts.now) k) }
+    ensures err { OnErr result (records.new ≡ records.old) }
 {
     let used = arena.len();
     if NUMBERS as usize <= used || NUMBERS as usize - used <= rows.bytes.len() {
