@@ -75,7 +75,6 @@ fn judge_others<F: Files>(
 ) -> Result<(), PageFault>
     requires attached { IfTold F.seen files.old (λ names. IsAttached names tree.old.rules.relation.now) }
     requires seen { IfTold F.seen files.old (λ names. HasSeen names tree.old) }
-    requires some { 0 < count_of tree.old.rules.relation.now }
     requires walk { IsWalkOf tree.old.rules walk.old }
     ensures lists { IfTold F.seen files.old (λ names. AddsIn report_lists result report.old report.new
         (other_lists (tree_seen names tree.old.rules))) }
@@ -108,7 +107,6 @@ fn judge_blocks<'t, F: Files>(
     ensures lists { IfTold F.seen files.old (λ names. AddsIn report_lists result report.old report.new
         (blocks_lists (tree_seen names tree.now))) }
     ensures walk { IfOk result (λ walk. IfSome walk (IsWalkOf tree.now)) }
-    ensures some { IfOk result (λ walk. IfSome walk (λ w. 0 < count_of tree.now.relation.now)) }
     ensures way { Tells F.seen files.old result (λ walk names. IfSome walk (IsOnWay names tree.now)) }
     ensures none { Tells F.seen files.old result (λ walk names. walk ≡ None
         → is_first_quiet (tree_seen names tree.now) ≡ false) }
@@ -138,7 +136,6 @@ fn judge_pages<'t, F: Files>(
     ensures lists { IfTold F.seen files.old (λ names. AddsIn report_lists result report.old report.new
         (pages_lists (tree_seen names tree.now) (long_of tree.now.relation.now))) }
     ensures walk { IfOk result (λ walk. IfSome walk (IsWalkOf tree.now)) }
-    ensures some { IfOk result (λ walk. IfSome walk (λ w. 0 < count_of tree.now.relation.now)) }
     ensures way { Tells F.seen files.old result (λ walk names. IfSome walk (IsOnWay names tree.now)) }
     ensures none { Tells F.seen files.old result (λ walk names. walk ≡ None
         → is_first_quiet (tree_seen names tree.now) ≡ false) }
@@ -174,7 +171,6 @@ fn judge_levels<F: Files>(
     walk: &mut LeafWalk<'_>,
     report: &mut Report,
 ) -> Result<Option<TreeShape>, PageFault>
-    requires some { 0 < count_of tree.now.relation.now }
     requires walk { IsWalkOf tree.now walk.old }
     requires way { IfTold F.seen files.old (λ names. IsOnWay names tree.now walk.old) }
     requires pages { IfTold F.seen files.old (λ names. HoldsPages names tree.now) }

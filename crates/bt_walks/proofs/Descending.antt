@@ -25,7 +25,7 @@ use Rattle.bt_walks.specs.Downlinks.{TreeDownlink, cursor_of}
 use Rattle.bt_walks.specs.Reading.{IsOfLevel, IsReading}
 use Rattle.bt_walks.specs.Sets.{is_in}
 use Rattle.bt_walks.specs.Trees.{image_of, order_in, same_in}
-use Rattle.bt_walks.specs.Walked.{AreLevelsJudged, ChangesDownlinks, HasCountedNone, HasEnough, IsLevelJudged, IsTreeJudged, StandsBefore}
+use Rattle.bt_walks.specs.Walked.{AreLevelsJudged, ChangesDownlinks, IsUnwalked, HasEnough, IsLevelJudged, IsTreeJudged, StandsBefore}
 use Rattle.bt_walks.specs.UnderWay.{AtLevel}
 use Rattle.bt_walks.proofs.Counting.{few_below}
 use Rattle.bt_walks.proofs.Judging.{levels_of, reads_below}
@@ -53,9 +53,9 @@ more_half_dead : (new levels here : ℕ) → new ≡ levels + here → levels �
 more_half_dead new levels here e z = omega (arith, e, z)
 
 module _ (tree : Tree) (local : HasSoundPages (order_in tree) (image_of tree)) (ne : (image_of tree).root ≢ 0) (roots : are_roots_misplaced (image_of tree) ≡ false) where
-  pub at_top : (levels : Levels) (m : ℕ) → m ≡ (image_of tree).level → StandsBefore tree (image_of tree).level levels (downlinks (image_of tree) 0) → ((b : ℕ) → is_in levels.dead b ≡ false) → ((b : ℕ) → is_in levels.stands b ≡ false) → HasEnough tree (suc (image_of tree).level) levels → HasCountedNone levels → AtLevel tree levels m 0
-  at_top levels m is stands dead standing enough none =
-      subst (λ (k : ℕ). AtLevel tree levels k 0) (sym is) (record { stands = stands; before = before_first (same_in tree) (order_in tree) (image_of tree) ne (is_in levels.dead) (is_in levels.stands) dead standing; enough = enough; right_halves = top_halves levels.right_halves (halves_down (image_of tree) (image_of tree).level 0) none.right_halves; half_dead = none.half_dead })
+  pub at_top : (levels : Levels) (m : ℕ) → m ≡ (image_of tree).level → StandsBefore tree (image_of tree).level levels (downlinks (image_of tree) 0) → IsUnwalked levels → HasEnough tree (suc (image_of tree).level) levels → AtLevel tree levels m 0
+  at_top levels m is stands none enough =
+      subst (λ (k : ℕ). AtLevel tree levels k 0) (sym is) (record { stands = stands; before = before_first (same_in tree) (order_in tree) (image_of tree) ne (is_in levels.dead) (is_in levels.stands) none.dead none.standing; enough = enough; right_halves = top_halves levels.right_halves (halves_down (image_of tree) (image_of tree).level 0) none.right_halves; half_dead = none.half_dead })
 
   pub entry_here : (levels : Levels) (m n : ℕ) → AtLevel tree levels m n → IsOfLevel (image_of tree) m (entry_page (downlinks (image_of tree) n))
   entry_here levels m n at =
@@ -146,13 +146,13 @@ some_is (Some f) e = record { finding = f; is = refl }
 
 -- THE WHOLE
 
-pub empty_tree : (tree : Tree) → HasSoundPages (order_in tree) (image_of tree) → (image_of tree).root ≡ 0 → (levels : Levels) → ((b : ℕ) → is_in levels.stands b ≡ false) → HasCountedNone levels → IsTreeJudged tree levels None
-empty_tree tree local z levels none counted = record {
+pub empty_tree : (tree : Tree) → HasSoundPages (order_in tree) (image_of tree) → (image_of tree).root ≡ 0 → (levels : Levels) → IsUnwalked levels → IsTreeJudged tree levels None
+empty_tree tree local z levels none = record {
   found = λ f e. absurd cc;
-  nothing = λ e. whole_empty (same_in tree) (order_in tree) (image_of tree) local z (is_in levels.stands) none;
+  nothing = λ e. whole_empty (same_in tree) (order_in tree) (image_of tree) local z (is_in levels.stands) none.standing;
   counted = λ e. record {
-    right_halves = counted.right_halves ∙ sym (cond-true ((image_of tree).root == 0) 0 (halves_down (image_of tree) (image_of tree).level 0) (eq-eqb (image_of tree).root 0 z));
-    half_dead = counted.half_dead ∙ sym (cond-true ((image_of tree).root == 0) 0 (half_dead_among (image_of tree) (chain_of (image_of tree) (entry_at (image_of tree) (image_of tree).level))) (eq-eqb (image_of tree).root 0 z));
+    right_halves = none.right_halves ∙ sym (cond-true ((image_of tree).root == 0) 0 (halves_down (image_of tree) (image_of tree).level 0) (eq-eqb (image_of tree).root 0 z));
+    half_dead = none.half_dead ∙ sym (cond-true ((image_of tree).root == 0) 0 (half_dead_among (image_of tree) (chain_of (image_of tree) (entry_at (image_of tree) (image_of tree).level))) (eq-eqb (image_of tree).root 0 z));
   };
 }
 

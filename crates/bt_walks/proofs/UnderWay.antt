@@ -1,14 +1,22 @@
 -- A walk that is under way, by the pages that are behind it.
-use Rattle.std.proofs.Common.{◌≡◌, ℕ, ◌+◌, List, length, subst, sym, ◌∙◌}
-use Rattle.std.specs.Prelude.{Some}
+use Rattle.std.proofs.Common.{◌≡◌, ℕ, ◌+◌, List, [], arith, inl, length, subst, sym, ◌∙◌}
+use Rattle.std.specs.Prelude.{None, Option, Some}
+use Rattle.std.proofs.lemmas.List.{nil_from_length}
+use Rattle.tree_rules.specs.Links.{Leads, to_right}
 use Rattle.bt_pages.specs.Trees.{Tree}
 use Rattle.bt_walks.specs.declared.course.Course.{Course}
+use Rattle.bt_walks.specs.declared.course.InHand.{InHand}
 use Rattle.bt_walks.specs.declared.levels.Levels.{Levels}
 use Rattle.bt_walks.specs.Downlinks.{TreeDownlink}
-use Rattle.bt_walks.specs.UnderWay.{HasPassedAll, IsOnLevel, IsSameCourse, IsUnderWay}
+use Rattle.bt_walks.specs.UnderWay.{HasPassedAll, IsOnLevel, IsPast, IsSameCourse, IsUnderWay, pages_from}
 use Rattle.bt_walks.specs.Trees.{image_of}
 use Rattle.bt_walks.specs.Walked.{HasWalked, IsFirstPage, lefts_of}
-use Rattle.bt_walks.proofs.Walking.{Going}
+use Rattle.bt_walks.proofs.Walking.{Going, going_end}
+
+-- where there is no page any more, it has passed all that was asked
+pub past_all : (hand : Option InHand) (next : ℕ) → next ≡ 0 → IsPast hand next
+past_all (Some hand) next z = inl z
+past_all None next z = z
 
 module _ (tree : Tree) (level : ℕ) (ds : List TreeDownlink) (old levels : Levels) where
   abbrev pub going : (course : Course) → (w : IsUnderWay tree level ds old levels course) → Going tree level ds course.first old levels course.carried w.made course.next
@@ -39,6 +47,17 @@ module _ (tree : Tree) (level : ℕ) (ds : List TreeDownlink) (old levels : Leve
     enough = g.enough;
   }
 
+  -- where no page may be walked over any more, there is none
+  pub ended : (course : Course) → levels.walks_left ≡ 0 → IsUnderWay tree level ds old levels course → course.next ≡ 0
+  ended course none w =
+      let enough = w.enough in
+      let empty : pages_from tree w.made course.next ≡ [] = nil_from_length (pages_from tree w.made course.next) (omega (arith, enough, none)) in
+      subst (Leads (to_right (image_of tree)) course.next) empty w.leads
+
+  -- and so where there is none, it has walked along all of the level
+  pub walked_all : (course : Course) → course.next ≡ 0 → IsUnderWay tree level ds old levels course → HasWalked tree level ds course.first old levels course.carried
+  walked_all course z w = going_end tree level ds course.first old levels course.carried w.made course.next z (going course w)
+
   -- how many steps to the left were left plays no part in it
   pub whatever_steps : (course : Course) (steps : ℕ) → IsUnderWay tree level ds (record old { steps_left = steps }) levels course → IsUnderWay tree level ds old levels course
   whatever_steps course steps w = record {
@@ -68,10 +87,5 @@ module _ (tree : Tree) (level : ℕ) (ds : List TreeDownlink) (old levels : Leve
     pub still_on : IsUnderWay tree level ds old new end → IsOnLevel tree level ds old new end
     still_on way = record { entered = same.entered ∙ on.entered; first = first_still; steps = steps_still; way = way }
 
-    pub passed_all : HasWalked tree level ds course.first old new end.carried → HasPassedAll tree level ds old new end
-    passed_all walked = record {
-      entered = same.entered ∙ on.entered;
-      first = first_still;
-      steps = steps_still;
-      walked = subst (λ (b : ℕ). HasWalked tree level ds b old new end.carried) (sym same.first) walked;
-    }
+    pub passed_all : HasWalked tree level ds end.first old new end.carried → HasPassedAll tree level ds old new end
+    passed_all walked = record { entered = same.entered ∙ on.entered; first = first_still; steps = steps_still; walked = walked }

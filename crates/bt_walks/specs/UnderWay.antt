@@ -1,5 +1,5 @@
 -- A walk along a level that is under way.
-use Rattle.std.specs.Prelude.{⊤, ◌≡◌, ◌≢◌, ◌+◌, ◌-◌, ◌≤◌, ℕ, suc, false, List, None, Option, Some, fold, length}
+use Rattle.std.specs.Prelude.{⊤, ◌⊎◌, ◌≡◌, ◌≢◌, ◌+◌, ◌-◌, ◌<◌, ◌≤◌, ℕ, suc, false, List, None, Option, Some, fold, length}
 use Rattle.std.specs.List.{AllByRecursion}
 use Rattle.tree_search.specs.Levels.{downlinks, entry_page}
 use Rattle.tree_search.specs.Probe.{halves_down, right_halves}
@@ -35,6 +35,11 @@ use Rattle.bt_walks.specs.Walked.{StandsBefore, TreeWalk, budget_of, chain_from,
 abbrev pub IsHeld : Tree → Option InHand → Type 0
 IsHeld tree (Some hand) = hand.page.now ≡ tree.block hand.block
 IsHeld tree None = ⊤
+
+-- it comes to this page no more: there is none, or with a page in hand it stands in the file behind that one
+abbrev pub IsPast : Option InHand → (next : ℕ) → Type 0
+IsPast (Some hand) next = (next ≡ 0) ⊎ (hand.block < next)
+IsPast None next = next ≡ 0
 
 -- it goes along the same level
 pub record IsSameCourse (old new : Course) : Type 0 where
@@ -114,6 +119,11 @@ pub record AreLeavesEntered (tree : Tree) (levels : Levels) (course : Course) : 
 abbrev pub IsAtStage : Tree → Levels → Stage → Type 0
 IsAtStage tree levels (Over finding) = IsTreeJudged tree levels finding
 IsAtStage tree levels (Leaves course) = AreLeavesEntered tree levels course
+
+-- it is over, or past the page in hand
+abbrev pub HasPassedHand : InHand → Stage → Type 0
+HasPassedHand hand (Over finding) = ⊤
+HasPassedHand hand (Leaves course) = IsPast (Some hand) course.next
 
 pub record IsOnItsWay (tree : Tree) (walk : LeafWalk) : Type 0 where
   pub meta : walk.meta ≡ meta_of (tree.block 0)

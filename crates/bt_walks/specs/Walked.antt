@@ -210,8 +210,10 @@ pub record IsLevelJudged (tree : Tree) (level : ℕ) (ds : List TreeDownlink) (o
   pub found : judged.finding ≡ level_finding (same_in tree) (order_in tree) (image_of tree) level ds
   pub passed : judged.finding ≡ None → IsLevelPassed tree level ds old new judged.first
 
--- no page was counted yet
-pub record HasCountedNone (levels : Levels) : Type 0 where
+-- no page was walked along yet
+pub record IsUnwalked (levels : Levels) : Type 0 where
+  pub dead : (b : ℕ) → dead_of levels b ≡ false
+  pub standing : (b : ℕ) → standing_of levels b ≡ false
   pub right_halves : levels.right_halves ≡ 0
   pub half_dead : levels.half_dead ≡ 0
 

@@ -13,9 +13,8 @@ ghost use Rattle.bt_walks.specs.Sets.{is_in};
 ghost use Rattle.bt_walks.specs.Trees.{HoldsPages, image_of};
 ghost use Rattle.bt_walks.specs.Downlinks.{TreeDownlink, turns_of};
 ghost use Rattle.bt_walks.specs.Reading.{IsReading};
-ghost use Rattle.bt_walks.specs.Walked.{ChangesDownlinks, HasCountedNone, HasEnough};
-ghost use Rattle.bt_walks.specs.Walked.{IsReady};
-ghost use Rattle.bt_walks.specs.Walked.{StandsBefore, budget_of, dead_of, fastroot_of, standing_of, tree_of, upper_of};
+ghost use Rattle.bt_walks.specs.Walked.{ChangesDownlinks, HasEnough, IsReady, IsUnwalked, StandsBefore};
+ghost use Rattle.bt_walks.specs.Walked.{budget_of, dead_of, fastroot_of, tree_of, upper_of};
 
 use crate::block_set::BlockSet;
 use crate::downlinks::Downlinks;
@@ -136,9 +135,7 @@ impl<'t> Levels<'t> {
         ensures enough { IfOk result (λ levels. (names : Names) (level : ℕ)
             → HasEnough (tree_seen names tree.entry) level levels) }
         ensures budget { IfOk result (λ levels. budget_of levels ≡ 4 * count_of tree.entry.relation.now) }
-        ensures dead { IfOk result (λ levels. (b : ℕ) → dead_of levels b ≡ false) }
-        ensures standing { IfOk result (λ levels. (b : ℕ) → standing_of levels b ≡ false) }
-        ensures counts { IfOk result HasCountedNone }
+        ensures unwalked { IfOk result IsUnwalked }
     {
         let blocks = tree.relation.blocks();
         let dead = BlockSet::new(alloc, blocks)?;

@@ -1,6 +1,6 @@
 //! The walk along one level of an index, from its first page to its last, while the downlinks to it are
 //! read along the level above.
-ghost use Rattle.std.specs.Prelude.{◌≡◌, ◌≢◌, ◌<◌, ◌+◌, ℕ, List, IfOk, IfSome, Option};
+ghost use Rattle.std.specs.Prelude.{◌≡◌, ◌≢◌, ◌<◌, ◌+◌, ◌↔◌, ℕ, List, IfOk, IfSome, Option, true};
 ghost use Rattle.std.specs.Option.{IsSomeAnd};
 ghost use Rattle.outside.specs.Outside.{Asked, IfTold, Tells};
 ghost use Rattle.rel_files.specs.Relation.{IsAttached};
@@ -8,8 +8,8 @@ ghost use Rattle.bt_pages.specs.Trees.{tree_seen};
 ghost use Rattle.bt_walks.specs.Budget.{TakesReads};
 ghost use Rattle.bt_walks.specs.Downlinks.{TreeDownlink};
 ghost use Rattle.bt_walks.specs.Trees.{HoldsPages};
-ghost use Rattle.bt_walks.specs.UnderWay.{IsHeld, IsSameCourse, IsUnderWay};
-ghost use Rattle.bt_walks.specs.Walked.{HasWalked, IsReady, IsSameIndex, budget_of, steps_of, tree_of, walks_of};
+ghost use Rattle.bt_walks.specs.UnderWay.{IsHeld, IsPast, IsSameCourse, IsUnderWay};
+ghost use Rattle.bt_walks.specs.Walked.{IsReady, IsSameIndex, budget_of, steps_of, tree_of, walks_of};
 
 use crate::levels::Levels;
 use bt_meta::opaque;
@@ -36,6 +36,17 @@ pub struct Course {
 pub struct InHand<'p> {
     pub block: u32,
     pub page: &'p [u8; 8192],
+}
+
+// Whether a walk comes to this page no more: there is none, or with a page in hand it stands in the file behind that
+// one.
+fn is_past(hand: Option<InHand<'_>>, next: u32) -> bool
+    ensures { (result ≡ true) ↔ IsPast hand.entry next }
+{
+    match hand {
+        Some(hand) => next == 0 || hand.block < next,
+        None => next == 0,
+    }
 }
 
 impl<'t> Levels<'t> {
@@ -75,68 +86,35 @@ impl<'t> Levels<'t> {
         }))
     }
 
-    /// Goes on along a level to its end, as long as pages may be walked over.
+    /// Goes on along a level, as long as pages may be walked over: up to the page in hand, or to the first that stands
+    /// behind it in the file, so that those before it are read; with no page in hand, to its end.
     pub(crate) fn walk<F: Files>(
         &mut self,
         alloc: Global,
         files: &mut F,
         course: Course,
+        hand: Option<InHand<'_>>,
     ) -> Result<Course, PageFault>
         requires ready { IsReady self.old }
         requires attached { IfTold F.seen files.old (λ names. IsAttached names (tree_of self.old).relation.now) }
-        ensures ready { IsReady self.new }
-        ensures same { IsSameIndex self.old self.new }
-        ensures course { IfOk result (IsSameCourse course) }
-        ensures told { Tells F.seen files.old result (λ end names. HoldsPages names (tree_of self.old)
-            → (level : ℕ) (ds : List TreeDownlink) (old : Levels)
-            → IsUnderWay (tree_seen names (tree_of self.old)) level ds old self.old course
-            → HasWalked (tree_seen names (tree_of self.old)) level ds course.first old self.new end.carried) }
-        ensures steps { steps_of self.new ≡ steps_of self.old }
-        ensures taken { TakesReads F.seen files.old files.new 0 (budget_of self.old) (budget_of self.new) }
-        ensures asked { Asked F.seen files.old files.new result PageFault.ReadFault }
-    {
-        let mut course = course;
-        while self.walks_left > 0 {
-            if course.next == 0 {
-                return Ok(course);
-            }
-            match self.step(alloc, files, &course, None)? {
-                Some(next) => course = next,
-                None => return Ok(course),
-            }
-        }
-        Ok(course)
-    }
-
-    /// Goes on along a level up to the page in hand, or to the first that stands behind it in the file: those before it
-    /// are read.
-    pub(crate) fn walk_to<F: Files>(
-        &mut self,
-        alloc: Global,
-        files: &mut F,
-        course: Course,
-        hand: InHand<'_>,
-    ) -> Result<Course, PageFault>
-        requires ready { IsReady self.old }
-        requires attached { IfTold F.seen files.old (λ names. IsAttached names (tree_of self.old).relation.now) }
-        requires hand { IfTold F.seen files.old (λ names. IsHeld (tree_seen names (tree_of self.old)) (Some hand)) }
+        requires hand { IfTold F.seen files.old (λ names. IsHeld (tree_seen names (tree_of self.old)) hand) }
         ensures ready { IsReady self.new }
         ensures same { IsSameIndex self.old self.new }
         ensures course { IfOk result (IsSameCourse course) }
         ensures told { Tells F.seen files.old result (λ now names. HoldsPages names (tree_of self.old)
             → (level : ℕ) (ds : List TreeDownlink) (old : Levels)
             → IsUnderWay (tree_seen names (tree_of self.old)) level ds old self.old course
-            → IsUnderWay (tree_seen names (tree_of self.old)) level ds old self.new now) }
+            → IsUnderWay (tree_seen names (tree_of self.old)) level ds old self.new now × IsPast hand.entry now.next) }
         ensures steps { steps_of self.new ≡ steps_of self.old }
         ensures taken { TakesReads F.seen files.old files.new 0 (budget_of self.old) (budget_of self.new) }
         ensures asked { Asked F.seen files.old files.new result PageFault.ReadFault }
     {
         let mut course = course;
         while self.walks_left > 0 {
-            if course.next == 0 || hand.block < course.next {
+            if is_past(hand, course.next) {
                 return Ok(course);
             }
-            match self.step(alloc, files, &course, Some(hand))? {
+            match self.step(alloc, files, &course, hand)? {
                 Some(next) => course = next,
                 None => return Ok(course),
             }

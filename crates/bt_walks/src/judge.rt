@@ -124,7 +124,7 @@ impl<'t> Levels<'t> {
         match self.enter(files)? {
             Entered::Ended(judged) => Ok(judged),
             Entered::Before(course) => {
-                let course = self.walk(alloc, files, course)?;
+                let course = self.walk(alloc, files, course, None)?;
                 Ok(self.verdict(&course, is_fast))
             }
         }

@@ -1,5 +1,5 @@
 //! The rules L1 to L9 of an index, with a walk along its leaves that goes on while its pages come into hand.
-ghost use Rattle.std.specs.Prelude.{◌≡◌, ◌≢◌, ◌<◌, ◌+◌, ◌*◌, ℕ, false, suc, IfOk, OnOk};
+ghost use Rattle.std.specs.Prelude.{◌≡◌, ◌≢◌, ◌<◌, ◌+◌, ◌*◌, false, suc, ℕ, IfOk, OnOk};
 ghost use Rattle.outside.specs.Outside.{Asked, AskedAtMost, IfTold, Tells};
 ghost use Rattle.rel_files.specs.Relation.{IsAttached, count_of};
 ghost use Rattle.tree_search.specs.Levels.{downlinks};
@@ -9,9 +9,9 @@ ghost use Rattle.bt_pages.specs.Trees.{tree_seen};
 ghost use Rattle.bt_walks.specs.Budget.{TakesReads};
 ghost use Rattle.bt_walks.specs.Shape.{IsShapeOf};
 ghost use Rattle.bt_walks.specs.Trees.{HoldsPages, first_broken_in, image_of};
-ghost use Rattle.bt_walks.specs.UnderWay.{AtLevel, IsAtStage};
-ghost use Rattle.bt_walks.specs.Walked.{HasCountedNone, HasEnough, IsReady, IsSameIndex, IsTreeJudged};
-ghost use Rattle.bt_walks.specs.Walked.{StandsBefore, budget_of, dead_of, standing_of, tree_of};
+ghost use Rattle.bt_walks.specs.UnderWay.{AtLevel, HasPassedHand, IsAtStage};
+ghost use Rattle.bt_walks.specs.Walked.{HasEnough, IsReady, IsSameIndex, IsTreeJudged, IsUnwalked};
+ghost use Rattle.bt_walks.specs.Walked.{StandsBefore, budget_of, tree_of};
 
 use crate::check::{are_roots_misplaced, first_unreached, read_meta};
 use crate::course::{Course, InHand};
@@ -76,9 +76,7 @@ impl<'t> Levels<'t> {
         requires attached { IfTold F.seen files.old (λ names. IsAttached names (tree_of self.old).relation.now) }
         requires meta { IfTold F.seen files.old (λ names.
             meta.now ≡ meta_of ((tree_seen names (tree_of self.old)).block 0)) }
-        requires dead { (b : ℕ) → dead_of self.old b ≡ false }
-        requires standing { (b : ℕ) → standing_of self.old b ≡ false }
-        requires counts { HasCountedNone self.old }
+        requires unwalked { IsUnwalked self.old }
         ensures ready { IsReady self.new }
         ensures same { IsSameIndex self.old self.new }
         ensures told { Tells F.seen files.old result (λ stage names. let tree = tree_seen names (tree_of self.old) in
@@ -118,9 +116,7 @@ impl<'t> Levels<'t> {
         requires attached { IfTold F.seen files.old (λ names. IsAttached names (tree_of self.old).relation.now) }
         requires meta { IfTold F.seen files.old (λ names.
             meta.now ≡ meta_of ((tree_seen names (tree_of self.old)).block 0)) }
-        requires dead { (b : ℕ) → dead_of self.old b ≡ false }
-        requires standing { (b : ℕ) → standing_of self.old b ≡ false }
-        requires counts { HasCountedNone self.old }
+        requires unwalked { IsUnwalked self.old }
         requires top { IfTold F.seen files.old (λ names. let tree = tree_seen names (tree_of self.old) in
             StandsBefore tree (image_of tree).level self.old (downlinks (image_of tree) 0)) }
         requires enough { IfTold F.seen files.old (λ names. let tree = tree_seen names (tree_of self.old) in
@@ -192,13 +188,15 @@ impl<'t> LeafWalk<'t> {
         ensures told { OnOk result (IfTold F.seen files.old (λ names. HoldsPages names (index_of self.old)
             → IsOnItsWay (tree_seen names (index_of self.old)) self.old
             → IsOnItsWay (tree_seen names (index_of self.old)) self.new)) }
+        ensures past { OnOk result (IfTold F.seen files.old (λ names. HoldsPages names (index_of self.old)
+            → IsOnItsWay (tree_seen names (index_of self.old)) self.old → HasPassedHand hand.entry self.new.stage)) }
         ensures taken { TakesReads F.seen files.old files.new 0 (budget_left self.old) (budget_left self.new) }
         ensures asked { Asked F.seen files.old files.new result PageFault.ReadFault }
     {
         match self.stage {
             Stage::Over(_) => {}
             Stage::Leaves(course) => {
-                let course = self.levels.walk_to(alloc, files, course, hand)?;
+                let course = self.levels.walk(alloc, files, course, Some(hand))?;
                 self.stage = Stage::Leaves(course);
             }
         }
@@ -226,7 +224,7 @@ impl<'t> LeafWalk<'t> {
         match self.stage {
             Stage::Over(finding) => Ok(finding),
             Stage::Leaves(course) => {
-                let course = self.levels.walk(alloc, files, course)?;
+                let course = self.levels.walk(alloc, files, course, None)?;
                 let judged = self.levels.verdict(&course, 0 == self.meta.fastlevel);
                 Ok(judged.finding)
             }

@@ -37,7 +37,7 @@ loop-k-preserved g c = record {
     rules = c.in_ok-judge_next.ensures.tree.rules ∙ c.loop-k.invariant.tree.rules;
     kept = λ names told. c.in_ok-judge_next.ensures.tree.kept names (c.in_ok-follow.ensures.asked.same ∙ c.loop-k.invariant.asked.same ∙ told);
   };
-  walk = record { ready = c.in_ok-follow.ensures.ready; index = c.in_ok-follow.ensures.index ∙ c.loop-k.invariant.walk.index };
+  walk = record { ready = c.in_ok-follow.ensures.ready; index = c.in_ok-follow.ensures.index ∙ c.loop-k.invariant.walk.index; some = c.requires.walk.some };
   way = λ names told before holds.
       let i = c.loop-k.invariant in
       let f = c.in_ok-follow.ensures in

@@ -21,6 +21,13 @@ returns-in_ok-course-in-Leaves-clause-told g c names told holds way =
         rooted = s.rooted;
         roots = s.roots;
         at = s.at;
-        on = still_on tree 0 ds s.old walk.levels c.walk_to.new.self c.in-Leaves.course c.in_ok-course-in-Leaves.course s.on w.course w.steps (w.told names told holds 0 ds s.old s.on.way);
+        on = still_on tree 0 ds s.old walk.levels c.walk.new.self c.in-Leaves.course c.in_ok-course-in-Leaves.course s.on w.course w.steps (w.told names told holds 0 ds s.old s.on.way).0;
       };
     }
+
+pub returns-in_ok-course-in-Leaves-clause-past : goal.returns-in_ok-course-in-Leaves-clause-past
+returns-in_ok-course-in-Leaves-clause-past g c names told holds way =
+    let walk = c.args.self.now in
+    let tree = tree_seen names (index_of walk) in
+    let s = subst (IsAtStage tree walk.levels) c.in-Leaves.is way.stage in
+    (c.in_ok-course-in-Leaves.ensures.told names told holds 0 (downlinks (image_of tree) s.depth) s.old s.on.way).1

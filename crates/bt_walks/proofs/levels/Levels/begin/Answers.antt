@@ -9,7 +9,7 @@ pub returns-then-meta-eq0-clause-told : goal.returns-then-meta-eq0-clause-told
 returns-then-meta-eq0-clause-told g c names told holds =
     let tree = tree_seen names (tree_of c.args.self.now) in
     let local = c.kept_rules_make_a_sound_image.ensures tree.specs tree.more tree.blocks tree.block holds.pages in
-    empty_tree tree local (sym (ap (λ m. m.root) (c.requires.meta names told)) ∙ c.if-meta-eq0.true) c.args.self.now c.requires.standing c.requires.counts
+    empty_tree tree local (sym (ap (λ m. m.root) (c.requires.meta names told)) ∙ c.if-meta-eq0.true) c.args.self.now c.requires.unwalked
 
 pub returns-then-branch-clause-told : goal.returns-then-branch-clause-told
 returns-then-branch-clause-told g c names told holds =

@@ -2,8 +2,8 @@ use Rattle.std.proofs.Common.{sym, subst, ◌∙◌}
 use Rattle.bt_pages.specs.Trees.{tree_seen}
 use Rattle.bt_walks.specs.Trees.{HoldsPages}
 use Rattle.bt_walks.specs.UnderWay.{IsEntered, IsUnderWay}
-use Rattle.bt_walks.specs.Walked.{HasWalked, tree_of}
-use Rattle.bt_walks.proofs.UnderWay.{passed_all}
+use Rattle.bt_walks.specs.Walked.{tree_of}
+use Rattle.bt_walks.proofs.UnderWay.{passed_all, walked_all}
 use Rattle.bt_walks.proofs.levels.Levels.judge.Goals as goal
 
 pub returns-in-Ended-clause-told : goal.returns-in-Ended-clause-told
@@ -19,8 +19,9 @@ returns-in_ok-course-in-Before-clause-told g c names told holds level ds before 
     let e = c.in_ok-judged.ensures in
     let on = subst (IsEntered tree level ds levels c.enter.new.self) c.in-Before.is (e.told names told holds level ds before here enough) in
     let w = c.in_ok-course-in-Before.ensures in
-    let walked = w.told names (e.asked.same ∙ told) (subst (λ t. HoldsPages names t) (sym e.same.tree) holds) level ds levels
+    let way = w.told names (e.asked.same ∙ told) (subst (λ t. HoldsPages names t) (sym e.same.tree) holds) level ds levels
     (subst (λ t. IsUnderWay (tree_seen names t) level ds levels c.enter.new.self c.in-Before.course) (sym e.same.tree) on.way) in
     c.verdict.ensures tree level ds levels holds.pages here enough fast
     (passed_all tree level ds levels c.enter.new.self c.walk.new.self c.in-Before.course c.in_ok-course-in-Before.course on w.course w.steps
-    (subst (λ t. HasWalked (tree_seen names t) level ds c.in-Before.course.first levels c.walk.new.self c.in_ok-course-in-Before.course.carried) e.same.tree walked))
+    (walked_all tree level ds levels c.walk.new.self c.in_ok-course-in-Before.course way.1
+    (subst (λ t. IsUnderWay (tree_seen names t) level ds levels c.walk.new.self c.in_ok-course-in-Before.course) e.same.tree way.0)))

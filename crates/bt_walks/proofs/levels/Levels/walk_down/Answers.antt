@@ -22,7 +22,7 @@ loop-k-init g c = record {
       let tree = tree_seen names (tree_of c.args.self.now) in
       let local = c.kept_rules_make_a_sound_image.ensures tree.specs tree.more tree.blocks tree.block holds.pages in
       let is = ap (λ m. m.level) (c.requires.meta names told) in
-      at_top tree local ne roots c.args.self.now (c.args.meta.now.level - 0) (let e : c.args.meta.now.level - 0 ≡ c.args.meta.now.level = omega arith in e ∙ is) before c.requires.dead c.requires.standing enough c.requires.counts;
+      at_top tree local ne roots c.args.self.now (c.args.meta.now.level - 0) (let e : c.args.meta.now.level - 0 ≡ c.args.meta.now.level = omega arith in e ∙ is) before c.requires.unwalked enough;
   taken = omega arith;
   asked = Passed-none;
 }
