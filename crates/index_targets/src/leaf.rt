@@ -22,7 +22,7 @@ use bt_steps::is_live_leaf;
 use bt_tuples::{Spot3, TidList, TreeItem, plain_entry, tree_item};
 use key_attrs::IndexColumns;
 use key_orders::Tid;
-use leaf_meets::{RowsAhead, are_far, glanced_tid, meet_any_item, meet_entry};
+use leaf_meets::{RowsAhead, are_far, glanced_tid, meet_entry, meet_read_item};
 use outside::NoMemory;
 use page_layout::{PageKind, PageView, Rule};
 use reports::{Place, Report};
@@ -196,34 +196,40 @@ impl Named<'_> {
             return self.judge_tid(at, entry.tid, &mut seen.span, report);
         }
         seen.rise = Rise::Untold;
-        meet_any_item(slots, &self.columns, page, at.item);
-        self.judge_any_item(page, at, &mut seen.span, report)
+        self.judge_any_item(page, at, &mut seen.span, slots, report)
     }
 
-    // Judges a data item of any form. It stays a call: in line, the places of a key's values would be set to zero for
-    // each item, and nearly all items are one entry.
+    // Judges a data item of any form, which is read once, and has its entries meet their rows. It stays a call: in
+    // line, the places of a key's values would be set to zero for each item, and nearly all items are one entry.
     #[inline(never)]
     fn judge_any_item(
         self,
         page: PageView<'_>,
         at: ItemAt,
         span: &mut Span,
+        slots: &mut RowSlots,
         report: &mut Report,
     ) -> Result<(), NoMemory>
         requires page { page_rule_of PageKind.Tree (page_bytes page) ≡ None }
         requires first { 1 ≤ at.item }
         requires from { first_data (page_bytes page) ≤ at.item }
         requires last { at.item ≤ count_of (page_bytes page) }
-        ensures { IsRead (tree_columns self.entry.columns) (page_bytes page.entry) at.item
+        ensures met { IsRead (tree_columns self.entry.columns) (page_bytes page.entry) at.item
+            → HaveMet (entries_at (tree_columns self.entry.columns) (page_bytes page.entry) at.item)
+            slots.old slots.new }
+        ensures lists { IsRead (tree_columns self.entry.columns) (page_bytes page.entry) at.item
             → AddsIn report_lists result report.old report.new
             (item_lists self.entry.number (tree_columns self.entry.columns)
             (is_in self.entry.targets.now) at.block (page_bytes page.entry) at.item) }
     {
-        match tree_item(page, at.item, &self.columns, Spot3::LeafItem) {
-            Ok(TreeItem::Plain { tid, .. }) => self.judge_tid(at, tid, span, report),
-            Ok(TreeItem::Posting { tids, .. }) => self.judge_list(at, &tids, span, report),
-            Ok(TreeItem::Pivot { .. }) => Ok(()),
-            Err(_) => Ok(()),
+        let Ok(item) = tree_item(page, at.item, &self.columns, Spot3::LeafItem) else {
+            return Ok(());
+        };
+        meet_read_item(slots, &item);
+        match item {
+            TreeItem::Plain { tid, .. } => self.judge_tid(at, tid, span, report),
+            TreeItem::Posting { tids, .. } => self.judge_list(at, &tids, span, report),
+            TreeItem::Pivot { .. } => Ok(()),
         }
     }
 

@@ -21,11 +21,16 @@ use Rattle.bt_steps.specs.Entries.{IsRead}
 use Rattle.bt_steps.proofs.Items.{item-is}
 use Rattle.bt_steps.proofs.Separators.{told-values}
 use Rattle.row_slots.specs.Told.{TellsKey}
-use Rattle.leaf_meets.specs.Meeting.{entries_at}
+use Rattle.row_slots.specs.Slots.{Tables}
+use Rattle.leaf_meets.specs.Meeting.{HaveMet, entries_at}
+use Rattle.leaf_meets.proofs.Meets.{same}
 
 pub entries-are : (columns : TreeColumns) (page : List ℕ) (i : ℕ) (item : Item) → ◌≡◌ {A = ItemOutcome} (Ok item) (item_outcome columns.specs columns.more LeafItem page i) → entries_at columns page i ≡ entries_in item
 unfolding entries_at
 entries-are columns page i item is = ap entries_in (sym (item-is columns page i item is))
+
+pub read-item-met : (columns : TreeColumns) (page : List ℕ) (i : ℕ) (item : Item) (old new : Tables) → ◌≡◌ {A = ItemOutcome} (Ok item) (item_outcome columns.specs columns.more LeafItem page i) → HaveMet (entries_in item) old new → HaveMet (entries_at columns page i) old new
+read-item-met columns page i item old new is met = same (entries_in item) (entries_at columns page i) old new (sym (entries-are columns page i item is)) met
 
 -- its values are what its body tells, and it is the one entry
 pub record HasPlainKey (columns : TreeColumns) (page : List ℕ) (i : ℕ) (tid : Tid) (body : List ℕ) (killed : Bool) : Type 0 where

@@ -7,5 +7,5 @@ mod near;
 mod numbers;
 
 pub use ahead::{RowsAhead, are_far};
-pub use meet::{meet_any_item, meet_entry, meet_page};
+pub use meet::{meet_entry, meet_page, meet_read_item};
 pub use near::{HeapRange, Near, glanced_tid, meet_near};

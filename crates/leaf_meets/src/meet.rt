@@ -9,6 +9,7 @@ ghost use Rattle.key_attrs.specs.Keyed.{key_values};
 ghost use Rattle.tree_image.specs.Image.{entries_in, first_data, page_entries};
 ghost use Rattle.bt_tuples.specs.Items.{Posting, is_dead};
 ghost use Rattle.bt_tuples.specs.Plain.{LiesPlain};
+ghost use Rattle.bt_tuples.specs.Shown.{item_shown};
 ghost use Rattle.bt_steps.specs.Entries.{IsRead};
 ghost use Rattle.bt_steps.specs.Pages.{IsReadable, is_live_leaf};
 ghost use Rattle.row_slots.specs.Met.{keyed, met_by};
@@ -16,7 +17,7 @@ ghost use Rattle.row_slots.specs.Slots.{SameRange, keys_in, met_in};
 ghost use Rattle.leaf_meets.specs.Meeting.{HaveMet, entries_at, leaf_entries};
 
 use crate::ahead::RowsAhead;
-use crate::numbers::meet_number;
+use crate::numbers::{lone_number, meet_number};
 use bt_steps::is_live_leaf;
 use bt_tuples::{PlainEntry, Spot3, TidList, TreeItem, plain_entry, tree_item};
 use key_attrs::{IndexColumns, read_entry_attributes, read_key_attributes};
@@ -39,40 +40,46 @@ fn meet_list(slots: &mut RowSlots, key: &KeyRefs<'_>, tids: &TidList<'_>)
     }
 }
 
-/// Meets the rows that a data item of a leaf names, of whatever form it is. It stays a call: in line, the places of a
-/// key's values would be set to zero for each item, and nearly all items are one entry ([`meet_entry`]).
+/// Meets the rows that an item of a leaf names; none where its entries are killed, and none that a pivot names.
+pub fn meet_read_item(slots: &mut RowSlots, item: &TreeItem<'_>)
+    ensures { HaveMet (entries_in (item_shown item.now)) slots.old slots.new }
+{
+    match item {
+        TreeItem::Plain {
+            key,
+            more,
+            tid,
+            killed,
+        } => {
+            if !*killed {
+                let values = RowValues {
+                    key: key.as_slice(),
+                    more: more.as_slice(),
+                };
+                slots.meet(*tid, values);
+            }
+        }
+        TreeItem::Posting { key, tids, killed } => {
+            if !*killed {
+                meet_list(slots, key, tids);
+            }
+        }
+        TreeItem::Pivot { .. } => {}
+    }
+}
+
+// Meets the rows that a data item of a leaf names, of whatever form it is. It stays a call: in line, the places of a
+// key's values would be set to zero for each item, and nearly all items are one entry ([`meet_entry`]).
 #[inline(never)]
-pub fn meet_any_item(slots: &mut RowSlots, columns: &IndexColumns<'_>, page: PageView<'_>, i: u16)
+fn meet_any_item(slots: &mut RowSlots, columns: &IndexColumns<'_>, page: PageView<'_>, i: u16)
     requires page { page_rule_of PageKind.Tree (page_bytes page) ≡ None }
     requires first { 1 ≤ i }
     requires last { i ≤ count_of (page_bytes page) }
     ensures { IsRead (tree_columns columns.now) (page_bytes page.entry) i
         → HaveMet (entries_at (tree_columns columns.now) (page_bytes page.entry) i) slots.old slots.new }
 {
-    match tree_item(page, i, columns, Spot3::LeafItem) {
-        Ok(
-            TreeItem::Plain {
-                key,
-                more,
-                tid,
-                killed,
-            },
-        ) => {
-            if !killed {
-                let values = RowValues {
-                    key: key.as_slice(),
-                    more: more.as_slice(),
-                };
-                slots.meet(tid, values);
-            }
-        }
-        Ok(TreeItem::Posting { key, tids, killed }) => {
-            if !killed {
-                meet_list(slots, &key, &tids);
-            }
-        }
-        Ok(TreeItem::Pivot { .. }) => {}
-        Err(_) => {}
+    if let Ok(item) = tree_item(page, i, columns, Spot3::LeafItem) {
+        meet_read_item(slots, &item);
     }
 }
 
@@ -121,8 +128,8 @@ pub fn meet_entry(slots: &mut RowSlots, columns: &IndexColumns<'_>, entry: Plain
     if !slots.covers(entry.tid.block) {
         return false;
     }
-    if meet_number(slots, columns, entry) {
-        return true;
+    if let Some(number) = lone_number(columns, entry.body) {
+        return meet_number(slots, entry.tid, number);
     }
     if !slots.meet_plain(entry.tid, columns, entry.body) {
         meet_body(slots, columns, entry.tid, entry.body);

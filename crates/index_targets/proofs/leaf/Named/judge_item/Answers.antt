@@ -62,7 +62,7 @@ returns-in-Some-clause-rise c = c.add.ensures (page_bytes c.args.page) c.args.at
 
 -- it is of another form
 pub returns-clause-met : goal.returns-clause-met
-returns-clause-met c from read = c.meet_any_item.ensures read
+returns-clause-met c from read = c.judge_any_item.ensures.met read
 
 pub returns-clause-lists : goal.returns-clause-lists
-returns-clause-lists c targets read = c.judge_any_item.ensures (read (omega (arith, c.if-at-first_data.false, c.first_data.ensures)))
+returns-clause-lists c targets read = c.judge_any_item.ensures.lists (read (omega (arith, c.if-at-first_data.false, c.first_data.ensures)))
