@@ -21,7 +21,8 @@ use Rattle.bt_walks.specs.declared.downlinks.Downlinks.{Downlinks}
 use Rattle.bt_walks.specs.declared.judge.Judged.{Judged}
 use Rattle.bt_walks.specs.declared.levels.Levels.{Levels}
 use Rattle.bt_walks.specs.Counts.{half_dead_among}
-use Rattle.bt_walks.specs.Downlinks.{TreeDownlink, cursor_of}
+use Rattle.level_pages.specs.Pages.{TreeDownlink}
+use Rattle.bt_walks.specs.Downlinks.{cursor_of}
 use Rattle.bt_walks.specs.Reading.{IsOfLevel, IsReading}
 use Rattle.bt_walks.specs.Sets.{is_in}
 use Rattle.bt_walks.specs.Trees.{image_of, order_in, same_in}

@@ -18,11 +18,12 @@ use Rattle.bt_pages.specs.Trees.{Tree}
 use Rattle.bt_walks.specs.declared.downlinks.Downlinks.{Downlinks}
 use Rattle.bt_walks.specs.declared.downlinks.Hand.{Hand}
 use Rattle.bt_walks.specs.declared.downlinks.Hand.TheVariants.{Nothing, Root, Item}
-use Rattle.bt_walks.specs.Bounds.{Bound}
-use Rattle.bt_walks.specs.Downlinks.{HasAdvanced, IsInner, IsSoundHand, Reads, TreeDownlink, cursor_of, downlinks_from, hand_after, hand_bound, hand_downlinks, in_hand, is_held, is_settled, settled_by}
+use Rattle.level_pages.specs.Bounds.{Bound}
+use Rattle.level_pages.specs.Pages.{TreeDownlink, downlinks_from}
+use Rattle.bt_walks.specs.Downlinks.{HasAdvanced, IsInner, IsSoundHand, Reads, cursor_of, hand_after, hand_bound, hand_downlinks, in_hand, is_held, is_settled, settled_by}
 use Rattle.bt_walks.specs.Reading.{IsOfLevel, IsReading}
 use Rattle.bt_walks.specs.Trees.{KeepsPages, image_of}
-use Rattle.bt_walks.proofs.Pages.{Next, hand_end, hand_next}
+use Rattle.level_pages.proofs.Pages.{Next, hand_end, hand_next}
 use Rattle.bt_walks.proofs.Reading.{advances, empty_at, fewer, none_ahead, nothing_left, turns}
 
 pub not_held : (hand : Hand) → is_held hand ≡ false → hand ≡ Nothing

@@ -28,7 +28,8 @@ use Rattle.bt_pages.specs.Trees.{Tree}
 use Rattle.bt_walks.specs.declared.levels.Levels.{Levels}
 use Rattle.bt_walks.specs.Budget.{pages_below}
 use Rattle.bt_walks.specs.Counts.{half_dead_among}
-use Rattle.bt_walks.specs.Downlinks.{TreeDownlink, in_hand, is_held}
+use Rattle.level_pages.specs.Pages.{TreeDownlink}
+use Rattle.bt_walks.specs.Downlinks.{in_hand, is_held}
 use Rattle.bt_walks.specs.Reading.{IsOfLevel, IsReading}
 use Rattle.bt_walks.specs.Sets.{is_in}
 use Rattle.bt_walks.specs.Trees.{image_of, order_in, same_in}

@@ -1,6 +1,3 @@
-pub mod Keys
-pub mod Items
-pub mod Pages
 pub mod Reading
 pub mod Counting
 pub mod Hands

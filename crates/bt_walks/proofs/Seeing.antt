@@ -18,8 +18,9 @@ use Rattle.tree_image.specs.Pages.{breaks_half_dead}
 use Rattle.tree_image.proofs.PageFields.{half_dead_leaf}
 use Rattle.bt_pages.specs.Trees.{Tree}
 use Rattle.bt_walks.specs.declared.levels.Levels.{Levels}
-use Rattle.bt_walks.specs.Downlinks.{IsSoundHand, TreeDownlink, in_hand}
-use Rattle.bt_walks.specs.Pages.{HasPlainItems, is_low_page}
+use Rattle.level_pages.specs.Pages.{TreeDownlink}
+use Rattle.bt_walks.specs.Downlinks.{IsSoundHand, in_hand}
+use Rattle.level_pages.specs.Pages.{HasPlainItems, is_low_page}
 use Rattle.bt_walks.specs.Reading.{IsOfLevel}
 use Rattle.bt_walks.specs.Sets.{is_in}
 use Rattle.bt_walks.specs.Trees.{KeepsPages, image_of, order_in, same_in}

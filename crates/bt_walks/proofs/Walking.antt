@@ -23,7 +23,8 @@ use Rattle.bt_pages.specs.Trees.{Tree}
 use Rattle.bt_walks.specs.declared.levels.Levels.{Levels}
 use Rattle.bt_walks.specs.Budget.{pages_below}
 use Rattle.bt_walks.specs.Counts.{half_dead_among, one_if}
-use Rattle.bt_walks.specs.Downlinks.{IsSettled, Reads, TreeDownlink, cursor_of}
+use Rattle.level_pages.specs.Pages.{TreeDownlink}
+use Rattle.bt_walks.specs.Downlinks.{IsSettled, Reads, cursor_of}
 use Rattle.bt_walks.specs.Reading.{IsOfLevel}
 use Rattle.bt_walks.specs.Sets.{is_in}
 use Rattle.bt_walks.specs.Trees.{image_of, order_in, same_in}

@@ -1,10 +1,9 @@
 -- The downlinks to a level, read one after the other along the level above: what is in hand of them, and the cursor of
 -- tree_rules that this is.
-use Rattle.std.specs.Prelude.{◌≡◌, ◌≤◌, ◌-◌, ◌==◌, ℕ, Bool, true, false, List, [], ◌∷◌, None, drop, if◌then◌else◌}
+use Rattle.std.specs.Prelude.{◌≡◌, ◌≤◌, ◌==◌, ℕ, Bool, true, false, List, [], ◌∷◌, None, if◌then◌else◌}
 use Rattle.page_layout.specs.Page.{count_of, page_rule_of}
 use Rattle.page_layout.specs.declared.page.PageKind.TheVariants.{Tree as tree_page}
 use Rattle.tree_search.specs.Keys.{Separator}
-use Rattle.tree_search.specs.Levels.{Downlink, page_downlinks}
 use Rattle.tree_rules.specs.Cursor.{Cursor}
 use Rattle.key_orders.specs.declared.columns.KeySpec.{KeySpec}
 use Rattle.key_orders.specs.declared.columns.Value.{Value}
@@ -18,13 +17,10 @@ use Rattle.bt_pages.specs.Trees.{Tree}
 use Rattle.bt_walks.specs.declared.downlinks.Downlinks.{Downlinks}
 use Rattle.bt_walks.specs.declared.downlinks.Hand.{Hand}
 use Rattle.bt_walks.specs.declared.downlinks.Hand.TheVariants.{Nothing, Root, Item}
-use Rattle.bt_walks.specs.Bounds.{Bound, IsBound}
-use Rattle.bt_walks.specs.Pages.{HasPlainItems}
+use Rattle.level_pages.specs.Bounds.{Bound, IsBound}
+use Rattle.level_pages.specs.Pages.{HasPlainItems, TreeDownlink, downlinks_from}
 use Rattle.bt_walks.specs.Reading.{IsReading}
 use Rattle.bt_walks.specs.Trees.{image_of}
-
-abbrev pub TreeDownlink : Type 0
-TreeDownlink = Downlink (Separator Value Tid)
 
 -- its parts
 abbrev pub page_of : Downlinks → List ℕ
@@ -42,11 +38,6 @@ next_of downlinks = downlinks.next
 -- how many pages may still be read
 abbrev pub turns_of : Downlinks → ℕ
 turns_of downlinks = downlinks.turns_left
-
--- those of the page in hand, from item i on. The separator of its first data item is the page's lower bound.
-abbrev pub downlinks_from : List KeySpec → List MoreSpec → (page : List ℕ) → (lower : Bound) → ℕ → List TreeDownlink
-downlinks_from specs more page lower i =
-    drop (i - first_data page) (page_downlinks lower (page_image specs more page).children)
 
 -- what is in hand
 abbrev pub hand_downlinks : List KeySpec → List MoreSpec → (page : List ℕ) → (lower : Bound) → Hand → List TreeDownlink

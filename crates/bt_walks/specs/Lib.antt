@@ -1,8 +1,6 @@
 pub mod Sets
 pub mod Trees
-pub mod Pages
 pub mod Budget
-pub mod Bounds
 pub mod Downlinks
 pub mod Reading
 pub mod Counts

@@ -1,5 +1,6 @@
 -- A walk along a level that is under way.
-use Rattle.std.specs.Prelude.{⊤, ◌⊎◌, ◌≡◌, ◌≢◌, ◌+◌, ◌-◌, ◌<◌, ◌≤◌, ℕ, suc, false, List, None, Option, Some, fold, length}
+use Rattle.std.specs.Prelude.{⊤, ◌⊎◌, ◌≡◌, ◌≢◌, ◌+◌, ◌-◌, ◌<◌, ◌≤◌, ℕ}
+use Rattle.std.specs.Prelude.{suc, false, List, None, Option, Some, fold, length}
 use Rattle.std.specs.List.{AllByRecursion}
 use Rattle.tree_search.specs.Levels.{downlinks, entry_page}
 use Rattle.tree_search.specs.Probe.{halves_down, right_halves}
@@ -24,7 +25,7 @@ use Rattle.bt_walks.specs.declared.levels.Levels.{Levels}
 use Rattle.bt_meta.specs.Pages.{meta_of}
 use Rattle.bt_walks.specs.Budget.{pages_below}
 use Rattle.bt_walks.specs.Counts.{half_dead_among}
-use Rattle.bt_walks.specs.Downlinks.{TreeDownlink}
+use Rattle.level_pages.specs.Pages.{TreeDownlink}
 use Rattle.bt_walks.specs.Reading.{IsOfLevel}
 use Rattle.bt_walks.specs.Sets.{is_in}
 use Rattle.bt_walks.specs.Trees.{image_of, order_in, same_in}

@@ -24,10 +24,11 @@ use Rattle.bt_pages.specs.declared.tree.TreeRules.{TreeRules}
 use Rattle.bt_walks.specs.declared.downlinks.Downlinks.{Downlinks}
 use Rattle.bt_walks.specs.declared.judge.Judged.{Judged}
 use Rattle.bt_walks.specs.declared.levels.Levels.{Levels}
-use Rattle.bt_walks.specs.Bounds.{Bound, IsBound}
+use Rattle.level_pages.specs.Bounds.{Bound, IsBound}
 use Rattle.bt_walks.specs.Budget.{pages_below}
 use Rattle.bt_walks.specs.Counts.{half_dead_among, half_dead_in, one_if, right_halves_in}
-use Rattle.bt_walks.specs.Downlinks.{AreReadableDownlinks, IsSettled, Reads, TreeDownlink}
+use Rattle.level_pages.specs.Pages.{TreeDownlink}
+use Rattle.bt_walks.specs.Downlinks.{AreReadableDownlinks, IsSettled, Reads}
 use Rattle.bt_walks.specs.Reading.{IsOfLevel}
 use Rattle.bt_walks.specs.Sets.{is_in}
 use Rattle.bt_walks.specs.Trees.{first_broken_in, image_of, order_in, same_in}

@@ -6,7 +6,7 @@ ghost use Rattle.outside.specs.Outside.{Asked, IfTold, Tells};
 ghost use Rattle.rel_files.specs.Relation.{IsAttached};
 ghost use Rattle.bt_pages.specs.Trees.{tree_seen};
 ghost use Rattle.bt_walks.specs.Budget.{TakesReads};
-ghost use Rattle.bt_walks.specs.Downlinks.{TreeDownlink};
+ghost use Rattle.level_pages.specs.Pages.{TreeDownlink};
 ghost use Rattle.bt_walks.specs.Trees.{HoldsPages};
 ghost use Rattle.bt_walks.specs.UnderWay.{IsHeld, IsPast, IsSameCourse, IsUnderWay};
 ghost use Rattle.bt_walks.specs.Walked.{IsReady, IsSameIndex, budget_of, steps_of, tree_of, walks_of};

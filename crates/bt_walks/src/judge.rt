@@ -6,7 +6,7 @@ ghost use Rattle.rel_files.specs.Relation.{IsAttached};
 ghost use Rattle.tree_search.specs.Levels.{entry_page};
 ghost use Rattle.bt_pages.specs.Trees.{Tree, tree_seen};
 ghost use Rattle.bt_walks.specs.Budget.{TakesReads};
-ghost use Rattle.bt_walks.specs.Downlinks.{TreeDownlink};
+ghost use Rattle.level_pages.specs.Pages.{TreeDownlink};
 ghost use Rattle.bt_walks.specs.Reading.{IsOfLevel};
 ghost use Rattle.bt_walks.specs.Trees.{HoldsPages, KeepsPages, image_of};
 ghost use Rattle.bt_walks.specs.UnderWay.{HasPassedAll, IsEntered};

@@ -17,8 +17,9 @@ ghost use Rattle.bt_meta.specs.Pages.{opaque_of};
 ghost use Rattle.tree_image.specs.Image.{page_image};
 ghost use Rattle.bt_pages.specs.Trees.{tree_seen};
 ghost use Rattle.bt_walks.specs.Budget.{TakesReads};
-ghost use Rattle.bt_walks.specs.Downlinks.{IsSoundHand, TreeDownlink, hand_of, in_hand, page_of};
-ghost use Rattle.bt_walks.specs.Pages.{HasPlainItems, is_low_page};
+ghost use Rattle.level_pages.specs.Pages.{TreeDownlink};
+ghost use Rattle.bt_walks.specs.Downlinks.{IsSoundHand, hand_of, in_hand, page_of};
+ghost use Rattle.level_pages.specs.Pages.{HasPlainItems, is_low_page};
 ghost use Rattle.bt_walks.specs.Reading.{IsOfLevel};
 ghost use Rattle.bt_walks.specs.Trees.{HoldsPages, image_of, order_in, same_in};
 ghost use Rattle.bt_walks.specs.UnderWay.{IsHeld};
@@ -28,12 +29,11 @@ ghost use Rattle.bt_walks.specs.Walked.{KeepsBudget, StandsBefore, TreeWalk, bud
 ghost use Rattle.bt_walks.specs.Walked.{lower_of, page_in, tree_of, upper_of, walks_of};
 
 use crate::block_set::BlockSet;
-use crate::bounds::{high_key_of, is_low_page};
 use crate::course::InHand;
 use crate::downlinks::Downlinks;
-use crate::marks::marks_of;
 use bt_pages::TreeRules;
 use key_orders::Separator;
+use level_pages::{high_key_of, is_low_page, marks_of};
 use level_walk::{LevelWalk, PageRole, PageSeen};
 use outside::{Files, NoMemory};
 use page_layout::{PageKind, PageView};

@@ -5,7 +5,6 @@
 #![tactic(auto)]
 
 mod block_set;
-mod bounds;
 mod check;
 mod course;
 mod downlinks;
@@ -13,7 +12,6 @@ mod first_page;
 mod judge;
 mod leaf_walk;
 mod levels;
-mod marks;
 mod shape;
 
 pub use block_set::BlockSet;

@@ -1,6 +1,6 @@
 use Rattle.std.proofs.Common.{◌≡◌, ◌<◌, false, ap, sym, subst, ◌∙◌, arith}
 use Rattle.page_layout.specs.Page.{count_of}
-use Rattle.bt_walks.specs.Pages.{HasPlainItems}
+use Rattle.level_pages.specs.Pages.{HasPlainItems}
 use Rattle.bt_meta.specs.Flags.{is_half_dead}
 use Rattle.bt_meta.specs.Pages.{opaque_of}
 use Rattle.tree_image.specs.Image.{page_image}

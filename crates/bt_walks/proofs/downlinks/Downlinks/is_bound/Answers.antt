@@ -8,7 +8,7 @@ use Rattle.tree_image.specs.Image.{first_data, item_at}
 use Rattle.tree_image.specs.Pages.{IsPlainItem}
 use Rattle.tree_image.proofs.PageFields.{first_cases}
 use Rattle.bt_walks.proofs.Hands.{inner, next, separator_is}
-use Rattle.bt_walks.proofs.Pages.{pivot_key, spot_inner}
+use Rattle.level_pages.proofs.Pages.{pivot_key, spot_inner}
 use Rattle.bt_walks.proofs.downlinks.Downlinks.is_bound.Goals as goal
 
 pub returns-then-i-first_data : goal.returns-then-i-first_data

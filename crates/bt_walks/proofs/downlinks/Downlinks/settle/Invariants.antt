@@ -2,7 +2,8 @@ use Rattle.std.proofs.Common.{◌≤◌, ℕ, List, suc}
 use Rattle.outside.specs.Outside.{IfTold, Passed}
 use Rattle.bt_pages.specs.Trees.{tree_seen}
 use Rattle.bt_walks.specs.Budget.{TakesReads}
-use Rattle.bt_walks.specs.Downlinks.{AreReadableDownlinks, Reads, TreeDownlink, turns_of}
+use Rattle.level_pages.specs.Pages.{TreeDownlink}
+use Rattle.bt_walks.specs.Downlinks.{AreReadableDownlinks, Reads, turns_of}
 use Rattle.bt_walks.specs.Sets.{is_in}
 use Rattle.bt_walks.specs.Trees.{HoldsPages}
 use Rattle.bt_walks.proofs.downlinks.Downlinks.settle.Given as goal

@@ -10,9 +10,9 @@ use Rattle.key_orders.specs.Scans.{order_of}
 use Rattle.key_orders.specs.Separators.{separator_of}
 use Rattle.bt_tuples.specs.Keys.{first_key}
 use Rattle.tree_image.specs.Image.{first_data, item_at}
-use Rattle.bt_walks.proofs.Pages.{pivot_key, second_some, spot_inner}
+use Rattle.level_pages.proofs.Pages.{pivot_key, second_some, spot_inner}
 use Rattle.tree_image.proofs.PageFields.{first_cases}
-use Rattle.bt_walks.proofs.bounds.has_low_item.Goals as goal
+use Rattle.level_pages.proofs.bounds.has_low_item.Goals as goal
 
 pub returns-in-Some : goal.returns-in-Some
 returns-in-Some c items whole inner =

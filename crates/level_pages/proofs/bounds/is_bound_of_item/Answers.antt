@@ -8,7 +8,7 @@ use Rattle.bt_tuples.specs.Keys.{first_key}
 use Rattle.tree_image.specs.Image.{item_at}
 use Rattle.tree_rules.specs.Same.{same_keys}
 use Rattle.tree_rules.specs.Tests.{same_bound}
-use Rattle.bt_walks.proofs.bounds.is_bound_of_item.Goals as goal
+use Rattle.level_pages.proofs.bounds.is_bound_of_item.Goals as goal
 
 pub returns-in-Some-compare_with_item : goal.returns-in-Some-compare_with_item
 returns-in-Some-compare_with_item c plain =

@@ -9,9 +9,9 @@ use Rattle.key_orders.specs.Keys.{columns_of, tid_order}
 use Rattle.key_orders.specs.Scans.{order_of}
 use Rattle.key_orders.specs.Separators.{separator_of}
 use Rattle.tree_image.specs.Image.{has_high_key}
-use Rattle.bt_walks.proofs.Pages.{high_before, high_none, high_some, pivot_key, some_high, spot_high}
-use Rattle.bt_walks.proofs.bounds.has_low_high_key.Goals.{then-not-has_high_key-via-then-not-has_high_key, then-not-has_high_key-via-else-not-has_high_key+then-item_count-eq0}
-use Rattle.bt_walks.proofs.bounds.has_low_high_key.Goals as goal
+use Rattle.level_pages.proofs.Pages.{high_before, high_none, high_some, pivot_key, some_high, spot_high}
+use Rattle.level_pages.proofs.bounds.has_low_high_key.Goals.{then-not-has_high_key-via-then-not-has_high_key, then-not-has_high_key-via-else-not-has_high_key+then-item_count-eq0}
+use Rattle.level_pages.proofs.bounds.has_low_high_key.Goals as goal
 
 pub returns-then-not-has_high_key : goal.returns-then-not-has_high_key
 returns-then-not-has_high_key c items whole =

@@ -7,9 +7,9 @@ use Rattle.key_orders.specs.Keys.{columns_of, tid_order}
 use Rattle.key_orders.specs.Separators.{separator_of}
 use Rattle.bt_tuples.specs.Keys.{first_key}
 use Rattle.tree_image.specs.Image.{item_at}
-use Rattle.bt_walks.proofs.Keys.{not_below, same_either}
-use Rattle.bt_walks.proofs.Pages.{item_means, must_read}
-use Rattle.bt_walks.proofs.bounds.compare_with_item.Goals as goal
+use Rattle.level_pages.proofs.Keys.{not_below, same_either}
+use Rattle.level_pages.proofs.Pages.{item_means, must_read}
+use Rattle.level_pages.proofs.bounds.compare_with_item.Goals as goal
 
 pub returns-in-Ok-clause-order : goal.returns-in-Ok-clause-order
 returns-in-Ok-clause-order c =

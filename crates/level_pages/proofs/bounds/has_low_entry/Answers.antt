@@ -10,8 +10,8 @@ use Rattle.key_orders.specs.Scans.{order_of}
 use Rattle.key_orders.specs.Separators.{separator_of}
 use Rattle.bt_tuples.specs.Keys.{first_key}
 use Rattle.tree_image.specs.Image.{first_data, item_at}
-use Rattle.bt_walks.proofs.Pages.{first_entry}
-use Rattle.bt_walks.proofs.bounds.has_low_entry.Goals as goal
+use Rattle.level_pages.proofs.Pages.{first_entry}
+use Rattle.level_pages.proofs.bounds.has_low_entry.Goals as goal
 
 pub returns-in-Some : goal.returns-in-Some
 returns-in-Some c items whole leaf =

@@ -16,8 +16,8 @@ ghost use Rattle.bt_meta.specs.Pages.{opaque_of};
 ghost use Rattle.bt_tuples.specs.Keys.{first_key};
 ghost use Rattle.tree_image.specs.Image.{item_at, page_image, spot_of};
 ghost use Rattle.tree_image.specs.Pages.{IsPlainItem};
-ghost use Rattle.bt_walks.specs.Bounds.{IsBound};
-ghost use Rattle.bt_walks.specs.Pages.{HasPlainItems, is_low_page};
+ghost use Rattle.level_pages.specs.Bounds.{IsBound};
+ghost use Rattle.level_pages.specs.Pages.{HasPlainItems, is_low_page};
 
 use bt_meta::opaque;
 use bt_pages::TreeRules;
@@ -139,7 +139,8 @@ fn is_low_above(tree: &TreeRules<'_>, page: PageView<'_>, lower: &SepRef<'_>) ->
 }
 
 /// Whether a key of a live page isn't above its lower bound: the high key, the first entry of a leaf, or
-/// the separator of an internal page's second data item (L6).
+/// the separator of an internal page's second data item (L6). Of a page with items that can't be read, or a half-dead
+/// one, the answer means nothing.
 pub fn is_low_page(tree: &TreeRules<'_>, page: PageView<'_>, lower: &Option<Separator>) -> bool
     requires page { page_rule_of PageKind.Tree (page_bytes page) ≡ None }
     requires lower { IsBound tree.now.columns.specs.now lower.now }
@@ -155,7 +156,7 @@ pub fn is_low_page(tree: &TreeRules<'_>, page: PageView<'_>, lower: &Option<Sepa
 }
 
 /// The high key of a page that isn't half-dead, in memory of its own: the lower bound of the live page
-/// after it. None where it has none, or none that can be read.
+/// after it. None where it has none, or none that can be read. `NoMemory` comes only where the key finds no room.
 pub fn high_key_of(
     alloc: Global,
     tree: &TreeRules<'_>,
@@ -179,7 +180,8 @@ pub fn high_key_of(
 }
 
 /// Whether the separator of item i of an internal page is this lower bound. It may be read only where the
-/// item isn't the page's first, whose separator is the page's own lower bound.
+/// item isn't the page's first, whose separator is the page's own lower bound. Of an item that can't be read the answer
+/// means nothing.
 pub fn is_bound_of_item(
     tree: &TreeRules<'_>,
     page: PageView<'_>,

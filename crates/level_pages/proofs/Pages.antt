@@ -30,10 +30,9 @@ use Rattle.tree_image.specs.Image.{child_in, data_items, downlink_in, first_data
 use Rattle.tree_image.specs.Pages.{IsDataItem, IsPlainItem, breaks_items}
 use Rattle.tree_image.proofs.PageFields.{first_cases, leaf_item_good, leaf_spot, numbers_none}
 use Rattle.tree_image.proofs.Rises.{IsGood}
-use Rattle.bt_walks.specs.Bounds.{Bound}
-use Rattle.bt_walks.specs.Downlinks.{downlinks_from}
-use Rattle.bt_walks.specs.Pages.{HasPlainItems}
-use Rattle.bt_walks.proofs.Items.{downlinks_end, downlinks_first, downlinks_later, no_second, second_is, single_is}
+use Rattle.level_pages.specs.Bounds.{Bound}
+use Rattle.level_pages.specs.Pages.{HasPlainItems, downlinks_from}
+use Rattle.level_pages.proofs.Items.{downlinks_end, downlinks_first, downlinks_later, no_second, second_is, single_is}
 
 same_test : (a b c d : ℕ) → (a ≡ b → c ≡ d) → (c ≡ d → a ≡ b) → (a == b) ≡ (c == d)
 same_test a b c d there back = elim (cases_Bool (a == b)) [

@@ -4,9 +4,9 @@ use Rattle.page_layout.specs.Page.{count_of}
 use Rattle.page_layout.specs.View.{page_bytes}
 use Rattle.bt_tuples.specs.Keys.{first_key}
 use Rattle.tree_image.specs.Image.{has_high_key}
-use Rattle.bt_walks.proofs.Pages.{high_before, high_none, high_some, high_spot, item_means, must_read, pivot_key, some_high, spot_high}
-use Rattle.bt_walks.proofs.bounds.high_key_of.Goals.{then-not-has_high_key-via-then-not-has_high_key, then-not-has_high_key-via-else-not-has_high_key+then-item_count-eq0}
-use Rattle.bt_walks.proofs.bounds.high_key_of.Goals as goal
+use Rattle.level_pages.proofs.Pages.{high_before, high_none, high_some, high_spot, item_means, must_read, pivot_key, some_high, spot_high}
+use Rattle.level_pages.proofs.bounds.high_key_of.Goals.{then-not-has_high_key-via-then-not-has_high_key, then-not-has_high_key-via-else-not-has_high_key+then-item_count-eq0}
+use Rattle.level_pages.proofs.bounds.high_key_of.Goals as goal
 
 pub returns-then-not-has_high_key-clause-key : goal.returns-then-not-has_high_key-clause-key
 returns-then-not-has_high_key-clause-key c items whole =

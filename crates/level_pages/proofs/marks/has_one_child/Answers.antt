@@ -2,8 +2,8 @@ use Rattle.std.proofs.Common.{ap, sym, ◌∙◌}
 use Rattle.std.specs.Prelude.{◌==◌}
 use Rattle.page_layout.specs.View.{page_bytes}
 use Rattle.bt_meta.specs.Flags.{is_leaf}
-use Rattle.bt_walks.proofs.Pages.{one_child}
-use Rattle.bt_walks.proofs.marks.has_one_child.Goals as goal
+use Rattle.level_pages.proofs.Pages.{one_child}
+use Rattle.level_pages.proofs.marks.has_one_child.Goals as goal
 
 pub returns-then-not-is_leaf : goal.returns-then-not-is_leaf
 returns-then-not-is_leaf c specs more =
