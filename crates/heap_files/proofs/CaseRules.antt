@@ -18,10 +18,10 @@ use Rattle.vis_map.specs.Bits.{map_page_of, map_pages_for, no_bits}
 use Rattle.vis_map.specs.declared.bits.MapBits.{MapBits}
 use Rattle.toast_chunks.specs.Rows.{toast_columns}
 use Rattle.toast_chunks.specs.declared.map.Chunk.{Chunk}
-use Rattle.reports.specs.Added.{joined, nothing, report_lists}
+use Rattle.reports.specs.Added.{joined, report_lists}
 use Rattle.reports.specs.Lists.{Lists}
 use Rattle.reports.specs.declared.places.Rel.TheVariants.{Map as map_pages}
-use Rattle.heap_pages.specs.Found.{FoundLists, both_found, nothing_found}
+use Rattle.heap_pages.specs.Found.{FoundLists, both_found, nothing_found, only_listed}
 use Rattle.heap_pages.specs.Table.{Table, table_seen, table_with, toast_oid_seen}
 use Rattle.heap_pages.specs.declared.table.TableKind.{TableKind}
 use Rattle.heap_pages.specs.declared.table.TableRules.{TableRules}
@@ -171,11 +171,14 @@ chunks_are_given case names = chunks_by case names case.toast refl
 pub from_nothing : (old new found wanted : FoundLists) → old ≡ nothing_found → new ≡ both_found old found → found ≡ wanted → new ≡ wanted
 from_nothing old new found wanted none now same = now ∙ ap (λ (f : FoundLists). both_found f found) none ∙ same
 
-pub lists_from_nothing : (old new lists : Lists) → old ≡ nothing → new ≡ joined old lists → new ≡ lists
-lists_from_nothing old new lists none now = now ∙ ap (λ (l : Lists). joined l lists) none
+-- what is listed before anything else was found
+pub listed_first : (old : FoundLists) (new lists : Lists) → old ≡ nothing_found → new ≡ joined old.listed lists → record { listed = new; late = old.late; chunks = old.chunks } ≡ only_listed lists
+listed_first old new lists none now =
+    ap (λ (l : Lists). record { listed = l; late = old.late; chunks = old.chunks }) now
+    ∙ ap (λ (f : FoundLists). record { listed = joined f.listed lists; late = f.late; chunks = f.chunks }) none
 
 -- the three parts of a case
-pub parts_are : (case : CaseRecord) (names : Names) (m : Lists) (h t : FoundLists) → m ≡ map_found case names → h ≡ heap_found case names → t ≡ toast_found case names
-    → record { listed = joined (joined m h.listed) t.listed; late = h.late; chunks = t.chunks } ≡ parts_found case names
+pub parts_are : (case : CaseRecord) (names : Names) (rest t : FoundLists) → rest ≡ both_found (only_listed (map_found case names)) (heap_found case names) → t ≡ toast_found case names
+    → record { listed = joined rest.listed t.listed; late = rest.late; chunks = t.chunks } ≡ parts_found case names
 unfolding files_found
-parts_are case names m h t e f g = rw (e, f, g) refl
+parts_are case names rest t e f = rw (e, f) refl

@@ -64,9 +64,13 @@ abbrev pub parts_found : CaseRecord → Names → FoundLists
 parts_found case names =
     record { listed = files_found case names; late = (heap_found case names).late; chunks = chunks_of case names }
 
--- what a report gets of what is found: the late findings only where nothing else is
+-- what is listed in any case, and what comes late only where that is nothing
+abbrev pub lists_with : Lists → Lists → Lists
+lists_with listed late = joined listed (if_silent listed.findings listed.unjudged late)
+
+-- what a report gets of what is found
 abbrev pub lists_in : FoundLists → Lists
-lists_in found = joined found.listed (if_silent found.listed.findings found.listed.unjudged found.late)
+lists_in found = lists_with found.listed found.late
 
 unfoldable pub case_found : CaseRecord → Names → Lists
 case_found case names = lists_in (parts_found case names)

@@ -1,14 +1,15 @@
 //! Judges a whole case but for its indexes: its visibility map, its heap and its TOAST table.
-ghost use Rattle.std.specs.Prelude.{◌≡◌, ◌↔◌, ◌⊎◌, ℕ, List, None, IfErr, IfOk, IfSome, IsSome, OnOk};
+ghost use Rattle.std.specs.Prelude.{◌≡◌, ◌↔◌, ◌⊎◌, ℕ, List, None, IfErr, IfOk, IfSome, IsSome, IsTrue, OnOk};
 ghost use Rattle.outside.specs.Adds.{AddsIn};
 ghost use Rattle.outside.specs.Outside.{Asked, IfTold, Names, Tells};
 ghost use Rattle.rel_files.specs.Ahead.{IsAheadOf};
 ghost use Rattle.rel_files.specs.declared.relation.Relation.{Relation as Related};
 ghost use Rattle.liveness.specs.LogFiles.{log_files_of};
 ghost use Rattle.reports.specs.Added.{joined, nothing, report_lists};
-ghost use Rattle.heap_pages.specs.Found.{both_found};
+ghost use Rattle.heap_pages.specs.Found.{both_found, only_listed};
 ghost use Rattle.heap_files.specs.Case.{log_files_in, oid_in};
 ghost use Rattle.heap_files.specs.Found.{IsQuiet, case_found, chunks_given, chunks_of, heap_found, lists_in};
+ghost use Rattle.heap_files.specs.Found.{lists_with};
 ghost use Rattle.heap_files.specs.Found.{map_found, parts_found, toast_found};
 ghost use Rattle.heap_files.specs.Known.{TellsOfBlocks, TellsOfHeap};
 ghost use Rattle.heap_files.specs.Relations.{segment_found};
@@ -131,13 +132,6 @@ fn judge_toast<F: Transactions>(
     }
 }
 
-// The chunks that were found.
-fn chunks_in(found: &Found) -> &ToastMap
-    ensures { result.now ≡ found.now.chunks }
-{
-    &found.chunks
-}
-
 /// The TOAST table of a case's heap, if it has one, with these chunks.
 pub fn toast_table<'p>(case: &Case, chunks: &'p ToastMap) -> Option<ToastTable<'p>>
     ensures oid { toast_oid_seen result ≡ oid_in case.now.toast }
@@ -149,32 +143,21 @@ pub fn toast_table<'p>(case: &Case, chunks: &'p ToastMap) -> Option<ToastTable<'
     }
 }
 
-// What is found of the map, of the heap and of the TOAST table, in the order of a report.
-fn put_together(map: Report, heap: Found, toast: Found) -> Result<Found, NoMemory>
-    ensures { IfOk result (λ found. found ≡ record {
-      listed = joined (joined map heap.listed) toast.listed;
-      late = heap.late;
+// Puts what is found of the TOAST table, and its chunks, to what is found of the rest.
+fn add_toast(found: &mut Found, toast: Found) -> Result<(), NoMemory>
+    ensures { OnOk result (found.new ≡ record {
+      listed = joined found.old.listed toast.listed;
+      late = found.old.late;
       chunks = toast.chunks;
     }) }
 {
-    let mut listed = map;
     let Found {
-        listed: of_heap,
-        late,
-        chunks: _,
-    } = heap;
-    let Found {
-        listed: of_toast,
+        listed,
         late: _,
         chunks,
     } = toast;
-    listed.append(of_heap)?;
-    listed.append(of_toast)?;
-    Ok(Found {
-        listed,
-        late,
-        chunks,
-    })
+    found.chunks = chunks;
+    found.listed.append(listed)
 }
 
 // A case with the logs of its cluster, the files of its table, and the chunks that were found of its TOAST table.
@@ -222,6 +205,29 @@ fn judge_heap<F: Transactions>(
     Ok(())
 }
 
+// What is found of the map and then of the heap of a case, and what is known of the heap's blocks.
+fn judge_mapped<F: Transactions>(
+    alloc: Global,
+    files: &mut F,
+    of: HeapOfCase<'_>,
+) -> Result<JudgedFile, PageFault>
+    requires told { IfTold F.seen files.old (λ names. AreFilesOf of.case.now names of.at.now) }
+    requires belong { BelongTo of.case.now of.at.now }
+    requires logs { log_files_kept of.logs.now ≡ log_files_in of.case.now }
+    requires chunks { IfTold F.seen files.old (λ names. of.chunks.now ≡ chunks_of of.case.now names) }
+    ensures found { Tells F.seen files.old result (λ judged names. judged.found
+        ≡ both_found (only_listed (map_found of.entry.case.now names)) (heap_found of.entry.case.now names)) }
+    ensures known { Tells F.seen files.old result (λ judged names.
+        TellsOfHeap of.entry.case.now names judged.known) }
+    ensures asked { Asked F.seen files.old files.new result PageFault.ReadFault }
+{
+    let mut hands = Hands::new(alloc)?;
+    let listed = &mut hands.work.found.listed;
+    judge_map(files, of.case, of.at, &mut hands.map, listed)?;
+    judge_heap(files, of, &mut hands)?;
+    Ok(hands.into_judged())
+}
+
 // What is found of the map, the heap and the TOAST table of a case, and what is known of the heap's blocks. The TOAST
 // table is judged first, since the heap's values are asked of its chunks, and comes last in the lists.
 fn judge_in_turn<F: Transactions>(
@@ -239,22 +245,15 @@ fn judge_in_turn<F: Transactions>(
     ensures asked { Asked F.seen files.old files.new result PageFault.ReadFault }
 {
     let toast = judge_toast(alloc, files, case, logs, at)?;
-    let mut hands = Hands::new(alloc)?;
-    let mut listed = Report::new(alloc);
-    judge_map(files, case, at, &mut hands.map, &mut listed)?;
-    let chunks = chunks_in(&toast);
     let of = HeapOfCase {
         case,
         logs,
         at,
-        chunks,
+        chunks: &toast.chunks,
     };
-    judge_heap(files, of, &mut hands)?;
-    let heap = hands.into_judged();
-    Ok(JudgedFile {
-        found: put_together(listed, heap.found, toast)?,
-        known: heap.known,
-    })
+    let mut judged = judge_mapped(alloc, files, of)?;
+    add_toast(&mut judged.found, toast)?;
+    Ok(judged)
 }
 
 // The same over files of which it is remembered what was found of transactions.
@@ -276,8 +275,23 @@ fn judge_files<F: Files>(
     judge_in_turn(alloc, &mut files, case, &logs, at)
 }
 
-// Adds what was found to the report: what is listed in any case, and where that is nothing, what comes late.
-// The chunks are given back exactly where nothing was added.
+// Adds what is listed in any case to the report, and where that is nothing, what comes late. It says whether both
+// are nothing.
+fn add_lists(report: &mut Report, listed: Report, late: Report) -> Result<bool, NoMemory>
+    ensures added { AddsIn report_lists result report.old report.new (lists_with listed late) }
+    ensures none { IfOk result (λ answer. IsTrue answer ↔ (lists_with listed late ≡ nothing)) }
+{
+    let silent = listed.counts() == (0, 0);
+    report.append(listed)?;
+    if !silent {
+        return Ok(false);
+    }
+    let whole = late.counts() == (0, 0);
+    report.append(late)?;
+    Ok(whole)
+}
+
+// Adds what was found to the report. The chunks are given back exactly where nothing was added.
 fn add_found(report: &mut Report, found: Found) -> Result<Option<ToastMap>, NoMemory>
     ensures added { AddsIn report_lists result report.old report.new (lists_in found) }
     ensures none { IfOk result (λ answer. IsSome answer ↔ (lists_in found ≡ nothing)) }
@@ -288,17 +302,10 @@ fn add_found(report: &mut Report, found: Found) -> Result<Option<ToastMap>, NoMe
         late,
         chunks,
     } = found;
-    let silent = listed.counts() == (0, 0);
-    report.append(listed)?;
-    if !silent {
-        return Ok(None);
+    match add_lists(report, listed, late)? {
+        true => Ok(Some(chunks)),
+        false => Ok(None),
     }
-    let whole = late.counts() == (0, 0);
-    report.append(late)?;
-    if !whole {
-        return Ok(None);
-    }
-    Ok(Some(chunks))
 }
 
 /// Judges the files of a case's table, and adds to the report all that is found of them and all that
