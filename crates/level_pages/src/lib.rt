@@ -1,5 +1,5 @@
-//! A page of a B-tree index as a walk along its level sees it: how its keys stand to its lower bound, what it keeps as the
-//! bound of the next page, and the marks that tell its role.
+//! A page of a B-tree index as a walk along its level sees it: how its keys stand to its lower bound, what it keeps as
+//! the bound of the next page, and the marks that tell its role.
 //!
 //! Sources: PostgreSQL's `access/nbtree.h` and the nbtree README.
 #![tactic(auto)]
