@@ -3,10 +3,10 @@ use Rattle.std.proofs.Common.{◌≡◌, ◌≤◌, ◌<◌, ◌+◌, ◌*◌, �
 use Rattle.std.specs.Prelude.{Err, IfOk, None, Ok, Option, Result, Some, if◌then◌else◌}
 use Rattle.std.specs.List.{All}
 use Rattle.std.proofs.lemmas.Bool.{le-ltb, lt-ltb, ltb-true}
-use Rattle.outside.specs.Memory.{sure_seen, sure_state}
+use Rattle.memory_files.specs.Memory.{sure_seen, sure_state}
 use Rattle.outside.specs.Outside.{Names, Tells}
 use Rattle.outside.specs.declared.files.Part.TheVariants.{Segment}
-use Rattle.outside.specs.declared.sure.SureFiles.{SureFiles}
+use Rattle.memory_files.specs.declared.sure.SureFiles.{SureFiles}
 use Rattle.page_layout.specs.declared.rules.Rule.{Rule}
 use Rattle.rel_files.specs.Blocks.{blocks_of, segment_length}
 use Rattle.attach_files.specs.Refusals.{file_refusal, large_by, limit_of}

@@ -1,6 +1,6 @@
 //! The command `gen`: builds a table with two indexes in memory, and judges them as `all` does.
 ghost use Rattle.std.specs.Prelude.{◌≡◌, ◌≢◌, ◌≤◌, ◌++◌, ℕ, Err, IfOk, OnOk};
-ghost use Rattle.outside.specs.Memory.{sure_seen, sure_state};
+ghost use Rattle.memory_files.specs.Memory.{sure_seen, sure_state};
 ghost use Rattle.outside.specs.Outside.{IfTold};
 ghost use Rattle.case_file.specs.Generated.{generated_case};
 ghost use Rattle.rel_build.specs.Files.{IsBuilt, built_files};
@@ -12,7 +12,8 @@ ghost use Rattle.run_outputs.specs.Seen.{outcome_seen};
 use crate::all::whole_output;
 use case_file::Case;
 use key_orders::Octets;
-use outside::{NoMemory, SureFiles};
+use memory_files::SureFiles;
+use outside::NoMemory;
 use rel_build::{BuildFault, BuiltCase, MAX_ROWS, build_case, built_files_are_held};
 use run_outputs::{Output, RunFault, Unit, too_large_output};
 use std::alloc::Global;

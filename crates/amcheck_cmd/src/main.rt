@@ -2,7 +2,7 @@
 #![tactic(auto)]
 
 use amcheck::run;
-use outside::{DiskFiles, OutSink};
+use disk_files::{DiskFiles, OutSink};
 use std::env;
 use std::io::{self, ErrorKind};
 use std::process::ExitCode;

@@ -1,5 +1,5 @@
 //! Runs over small cases, and what they should answer and write.
-use outside::{MemFiles, MemSink};
+use memory_files::{MemFiles, MemSink};
 use run_files::{CLUSTER, case_files, run_words};
 use std::alloc::Global;
 use std::process::Abort;

@@ -1,7 +1,8 @@
 //! Runs of `reindex`: the files of small indexes byte by byte, and what is written where there is none. No case's index
 //! file is there before, so a run that asks for it is refused.
 use crate::expected::{PACKED, TEXT_COLUMN, expect, files_of};
-use outside::{MemFiles, MemSink, Part};
+use memory_files::{MemFiles, MemSink};
+use outside::Part;
 use run_files::{
     CLEAN, CLUSTER, INDEX, INT_COLUMN, IndexTuple, Item, LIVE, LONE_LEAF, THREE, THREE_ROWS,
     TreePage, Tuple, index_file, indexed_files, page_of, run_words,

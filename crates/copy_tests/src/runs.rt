@@ -1,6 +1,7 @@
 //! Runs of `copy` on small cases: rows of each type, and what is written where there are none.
 use crate::expected::{PACKED, TEXT_COLUMN, expect, files_of};
-use outside::{MemFiles, Part};
+use memory_files::MemFiles;
+use outside::Part;
 use run_files::{
     BOOL_AND_TEXT, EXTERNAL, INT_COLUMN, Item, LIVE, SUCCESSOR, TEXT_IN_TOAST, Tuple, UPDATED,
     chunk_page, page_of,

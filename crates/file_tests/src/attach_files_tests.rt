@@ -1,7 +1,8 @@
 //! A file of one block, one that isn't there, and one whose length can't be asked.
 use crate::checks::same;
 use attach_files::attach_file;
-use outside::{MemFiles, Part};
+use memory_files::MemFiles;
+use outside::Part;
 use reports::{CheckFault, Which};
 use std::alloc::Global;
 use std::test::Fail;

@@ -1,6 +1,7 @@
 //! What no clause says of `outside`: the real file system.
 use crate::checks::{holds, same};
-use outside::{DiskFiles, Failed, FileName, Files, Part, path_of};
+use disk_files::{DiskFiles, path_of};
+use outside::{Failed, FileName, Files, Part};
 use std::alloc::{AllocError, Global};
 use std::fs;
 use std::process::Abort;

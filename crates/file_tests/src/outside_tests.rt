@@ -1,8 +1,8 @@
 //! What no clause says of `outside`: texts, and calls with ample memory.
 use crate::checks::{holds, same};
-use outside::{
-    Failed, FileName, Files, MemFiles, MemSink, OutSink, Part, Sink, SureFiles, path_of,
-};
+use disk_files::{OutSink, path_of};
+use memory_files::{MemFiles, MemSink, SureFiles};
+use outside::{Failed, FileName, Files, Part, Sink};
 use std::alloc::Global;
 use std::process::Abort;
 use std::test::Fail;

@@ -1,8 +1,8 @@
 -- The files that are built from a seed and a number of rows.
 use Rattle.std.specs.Prelude.{◌≡◌, ℕ, List, ◌∷◌, codes}
 use Rattle.outside.specs.declared.files.Part.TheVariants.{Segment, Slru}
-use Rattle.outside.specs.Held.{no_names, with_file}
-use Rattle.outside.specs.Memory.{sure_state}
+use Rattle.memory_files.specs.Held.{no_names, with_file}
+use Rattle.memory_files.specs.Memory.{sure_state}
 use Rattle.outside.specs.Outside.{Names}
 use Rattle.case_file.specs.Generated.{generated_case}
 use Rattle.rel_build.specs.declared.build.BuiltCase.{BuiltCase}

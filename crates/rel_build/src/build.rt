@@ -1,6 +1,6 @@
 //! The files and the case of a generated table.
 ghost use Rattle.std.specs.Prelude.{◌≡◌, ◌↔◌, ◌<◌, ◌≤◌, Err, IfOk};
-ghost use Rattle.outside.specs.Memory.{sure_state};
+ghost use Rattle.memory_files.specs.Memory.{sure_state};
 ghost use Rattle.rel_build.specs.Files.{IsBuilt, commit_log, held_with};
 
 use crate::fault::BuildFault;
@@ -8,7 +8,8 @@ use crate::rows::{ROWS_ON_PAGE, pages_for, rows_below};
 use crate::table::table_file;
 use crate::trees::{Key, sort_by_group, tree_blocks, tree_file};
 use case_file::Case;
-use outside::{NoMemory, Part, SureFiles};
+use memory_files::SureFiles;
+use outside::{NoMemory, Part};
 use page_write::push_zeros;
 use std::alloc::Global;
 

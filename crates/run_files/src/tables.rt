@@ -1,7 +1,8 @@
 //! Heap pages that are laid item by item, the logs and case texts beside them, and runs of these with the reports
 //! that they should write.
 use amcheck::run;
-use outside::{Files, MemFiles, MemSink, Part};
+use memory_files::{MemFiles, MemSink};
+use outside::{Files, Part};
 use std::alloc::Global;
 use std::test::Fail;
 use test_files::put;

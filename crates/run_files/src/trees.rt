@@ -1,6 +1,7 @@
 //! Index files: pages of a tree that are laid tuple by tuple, and a metapage before them.
 use crate::tables::{CLUSTER, case_files};
-use outside::{MemFiles, Part};
+use memory_files::MemFiles;
+use outside::Part;
 use std::alloc::Global;
 use std::test::Fail;
 use test_files::put;

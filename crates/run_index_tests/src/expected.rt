@@ -1,6 +1,7 @@
 //! Runs, and what they should answer and write.
 use crate::laid::{case_alone, files_of};
-use outside::{MemFiles, MemSink, Part};
+use memory_files::{MemFiles, MemSink};
+use outside::Part;
 use run_files::{report_of, run_words};
 use std::alloc::Global;
 use std::process::Abort;

@@ -2,7 +2,8 @@
 //! is refused.
 use crate::expected::{NUMBER, TEXT, expect_each, expect_in_order, expect_index, expect_laid};
 use crate::laid::{THREE, TWO_LEVELS, add_tree, files_of, heap_file, tree_file};
-use outside::{MemFiles, Part};
+use memory_files::MemFiles;
+use outside::Part;
 use run_files::{CLUSTER, INDEX, INT_COLUMN, case_files, put_over};
 use std::alloc::Global;
 use std::process::Abort;

@@ -4,7 +4,8 @@ use crate::expected::{
     NUMBER, TEXT, expect_each, expect_in_order, expect_index, expect_laid, expect_report,
 };
 use crate::laid::{THREE, add_tree, files_of, heap_file, heap_files};
-use outside::{MemFiles, MemSink, Part};
+use memory_files::{MemFiles, MemSink};
+use outside::Part;
 use run_files::{CLEAN, CLUSTER, INDEX, INT_COLUMN, run_words};
 use std::alloc::Global;
 use std::process::Abort;

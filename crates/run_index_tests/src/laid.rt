@@ -25,7 +25,8 @@
 //! | `7>2` | a downlink to block 2 with the separator 7; to block 0, `7>`, a high key |
 //! | `7+1>2` | the same where the separator has the TID of item 1 |
 //! | `0.1.4010#076869` | a tuple: block, item, info and its body |
-use outside::{MemFiles, Part};
+use memory_files::MemFiles;
+use outside::Part;
 use run_files::{CLUSTER, case_files};
 use std::alloc::Global;
 use std::test::Fail;

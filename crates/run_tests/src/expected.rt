@@ -1,5 +1,5 @@
 //! Runs, and what they should answer and write.
-use outside::{MemFiles, MemSink};
+use memory_files::{MemFiles, MemSink};
 use run_files::{report_of, run_words};
 use std::alloc::Global;
 use std::process::Abort;

@@ -1,6 +1,7 @@
 //! Runs in which one call on the files or on the sink fails, each call in turn.
 use crate::expected::{expect_first_put, expect_in};
-use outside::{MemFiles, MemSink, Part};
+use memory_files::{MemFiles, MemSink};
+use outside::Part;
 use run_files::{
     CLEAN, CLUSTER, EXTERNAL, INDEX, INT_COLUMN, IndexTuple, Item, LONE_LEAF, NINE, SUCCESSOR,
     TEXT_IN_TOAST, THREE, THREE_ROWS, TWO_LEVELS, TreePage, Tuple, UPDATED, case_files, chunk_page,

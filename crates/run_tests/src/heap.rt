@@ -1,7 +1,8 @@
 //! Runs of `heap` on small cases: each rule of a heap broken and kept, and each reason why a tuple can't be judged.
 use crate::expected::{expect, expect_heap};
 use crate::pages::{At, expect_items, expect_page, files_of, page_with};
-use outside::{MemFiles, Part};
+use memory_files::MemFiles;
+use outside::Part;
 use run_files::{
     BOOL_AND_TEXT, CLUSTER, INT_COLUMN, Item, LIVE, POINTER, SUCCESSOR, TEXT_IN_TOAST, THREE_ROWS,
     Tuple, UPDATED, case_files, chunk_page, page_of,

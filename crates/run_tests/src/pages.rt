@@ -1,6 +1,6 @@
 //! Pages of a heap that are laid from tables of plain numbers, and the files of a case around a page.
 use crate::expected::expect_heap;
-use outside::MemFiles;
+use memory_files::MemFiles;
 use run_files::{
     CLUSTER, DEAD, INT_COLUMN, Item, LIVE, Tuple, UNUSED, case_files, normal, page_of, redirect,
 };

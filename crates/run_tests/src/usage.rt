@@ -1,6 +1,7 @@
 //! Words, files and cases that are refused; single pages; and calls that fail.
 use crate::expected::{Run, expect, expect_first_put, expect_heap, expect_runs};
-use outside::{MemFiles, Part};
+use memory_files::MemFiles;
+use outside::Part;
 use run_files::{
     CLEAN, CLUSTER, INT_COLUMN, Item, LIVE, THREE, Tuple, case_files, index_file, page_of,
 };

@@ -4,8 +4,9 @@
 use bt_levels::{SoundTree, TreeFile, check_tree};
 use bt_search::{Visits, descend};
 use case_file::read_case;
+use disk_files::{DiskFiles, OutSink};
 use key_orders::{Scan, Value};
-use outside::{DiskFiles, OutSink, Sink};
+use outside::Sink;
 use rel_files::ReadFault;
 use reports::Report;
 use std::alloc::Global;

@@ -1,5 +1,6 @@
 //! Whole builds against numbers from outside.
-use outside::{Failed, FileName, Files, Part, SureFiles};
+use memory_files::SureFiles;
+use outside::{Failed, FileName, Files, Part};
 use rel_build::{BuildFault, build_case};
 use std::alloc::Global;
 use std::process::Abort;

@@ -1,8 +1,8 @@
 use Rattle.std.proofs.Common.{◌≡◌, ◌∙◌, ap, List, ℕ, codes}
 use Rattle.outside.specs.declared.files.Part.{Part}
 use Rattle.outside.specs.declared.files.Part.TheVariants.{Segment, Slru}
-use Rattle.outside.specs.Held.{no_names, with_file}
-use Rattle.outside.specs.Memory.{SureState}
+use Rattle.memory_files.specs.Held.{no_names, with_file}
+use Rattle.memory_files.specs.Memory.{SureState}
 use Rattle.outside.specs.Outside.{Names}
 use Rattle.rel_build.specs.Files.{held_with}
 use Rattle.rel_build.proofs.build.held_with.Goals as goal

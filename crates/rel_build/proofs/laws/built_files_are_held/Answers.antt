@@ -2,7 +2,7 @@ use Rattle.std.proofs.Common.{◌≡◌, ℕ, List, codes, refl, Bool, true, fal
 use Rattle.std.proofs.lemmas.Bool.{cond-false, ne_eqb}
 use Rattle.outside.specs.declared.files.Part.TheVariants.{Segment, Slru}
 use Rattle.std.specs.Str.{bytes_eq}
-use Rattle.outside.specs.Held.{no_names, with_file}
+use Rattle.memory_files.specs.Held.{no_names, with_file}
 use Rattle.outside.specs.Outside.{Names}
 use Rattle.rel_build.specs.declared.trees.Key.TheVariants.{Group, Id}
 use Rattle.rel_build.specs.Files.{built_files, commit_log, held_with}

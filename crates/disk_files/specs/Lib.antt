@@ -1,0 +1,3 @@
+pub mod Edge
+pub mod Pages
+pub mod Paths

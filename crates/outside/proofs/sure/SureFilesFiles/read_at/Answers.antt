@@ -1,6 +1,0 @@
--- What is told is what is held.
-use Rattle.std.proofs.Common.{refl}
-use Rattle.outside.proofs.sure.SureFilesFiles.read_at.Goals as goal
-
-pub copy-requires : goal.copy-requires
-copy-requires c = c.requires _ refl
