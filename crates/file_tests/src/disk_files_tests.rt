@@ -1,4 +1,4 @@
-//! What no clause says of `outside`: the real file system.
+//! What no clause says of `disk_files`: the real file system.
 use crate::checks::{holds, same};
 use disk_files::{DiskFiles, path_of};
 use outside::{Failed, FileName, Files, Part};

@@ -1,4 +1,4 @@
-//! What no clause says of `outside`: texts, and calls with ample memory.
+//! What no clause says of `outside`, `memory_files` and `disk_files`: texts, and calls with ample memory.
 use crate::checks::{holds, same};
 use disk_files::{OutSink, path_of};
 use memory_files::{MemFiles, MemSink, SureFiles};
