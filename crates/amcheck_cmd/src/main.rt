@@ -1,7 +1,7 @@
 //! The command line of the checker: the words, the real files and standard output are given to `run` of `amcheck`.
 #![tactic(auto)]
 
-use amcheck::run;
+use cmd_run::run;
 use disk_files::{DiskFiles, OutSink};
 use std::env;
 use std::io::{self, ErrorKind};

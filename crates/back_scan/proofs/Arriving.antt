@@ -5,20 +5,20 @@ use Rattle.std.proofs.lemmas.Bool.{both_ways, cases_Bool, cases_lt, cond-false, 
 use Rattle.outside.specs.Outside.{Names}
 use Rattle.page_layout.specs.Page.{count_of, page_rule_of}
 use Rattle.page_layout.specs.declared.page.PageKind.TheVariants.{Tree}
-use Rattle.tree_search.specs.Back.{Back, BackState, Over, Reads, Seeks, back_start}
-use Rattle.tree_search.specs.Keys.{Entry}
-use Rattle.tree_search.specs.Order.{Scan}
-use Rattle.tree_search.specs.Search.{right_of}
-use Rattle.tree_search.specs.Tree.{Index}
-use Rattle.tree_search_back.specs.Answers.{AnswersBack}
-use Rattle.tree_search_back.specs.Spots.{GoesBack, LeadsBack, SeeksOn, StandsBack, VisitsBack, from_place_back, left_back, visits_back}
+use Rattle.laws_search.specs.Back.{Back, BackState, Over, Reads, Seeks, back_start}
+use Rattle.laws_search.specs.Keys.{Entry}
+use Rattle.laws_search.specs.Order.{Scan}
+use Rattle.laws_search.specs.Search.{right_of}
+use Rattle.laws_search.specs.Tree.{Index}
+use Rattle.laws_back_search.specs.Answers.{AnswersBack}
+use Rattle.laws_back_search.specs.Spots.{GoesBack, LeadsBack, SeeksOn, StandsBack, VisitsBack, from_place_back, left_back, visits_back}
 use Rattle.key_orders.specs.declared.columns.Value.{Value}
 use Rattle.key_orders.specs.declared.Tid.{Tid}
 use Rattle.key_orders.specs.Scans.{Bounds}
 use Rattle.key_attrs.specs.Columns.{TreeColumns}
 use Rattle.bt_meta.specs.Flags.{is_half_dead, is_leaf}
 use Rattle.bt_meta.specs.Pages.{opaque_of}
-use Rattle.tree_image.specs.Image.{TreePage, first_data, has_high_key, page_image}
+use Rattle.bt_image.specs.Image.{TreePage, first_data, has_high_key, page_image}
 use Rattle.bt_levels.specs.declared.sound.SoundTree.{SoundTree}
 use Rattle.bt_levels.specs.Sound.{HoldsTree, block_count, fastroot_of, held_block, image_of, index_columns, specs_of}
 use Rattle.bt_steps.specs.declared.inner.Step.{Step}

@@ -4,8 +4,8 @@ use Rattle.std.specs.Prelude.{◌==◌}
 use Rattle.std.proofs.lemmas.Bool.{cases_lt, cond-false, cond-true, eq-eqb, ne_eqb}
 use Rattle.page_layout.specs.Page.{count_of}
 use Rattle.key_attrs.specs.Columns.{TreeColumns}
-use Rattle.tree_image.specs.Image.{first_data}
-use Rattle.tree_image.proofs.PageFields.{first_cases}
+use Rattle.bt_image.specs.Image.{first_data}
+use Rattle.bt_image.proofs.PageFields.{first_cases}
 use Rattle.bt_steps.specs.Entries.{entries_before, keys_at, place_of}
 use Rattle.bt_steps.proofs.Places.{before-first, before-next}
 use Rattle.bt_search.specs.declared.spot.Spot.{Spot}

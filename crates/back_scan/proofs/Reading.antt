@@ -5,16 +5,16 @@ use Rattle.std.proofs.lemmas.Bool.{cases_Bool, cases_lt, cond-false, ne_eqb, or_
 use Rattle.outside.specs.Outside.{Names}
 use Rattle.page_layout.specs.Page.{count_of, page_rule_of}
 use Rattle.page_layout.specs.declared.page.PageKind.TheVariants.{Tree}
-use Rattle.tree_search.specs.Back.{BackState, Reads}
-use Rattle.tree_search.specs.Keys.{Entry}
-use Rattle.tree_search.specs.Search.{right_of}
-use Rattle.tree_search_back.specs.Spots.{GoesBack, IsReadBack, StandsBack, from_place_back}
+use Rattle.laws_search.specs.Back.{BackState, Reads}
+use Rattle.laws_search.specs.Keys.{Entry}
+use Rattle.laws_search.specs.Search.{right_of}
+use Rattle.laws_back_search.specs.Spots.{GoesBack, IsReadBack, StandsBack, from_place_back}
 use Rattle.key_orders.specs.declared.columns.Value.{Value}
 use Rattle.key_orders.specs.declared.Tid.{Tid}
 use Rattle.key_orders.specs.Scans.{Bounds}
 use Rattle.bt_meta.specs.Flags.{is_half_dead, is_leaf}
 use Rattle.bt_meta.specs.Pages.{is_idle, opaque_of}
-use Rattle.tree_image.specs.Image.{first_data, page_image}
+use Rattle.bt_image.specs.Image.{first_data, page_image}
 use Rattle.bt_levels.specs.declared.sound.SoundTree.{SoundTree}
 use Rattle.bt_levels.specs.Sound.{HoldsTree, block_count, held_block, image_of, index_columns}
 use Rattle.bt_steps.specs.Entries.{entries_before, keys_at, place_of}

@@ -1,6 +1,6 @@
 -- What a search from the high bound down goes by.
 use Rattle.std.specs.Prelude.{List}
-use Rattle.tree_search.specs.Keys.{reaches_beyond}
+use Rattle.laws_search.specs.Keys.{reaches_beyond}
 use Rattle.key_orders.specs.declared.columns.KeySpec.{KeySpec}
 use Rattle.key_orders.specs.Keys.{columns_of}
 use Rattle.key_orders.specs.Scans.{Bounds}

@@ -1,13 +1,13 @@
 -- What a reader finds on a leaf, from a spot down.
 use Rattle.std.specs.Prelude.{◌≡◌, ℕ, ◌+◌, ◌<◌, ◌≤◌, length, List, [], ◌∷◌, Some}
 use Rattle.outside.specs.Outside.{Names}
-use Rattle.tree_search.specs.Back.{Reads}
-use Rattle.tree_search.specs.Keys.{Entry}
+use Rattle.laws_search.specs.Back.{Reads}
+use Rattle.laws_search.specs.Keys.{Entry}
 use Rattle.key_orders.specs.declared.columns.Value.{Value}
 use Rattle.key_orders.specs.declared.Tid.{Tid}
 use Rattle.key_orders.specs.Scans.{Bounds}
 use Rattle.key_attrs.specs.Columns.{TreeColumns}
-use Rattle.tree_image.specs.Image.{first_data}
+use Rattle.bt_image.specs.Image.{first_data}
 use Rattle.bt_levels.specs.declared.sound.SoundTree.{SoundTree}
 use Rattle.bt_levels.specs.Sound.{index_columns}
 use Rattle.bt_steps.specs.Entries.{IsRead, keys_at}

@@ -3,14 +3,14 @@
 use Rattle.std.specs.Prelude.{◌≡◌, ◌≢◌, ◌<◌, ◌≤◌, ℕ, ◌+◌, ◌==◌, cond, length, List, [], ◌∷◌, Some, None, Option}
 use Rattle.outside.specs.Outside.{Names}
 use Rattle.page_layout.specs.Page.{count_of}
-use Rattle.tree_search.specs.Back.{BackState, Over}
-use Rattle.tree_search.specs.Keys.{Entry}
-use Rattle.tree_search_back.specs.Spots.{GoesLeftTo, SeeksAt, StandsBack, from_place_back, left_back, rest_back}
+use Rattle.laws_search.specs.Back.{BackState, Over}
+use Rattle.laws_search.specs.Keys.{Entry}
+use Rattle.laws_back_search.specs.Spots.{GoesLeftTo, SeeksAt, StandsBack, from_place_back, left_back, rest_back}
 use Rattle.key_orders.specs.declared.columns.Value.{Value}
 use Rattle.key_orders.specs.declared.Tid.{Tid}
 use Rattle.key_orders.specs.Scans.{Bounds}
 use Rattle.key_attrs.specs.Columns.{TreeColumns}
-use Rattle.tree_image.specs.Image.{first_data}
+use Rattle.bt_image.specs.Image.{first_data}
 use Rattle.bt_levels.specs.declared.sound.SoundTree.{SoundTree}
 use Rattle.bt_levels.specs.Sound.{fastroot_of, held_block, image_of, index_columns}
 use Rattle.bt_steps.specs.Entries.{keys_at, place_of}

@@ -1,10 +1,10 @@
 -- A backward search of an index that the names hold, step by step.
 use Rattle.std.specs.Prelude.{◌+◌, List, reverse}
 use Rattle.outside.specs.Outside.{Names}
-use Rattle.tree_search.specs.Keys.{Entry}
-use Rattle.tree_search.specs.Search.{IsWanted}
-use Rattle.tree_search_back.specs.Answers.{AnswersBack}
-use Rattle.tree_search_back.specs.Spots.{GoesBack}
+use Rattle.laws_search.specs.Keys.{Entry}
+use Rattle.laws_search.specs.Search.{IsWanted}
+use Rattle.laws_back_search.specs.Answers.{AnswersBack}
+use Rattle.laws_back_search.specs.Spots.{GoesBack}
 use Rattle.key_orders.specs.declared.columns.Value.{Value}
 use Rattle.key_orders.specs.declared.Tid.{Tid}
 use Rattle.key_orders.specs.Scans.{Bounds, order_of}

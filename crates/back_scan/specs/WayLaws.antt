@@ -2,7 +2,7 @@
 -- here: a law can't name what stands in proofs/.
 use Rattle.std.specs.Prelude.{ℕ, zero, suc, [], ◌∷◌, List}
 use Rattle.std.specs.Cmp.{IsTotalOrder}
-use Rattle.tree_search_back.proofs.Reach.{reaches_of_lower}
+use Rattle.laws_back_search.proofs.Reach.{reaches_of_lower}
 use Rattle.key_orders.specs.declared.columns.KeySpec.{KeySpec}
 use Rattle.key_orders.specs.Keys.{columns_of, tid_order}
 use Rattle.key_orders.specs.OrderLaws.{directed_total, value_order_total, with_nulls_total}

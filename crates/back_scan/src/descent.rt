@@ -2,9 +2,9 @@
 ghost use Rattle.std.specs.Prelude.{◌≡◌, ◌≢◌, ◌<◌, ◌≤◌, ◌+◌, ◌-◌, ◌*◌, ◌^◌, ◌↔◌, [], List, reverse, IfOk, OnOk};
 ghost use Rattle.outside.specs.Outside.{AskedAtMost, IfTold, Tells};
 ghost use Rattle.rel_files.specs.Faults.{read_fault};
-ghost use Rattle.tree_search.specs.Back.{Reads, Seeks, back_start};
-ghost use Rattle.tree_search.specs.Keys.{Entry as Given};
-ghost use Rattle.tree_search_back.specs.Answers.{AnswersBack};
+ghost use Rattle.laws_search.specs.Back.{Reads, Seeks, back_start};
+ghost use Rattle.laws_search.specs.Keys.{Entry as Given};
+ghost use Rattle.laws_back_search.specs.Answers.{AnswersBack};
 ghost use Rattle.key_orders.specs.declared.columns.Value.{Value};
 ghost use Rattle.key_orders.specs.declared.Tid.{Tid as Place};
 ghost use Rattle.key_orders.specs.Scans.{FitsKey};

@@ -5,13 +5,13 @@ ghost use Rattle.page_layout.specs.View.{page_bytes};
 ghost use Rattle.key_attrs.specs.Columns.{TreeColumns as Columns};
 ghost use Rattle.bt_meta.specs.Flags.{is_half_dead};
 ghost use Rattle.bt_meta.specs.Pages.{opaque_of};
-ghost use Rattle.tree_image.specs.Image.{first_data};
+ghost use Rattle.bt_image.specs.Image.{first_data};
 ghost use Rattle.back_scan.specs.Leaves.{IsLastIfRead};
 
+use bt_image::first_data;
 use bt_meta::opaque;
 use bt_search::{Spot, entries_at};
 use page_layout::{PageKind, PageView};
-use tree_image::first_data;
 
 /// No place.
 pub const NOWHERE: Spot = Spot {

@@ -7,14 +7,14 @@ use Rattle.std.specs.Ordering.{is_lt, ordering_reverse}
 use Rattle.std.proofs.lemmas.Bool.{eq-eqb}
 use Rattle.std.proofs.lemmas.List.Elements.{All-head, All-tail}
 use Rattle.std.proofs.lemmas.List.Sorted.{IsPermutation-refl, sum_by_pushed}
-use Rattle.tree_search.specs.Keys.{Separator, as_separator, compare_keys}
+use Rattle.laws_search.specs.Keys.{Separator, as_separator, compare_keys}
 use Rattle.key_orders.specs.declared.columns.KeySpec.{KeySpec}
 use Rattle.key_orders.specs.declared.columns.Value.{Value}
 use Rattle.key_orders.specs.declared.Tid.{Tid}
 use Rattle.key_orders.specs.Keys.{columns_of, tid_order}
-use Rattle.row_slots.specs.Met.{same_tid}
-use Rattle.row_slots.proofs.SlotLaws.{tid_is}
-use Rattle.tree_image.specs.Image.{LeafEntry}
+use Rattle.join_slots.specs.Met.{same_tid}
+use Rattle.join_slots.proofs.SlotLaws.{tid_is}
+use Rattle.bt_image.specs.Image.{LeafEntry}
 use Rattle.bt_build.specs.Listed.{AreApart}
 use Rattle.bt_build.proofs.RisingLaws.{AllDiffer, Differ}
 

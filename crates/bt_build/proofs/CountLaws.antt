@@ -2,8 +2,8 @@
 use Rattle.std.proofs.Common.{◌≡◌, ◌+◌, ◌∙◌, ℕ, Bool, true, false, cond, List, [], ◌∷◌, length, map, refl, sym, ap, arith}
 use Rattle.std.specs.Prelude.{Option, nat_le}
 use Rattle.std.proofs.Math.Seq.{drop-append_seam, take-append_seam}
-use Rattle.tree_built.specs.Cuts.{fill, fill_pages, joined}
-use Rattle.tree_built.proofs.Fill.{fill_cuts}
+use Rattle.laws_building.specs.Cuts.{fill, fill_pages, joined}
+use Rattle.laws_building.proofs.Fill.{fill_cuts}
 use Rattle.bt_build.specs.Pages.{counts_from, cut_by, first_size, page_counts}
 
 module _ {X : Type 0} where

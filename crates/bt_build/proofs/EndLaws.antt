@@ -7,15 +7,15 @@ use Rattle.std.proofs.lemmas.Bool.{cases_Bool, le-ltb, ltb-false}
 use Rattle.std.proofs.Math.Seq.{take-append_seam}
 use Rattle.std.proofs.lemmas.List.Elements.{All-from_recursion, recursion_from_All}
 use Rattle.std.proofs.lemmas.List.Sorted.{All-permutation, IsPermutation-map, sum_by-IsPermutation}
-use Rattle.tree_search.specs.Order.{IsOrder}
-use Rattle.tree_search.proofs.Rising.{Rising, adjacent_from_rising}
+use Rattle.laws_search.specs.Order.{IsOrder}
+use Rattle.laws_search.proofs.Rising.{Rising, adjacent_from_rising}
 use Rattle.key_orders.specs.declared.columns.KeySpec.{KeySpec}
 use Rattle.key_orders.specs.declared.more.MoreSpec.{MoreSpec}
 use Rattle.key_orders.specs.declared.Tid.{Tid}
 use Rattle.key_orders.specs.Scans.{order_of}
-use Rattle.tree_image.specs.Image.{LeafEntry}
-use Rattle.built_pages.specs.Items.{MayBeLaid, plain_item, tids_of}
-use Rattle.built_pages.specs.Sizes.{AreIndexable, entry_in}
+use Rattle.bt_image.specs.Image.{LeafEntry}
+use Rattle.laws_built_index.specs.Items.{MayBeLaid, plain_item, tids_of}
+use Rattle.laws_built_index.specs.Sizes.{AreIndexable, entry_in}
 use Rattle.bt_build.specs.declared.build.BuiltTree.{BuiltTree}
 use Rattle.bt_build.specs.declared.entries.Place.{Place}
 use Rattle.bt_build.specs.declared.fault.IndexFault.{IndexFault}

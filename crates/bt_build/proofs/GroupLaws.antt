@@ -8,15 +8,15 @@ use Rattle.std.proofs.Math.Seq.{drop-cons, drop-drop}
 use Rattle.key_orders.specs.declared.columns.KeySpec.{KeySpec}
 use Rattle.key_orders.specs.declared.more.MoreSpec.{MoreSpec}
 use Rattle.bt_tuples.specs.Rules.{includes_some}
-use Rattle.tree_image.specs.Image.{LeafEntry}
-use Rattle.tree_built.specs.Groups.{Grouping, greatest, group_up_to, grouped, may_have, more_of, run_length}
+use Rattle.bt_image.specs.Image.{LeafEntry}
+use Rattle.laws_building.specs.Groups.{Grouping, greatest, group_up_to, grouped, may_have, more_of, run_length}
 use Rattle.page_write.specs.Bodies.{body_flags, index_body}
 use Rattle.page_write.specs.Posting.{posting_size}
 use Rattle.page_write.specs.Tuples.{index_size}
 use Rattle.page_write.proofs.PostingReading.{length_posting}
 use Rattle.page_write.proofs.TupleReading.{length_plain}
-use Rattle.built_pages.specs.Items.{entry_types, leaf_item, tids_of}
-use Rattle.built_pages.specs.Sizes.{grouping_of, items_for}
+use Rattle.laws_built_index.specs.Items.{entry_types, leaf_item, tids_of}
+use Rattle.laws_built_index.specs.Sizes.{grouping_of, items_for}
 use Rattle.bt_build.specs.declared.entries.Place.{Place}
 use Rattle.bt_build.specs.declared.groups.Item.{Item}
 use Rattle.bt_build.specs.Kept.{IsKept, entries_at, entry_at}

@@ -8,16 +8,16 @@ use Rattle.key_orders.specs.declared.columns.KeySpec.{KeySpec}
 use Rattle.key_orders.specs.declared.columns.Value.{Value}
 use Rattle.key_orders.specs.declared.more.MoreSpec.{MoreSpec}
 use Rattle.key_orders.specs.declared.columns.ColType.{ColType}
-use Rattle.tree_search.specs.Keys.{compare_values}
+use Rattle.laws_search.specs.Keys.{compare_values}
 use Rattle.key_orders.specs.Keys.{columns_of, fits_columns}
 use Rattle.key_prefixes.specs.Prefixes.{IsPrefix}
-use Rattle.stored_keys.specs.Stored.{IsStorable, key_read, stored_key}
-use Rattle.stored_keys.specs.RowLists.{LiesAt}
-use Rattle.stored_keys.proofs.RowLaws.{lies_last, lies_more, read_there}
-use Rattle.tree_image.specs.Image.{LeafEntry, leaf_entry}
+use Rattle.key_storage.specs.Stored.{IsStorable, key_read, stored_key}
+use Rattle.key_storage.specs.RowLists.{LiesAt}
+use Rattle.key_storage.proofs.RowLaws.{lies_last, lies_more, read_there}
+use Rattle.bt_image.specs.Image.{LeafEntry, leaf_entry}
 use Rattle.page_write.specs.Bodies.{IsShortEnough}
 use Rattle.page_write.specs.Fields.{IsTid}
-use Rattle.built_pages.specs.Items.{MayBeLaid, entry_types}
+use Rattle.laws_built_index.specs.Items.{MayBeLaid, entry_types}
 use Rattle.bt_build.specs.declared.entries.Place.{Place}
 use Rattle.bt_build.specs.Kept.{AreKept, HasPrefix, IsKept, entries_at, entry_at, entry_with, listed_in, told_length}
 use Rattle.bt_build.specs.Listed.{AreApart, AreColumns, AreValues, IsNewTid}

@@ -8,11 +8,11 @@ use Rattle.std.proofs.lemmas.List.Elements.{All-head, All-tail}
 use Rattle.key_orders.specs.declared.columns.KeySpec.{KeySpec}
 use Rattle.key_orders.specs.declared.more.MoreSpec.{MoreSpec}
 use Rattle.key_orders.specs.declared.Tid.{Tid}
-use Rattle.tree_image.specs.Image.{LeafEntry}
+use Rattle.bt_image.specs.Image.{LeafEntry}
 use Rattle.page_write.specs.Bodies.{body_flags, index_body}
 use Rattle.page_write.specs.Tuples.{index_size}
 use Rattle.page_write.proofs.TupleReading.{length_plain}
-use Rattle.built_pages.specs.Items.{entry_types, tids_of}
+use Rattle.laws_built_index.specs.Items.{entry_types, tids_of}
 use Rattle.bt_build.specs.declared.entries.Place.{Place}
 use Rattle.bt_build.specs.Kept.{IsKept, entries_at, entry_at}
 use Rattle.bt_build.specs.Outcome.{is_too_large, large_among, lower_tid, lowest_tid}

@@ -9,7 +9,7 @@ use Rattle.page_write.specs.declared.index_tuples.BodyFlags.{BodyFlags}
 use Rattle.page_write.specs.Bodies.{body_flags, index_body}
 use Rattle.page_write.specs.Posting.{HasListRoom, posting_tuple}
 use Rattle.page_write.specs.Tuples.{plain_tuple}
-use Rattle.built_pages.specs.Items.{entry_types, leaf_item, tids_of}
+use Rattle.laws_built_index.specs.Items.{entry_types, leaf_item, tids_of}
 use Rattle.bt_build.specs.declared.entries.Place.{Place}
 use Rattle.bt_build.specs.declared.groups.Item.{Item}
 use Rattle.bt_build.specs.Groups.{IsItem, entries_in, size_with}

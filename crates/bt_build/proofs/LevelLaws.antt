@@ -3,17 +3,17 @@ use Rattle.std.proofs.Common.{◌≡◌, ◌≤◌, ◌<◌, ◌+◌, ◌-◌, �
 use Rattle.std.specs.Prelude.{Option, Some, None, unwrap_or, ⊤}
 use Rattle.std.specs.List.{AllByRecursion}
 use Rattle.std.proofs.Math.Seq.{drop-drop}
-use Rattle.tree_search.specs.Levels.{Downlink, is_single}
-use Rattle.tree_search.specs.Search.{last_or}
+use Rattle.laws_search.specs.Levels.{Downlink, is_single}
+use Rattle.laws_search.specs.Search.{last_or}
 use Rattle.key_orders.specs.declared.columns.KeySpec.{KeySpec}
 use Rattle.key_orders.specs.declared.more.MoreSpec.{MoreSpec}
-use Rattle.tree_image.specs.Image.{LeafEntry, minus_infinity}
-use Rattle.tree_built.specs.Built.{block_after, gap, internal_sheet, items_of, leaf_sheets, levels_from}
-use Rattle.tree_built.specs.Seen.{item_key, splitter_by}
-use Rattle.tree_built.specs.Sized.{internal_pages, separator_size}
-use Rattle.tree_built.proofs.Tower.{block_after_is}
-use Rattle.built_pages.specs.Items.{pivot_item}
-use Rattle.built_pages.specs.Sizes.{entry_in, sizes_of, splitter_of}
+use Rattle.bt_image.specs.Image.{LeafEntry, minus_infinity}
+use Rattle.laws_building.specs.Built.{block_after, gap, internal_sheet, items_of, leaf_sheets, levels_from}
+use Rattle.laws_building.specs.Seen.{item_key, splitter_by}
+use Rattle.laws_building.specs.Sized.{internal_pages, separator_size}
+use Rattle.laws_building.proofs.Tower.{block_after_is}
+use Rattle.laws_built_index.specs.Items.{pivot_item}
+use Rattle.laws_built_index.specs.Sizes.{entry_in, sizes_of, splitter_of}
 use Rattle.bt_build.specs.declared.groups.Item.{Item}
 use Rattle.bt_build.specs.declared.levels.Level.{Level}
 use Rattle.bt_build.specs.Groups.{Follow, IsItem, entries_in}

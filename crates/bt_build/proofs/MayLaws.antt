@@ -14,8 +14,8 @@ use Rattle.key_orders.specs.Types.{HasAlignment}
 use Rattle.key_attrs.specs.Keyed.{fits_more, key_types, more_types}
 use Rattle.page_write.specs.Bodies.{IsShortEnough, MayAllStand, MayStand}
 use Rattle.page_write.specs.Fields.{IsTid}
-use Rattle.tree_image.specs.Image.{leaf_entry}
-use Rattle.built_pages.specs.Items.{MayBeLaid}
+use Rattle.bt_image.specs.Image.{leaf_entry}
+use Rattle.laws_built_index.specs.Items.{MayBeLaid}
 use Rattle.bt_build.specs.Listed.{AreColumns, AreValues, Listed}
 
 stand_more : (ms : List MoreSpec) (vs : List Value) → length vs ≡ length ms → fits_more ms vs ≡ true → All HasAlignment (more_types ms) → All IsShortEnough vs

@@ -1,13 +1,13 @@
 -- Stored keys, compared value by value.
 use Rattle.std.proofs.Common.{◌≡◌, ◌<◌, ◌+◌, ◌-◌, ◌∙◌, ℕ, zero, suc, true, false, List, [], ◌∷◌, length, refl, sym, ap, arith, add-one, get_or, Ordering, Less, Equal, Greater}
 use Rattle.std.specs.Ordering.{is_ne, ordering_then}
-use Rattle.tree_search.specs.Keys.{compare_values}
+use Rattle.laws_search.specs.Keys.{compare_values}
 use Rattle.key_orders.specs.declared.columns.KeySpec.{KeySpec}
 use Rattle.key_orders.specs.declared.columns.Value.{Value}
 use Rattle.key_orders.specs.Keys.{columns_of}
 use Rattle.key_orders.specs.Orders.{column_order}
-use Rattle.stored_keys.specs.Stored.{value_read, values_read}
-use Rattle.stored_keys.proofs.StoredLaws.{next_read}
+use Rattle.key_storage.specs.Stored.{value_read, values_read}
+use Rattle.key_storage.proofs.StoredLaws.{next_read}
 
 pub then_ne : (o r : Ordering) → is_ne o ≡ true → ordering_then o r ≡ o
 then_ne Less r e = refl

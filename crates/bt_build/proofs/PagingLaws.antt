@@ -5,13 +5,13 @@ use Rattle.std.proofs.lemmas.Bool.{ne_eqb}
 use Rattle.std.proofs.Math.Seq.{drop-cons, drop-drop}
 use Rattle.key_orders.specs.declared.columns.KeySpec.{KeySpec}
 use Rattle.key_orders.specs.declared.more.MoreSpec.{MoreSpec}
-use Rattle.tree_search.specs.Levels.{Downlink}
-use Rattle.tree_image.specs.Image.{LeafEntry, minus_infinity}
+use Rattle.laws_search.specs.Levels.{Downlink}
+use Rattle.bt_image.specs.Image.{LeafEntry, minus_infinity}
 use Rattle.page_write.specs.Pages.{FitsBelow, tree_page}
-use Rattle.tree_built.specs.Built.{first_lower, internal_sheet, is_bottom, next_block, page_of}
-use Rattle.built_pages.specs.Items.{leaf_item, pivot_item}
-use Rattle.built_pages.specs.Pages.{high_items, items_of}
-use Rattle.built_pages.specs.Trees.{ItemPage, laid_of, page_bytes, tuples_in}
+use Rattle.laws_building.specs.Built.{first_lower, internal_sheet, is_bottom, next_block, page_of}
+use Rattle.laws_built_index.specs.Items.{leaf_item, pivot_item}
+use Rattle.laws_built_index.specs.Pages.{high_items, items_of}
+use Rattle.laws_built_index.specs.Trees.{ItemPage, laid_of, page_bytes, tuples_in}
 use Rattle.bt_build.specs.declared.groups.Item.{Item}
 use Rattle.bt_build.specs.Groups.{entries_in}
 use Rattle.bt_build.specs.Laid.{AreLeftToLay, block_behind, bytes_for, high_bound, high_tuples, inner_tuples, later_tuples, leaf_tuples, level_bytes, special_at}

@@ -3,11 +3,11 @@ use Rattle.std.proofs.Common.{◌≡◌, ◌≤◌, ◌<◌, ◌+◌, ◌∙◌,
 use Rattle.page_layout.specs.Page.{max_align}
 use Rattle.key_orders.specs.declared.columns.KeySpec.{KeySpec}
 use Rattle.key_orders.specs.declared.more.MoreSpec.{MoreSpec}
-use Rattle.tree_image.specs.Image.{LeafEntry}
+use Rattle.bt_image.specs.Image.{LeafEntry}
 use Rattle.page_write.specs.Writing.{HasRoom, HoldsItems, free_bytes}
 use Rattle.page_write.specs.declared.page.PageWriter.{PageWriter}
 use Rattle.page_write.proofs.Laying.{room-cons, room-none}
-use Rattle.built_pages.specs.Items.{leaf_item}
+use Rattle.laws_built_index.specs.Items.{leaf_item}
 use Rattle.bt_build.specs.declared.groups.Item.{Item}
 use Rattle.bt_build.specs.Groups.{entries_in}
 use Rattle.bt_build.specs.Laid.{AreBeingPut, bytes_for, later_tuples, leaf_tuples}

@@ -2,10 +2,10 @@
 use Rattle.std.proofs.Common.{◌≡◌, ◌∙◌, Bool, true, false, cond, List, [], ◌∷◌, refl, sym, subst, inl, inr}
 use Rattle.std.specs.Prelude.{◌⊎◌, ⊤}
 use Rattle.std.specs.List.{AllByRecursion}
-use Rattle.tree_search.specs.Order.{IsOrder}
+use Rattle.laws_search.specs.Order.{IsOrder}
 use Rattle.key_orders.specs.declared.columns.KeySpec.{KeySpec}
 use Rattle.key_orders.specs.Scans.{order_of}
-use Rattle.tree_image.specs.Image.{LeafEntry}
+use Rattle.bt_image.specs.Image.{LeafEntry}
 use Rattle.bt_build.specs.Order.{in_order, is_before, put_in_order}
 
 -- where the first of two entries isn't below the second, the second is below the first

@@ -6,8 +6,8 @@ use Rattle.std.specs.declared.cmp.Ordering.{Ordering}
 use Rattle.std.specs.declared.cmp.Ordering.TheVariants.{Less, Equal, Greater}
 use Rattle.std.proofs.lemmas.List.{take-append-le}
 use Rattle.std.proofs.lemmas.List.Elements.{All-get_or}
-use Rattle.tree_search.specs.Keys.{Columns, Separator}
-use Rattle.tree_built.specs.Splits.{keep_by, split_values}
+use Rattle.laws_search.specs.Keys.{Columns, Separator}
+use Rattle.laws_building.specs.Splits.{keep_by, split_values}
 use Rattle.key_orders.specs.declared.columns.ColType.{ColType}
 use Rattle.key_orders.specs.declared.columns.KeySpec.{KeySpec}
 use Rattle.key_orders.specs.declared.columns.Value.{Value}
@@ -16,18 +16,18 @@ use Rattle.key_orders.specs.declared.Tid.{Tid}
 use Rattle.key_orders.specs.Keys.{columns_of}
 use Rattle.key_orders.specs.Scans.{order_of}
 use Rattle.key_orders.specs.Types.{HasAlignment}
-use Rattle.stored_keys.specs.Stored.{values_read}
-use Rattle.stored_keys.proofs.StoredLaws.{values_back}
-use Rattle.stored_keys.proofs.RowLaws.{read_there}
+use Rattle.key_storage.specs.Stored.{values_read}
+use Rattle.key_storage.proofs.StoredLaws.{values_back}
+use Rattle.key_storage.proofs.RowLaws.{read_there}
 use Rattle.key_attrs.specs.Keyed.{key_types, more_types}
-use Rattle.tree_image.specs.Image.{LeafEntry, minus_infinity}
+use Rattle.bt_image.specs.Image.{LeafEntry, minus_infinity}
 use Rattle.page_write.specs.declared.index_tuples.BodyFlags.{BodyFlags}
 use Rattle.page_write.specs.declared.index_tuples.Kept.{Kept}
 use Rattle.page_write.specs.Bodies.{MayAllStand, body_flags, index_body, null_part, with_values}
 use Rattle.page_write.specs.Tuples.{pivot_tuple}
-use Rattle.built_pages.proofs.Short.{length_pivot, length_types, types_front}
-use Rattle.built_pages.specs.Items.{MayBeLaid, MaySplit, entry_types, kept_types, pivot_item, plain_item}
-use Rattle.built_pages.specs.Sizes.{AreIndexable, entry_in}
+use Rattle.laws_built_index.proofs.Short.{length_pivot, length_types, types_front}
+use Rattle.laws_built_index.specs.Items.{MayBeLaid, MaySplit, entry_types, kept_types, pivot_item, plain_item}
+use Rattle.laws_built_index.specs.Sizes.{AreIndexable, entry_in}
 use Rattle.bt_build.specs.declared.entries.Place.{Place}
 use Rattle.bt_build.specs.Kept.{IsKept, entries_at, entry_at}
 use Rattle.bt_build.specs.Separators.{first_split, front_of, split_before, split_of}

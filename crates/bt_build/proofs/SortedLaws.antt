@@ -8,19 +8,19 @@ use Rattle.std.proofs.lemmas.List.Elements.{All-from_recursion, All-head, All-ta
 use Rattle.std.proofs.lemmas.List.Sorted.{All-permutation, IsPermutation-map, IsPermutation-sym, sum_by-IsPermutation}
 use Rattle.std.proofs.lemmas.List.{length-append, length-take}
 use Rattle.std.proofs.Math.Seq.{drop-append_seam, take-append_seam}
-use Rattle.tree_search.specs.Keys.{compare_values}
-use Rattle.tree_search.specs.Order.{IsOrder}
+use Rattle.laws_search.specs.Keys.{compare_values}
+use Rattle.laws_search.specs.Order.{IsOrder}
 use Rattle.key_orders.specs.declared.columns.KeySpec.{KeySpec}
 use Rattle.key_orders.specs.declared.columns.Value.{Value}
 use Rattle.key_orders.specs.declared.more.MoreSpec.{MoreSpec}
 use Rattle.key_orders.specs.declared.Tid.{Tid}
 use Rattle.key_orders.specs.Keys.{columns_of, tid_order}
 use Rattle.key_orders.specs.Scans.{order_of}
-use Rattle.stored_keys.specs.Stored.{stored_value, values_left, values_read}
-use Rattle.stored_keys.proofs.StoredLaws.{read_count, read_two, values_back}
-use Rattle.stored_keys.specs.RowLists.{LiesAt}
-use Rattle.stored_keys.proofs.RowLaws.{read_there}
-use Rattle.tree_image.specs.Image.{LeafEntry}
+use Rattle.key_storage.specs.Stored.{stored_value, values_left, values_read}
+use Rattle.key_storage.proofs.StoredLaws.{read_count, read_two, values_back}
+use Rattle.key_storage.specs.RowLists.{LiesAt}
+use Rattle.key_storage.proofs.RowLaws.{read_there}
+use Rattle.bt_image.specs.Image.{LeafEntry}
 use Rattle.bt_build.specs.declared.entries.Place.{Place}
 use Rattle.bt_build.specs.Kept.{IsKept, entries_at, entry_at}
 use Rattle.bt_build.specs.Listed.{AreApart}

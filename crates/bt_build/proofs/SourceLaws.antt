@@ -8,11 +8,11 @@ use Rattle.key_orders.specs.declared.columns.Value.{Value}
 use Rattle.key_orders.specs.declared.columns.ValueRef.{ValueRef}
 use Rattle.key_orders.specs.declared.more.MoreSpec.{MoreSpec}
 use Rattle.key_orders.specs.Values.{value_shown}
-use Rattle.stored_keys.specs.Stored.{key_read, stored_value, values_read}
-use Rattle.stored_keys.proofs.StoredLaws.{values_back}
-use Rattle.stored_keys.proofs.RowLaws.{read_there}
+use Rattle.key_storage.specs.Stored.{key_read, stored_value, values_read}
+use Rattle.key_storage.proofs.StoredLaws.{values_back}
+use Rattle.key_storage.proofs.RowLaws.{read_there}
 use Rattle.page_write.specs.Bodies.{IsShortEnough, MayAllStand}
-use Rattle.built_pages.specs.Items.{entry_types}
+use Rattle.laws_built_index.specs.Items.{entry_types}
 use Rattle.bt_build.specs.declared.entries.Place.{Place}
 use Rattle.bt_build.specs.Kept.{IsKept, entry_at}
 use Rattle.bt_build.proofs.SortedLaws.{behind_count}

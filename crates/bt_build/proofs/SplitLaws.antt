@@ -3,15 +3,15 @@ use Rattle.std.proofs.Common.{◌≡◌, ◌<◌, ◌+◌, ◌-◌, ◌∙◌, �
 use Rattle.std.specs.Ordering.{is_ne}
 use Rattle.std.specs.declared.cmp.Ordering.{Ordering}
 use Rattle.std.specs.declared.cmp.Ordering.TheVariants.{Less, Equal, Greater}
-use Rattle.tree_search.specs.Keys.{Separator}
-use Rattle.tree_built.specs.Splits.{keep_by, split_values}
+use Rattle.laws_search.specs.Keys.{Separator}
+use Rattle.laws_building.specs.Splits.{keep_by, split_values}
 use Rattle.key_orders.specs.declared.columns.KeySpec.{KeySpec}
 use Rattle.key_orders.specs.declared.columns.Value.{Value}
 use Rattle.key_orders.specs.declared.Tid.{Tid}
 use Rattle.key_orders.specs.Keys.{columns_of}
 use Rattle.key_orders.specs.Orders.{column_order}
-use Rattle.stored_keys.specs.Stored.{value_read, values_read}
-use Rattle.stored_keys.proofs.StoredLaws.{next_read}
+use Rattle.key_storage.specs.Stored.{value_read, values_read}
+use Rattle.key_storage.proofs.StoredLaws.{next_read}
 use Rattle.std.proofs.Common.{get_or}
 use Rattle.bt_build.proofs.OrderLaws.{in_column}
 

@@ -4,18 +4,18 @@ use Rattle.std.specs.Prelude.{None, ◌==◌}
 use Rattle.std.specs.List.{AllByRecursion, flat_map}
 use Rattle.std.proofs.lemmas.Bool.{cond-false, ne_eqb}
 use Rattle.std.proofs.lemmas.List.{length-append}
-use Rattle.tree_search.specs.Tree.{Page}
+use Rattle.laws_search.specs.Tree.{Page}
 use Rattle.key_orders.specs.declared.columns.KeySpec.{KeySpec}
 use Rattle.key_orders.specs.declared.more.MoreSpec.{MoreSpec}
-use Rattle.tree_image.specs.Image.{LeafEntry}
+use Rattle.bt_image.specs.Image.{LeafEntry}
 use Rattle.page_write.specs.Pages.{meta_page}
-use Rattle.tree_built.specs.Built.{block_after, built_levels, lay_level, lay_levels, leaf_sheets, levels_from, no_page, page_at}
-use Rattle.tree_built.specs.Cuts.{fill_pages}
-use Rattle.tree_built.specs.Sized.{internal_pages}
-use Rattle.tree_built.proofs.Tower.{block_after_is, length-lay}
-use Rattle.built_pages.specs.Items.{leaf_item}
-use Rattle.built_pages.specs.Sizes.{index_tree, items_for, sizes_of}
-use Rattle.built_pages.specs.Trees.{IsPageFit, IsTreeFit, ItemPage, ItemTree, meta_in, page_bytes}
+use Rattle.laws_building.specs.Built.{block_after, built_levels, lay_level, lay_levels, leaf_sheets, levels_from, no_page, page_at}
+use Rattle.laws_building.specs.Cuts.{fill_pages}
+use Rattle.laws_building.specs.Sized.{internal_pages}
+use Rattle.laws_building.proofs.Tower.{block_after_is, length-lay}
+use Rattle.laws_built_index.specs.Items.{leaf_item}
+use Rattle.laws_built_index.specs.Sizes.{index_tree, items_for, sizes_of}
+use Rattle.laws_built_index.specs.Trees.{IsPageFit, IsTreeFit, ItemPage, ItemTree, meta_in, page_bytes}
 use Rattle.bt_build.specs.declared.groups.Item.{Item}
 use Rattle.bt_build.specs.declared.levels.Level.{Level}
 use Rattle.bt_build.specs.Groups.{AreItems, Follow, IsItem, entries_in}

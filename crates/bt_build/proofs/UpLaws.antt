@@ -1,13 +1,13 @@
 -- A level that is laid is the next one of its tree.
 use Rattle.std.proofs.Common.{◌≡◌, ◌≤◌, ◌<◌, ◌+◌, ◌∙◌, ℕ, suc, List, [], ◌∷◌, ◌++◌, length, sym, ap, subst, arith, append_assoc}
 use Rattle.std.specs.List.{AllByRecursion, flat_map}
-use Rattle.tree_search.proofs.Lists.{Each-back, Each-front}
+use Rattle.laws_search.proofs.Lists.{Each-back, Each-front}
 use Rattle.key_orders.specs.declared.columns.KeySpec.{KeySpec}
 use Rattle.key_orders.specs.declared.more.MoreSpec.{MoreSpec}
-use Rattle.tree_image.specs.Image.{LeafEntry}
-use Rattle.tree_built.specs.Built.{block_after, lay_level, lay_levels}
-use Rattle.tree_built.proofs.Tower.{block_after_is}
-use Rattle.built_pages.specs.Trees.{IsPageFit, ItemPage, page_bytes}
+use Rattle.bt_image.specs.Image.{LeafEntry}
+use Rattle.laws_building.specs.Built.{block_after, lay_level, lay_levels}
+use Rattle.laws_building.proofs.Tower.{block_after_is}
+use Rattle.laws_built_index.specs.Trees.{IsPageFit, ItemPage, page_bytes}
 use Rattle.bt_build.specs.declared.groups.Item.{Item}
 use Rattle.bt_build.specs.declared.levels.Level.{Level}
 use Rattle.bt_build.specs.Laid.{AreLevelsLeft, level_bytes, levels_bytes}

@@ -3,11 +3,11 @@ use Rattle.std.specs.Prelude.{◌≡◌, ◌≤◌, ◌<◌, ◌+◌, ℕ, zero,
 use Rattle.std.specs.List.{AllByRecursion}
 use Rattle.key_orders.specs.declared.columns.KeySpec.{KeySpec}
 use Rattle.key_orders.specs.declared.more.MoreSpec.{MoreSpec}
-use Rattle.tree_image.specs.Image.{LeafEntry}
+use Rattle.bt_image.specs.Image.{LeafEntry}
 use Rattle.page_write.specs.Posting.{posting_size}
 use Rattle.page_write.specs.Tuples.{index_size}
-use Rattle.built_pages.specs.Items.{leaf_item}
-use Rattle.built_pages.specs.Sizes.{items_for}
+use Rattle.laws_built_index.specs.Items.{leaf_item}
+use Rattle.laws_built_index.specs.Sizes.{items_for}
 use Rattle.bt_build.specs.declared.groups.Item.{Item}
 
 -- the bytes of an item with a body of so many, and so many entries beyond its first

@@ -1,7 +1,7 @@
 -- How the entries are kept: the values of each lie in an arena, and a place says where.
 use Rattle.std.specs.Prelude.{◌≡◌, ◌<◌, true, false, ℕ, List, ◌++◌, length, map, take, drop, min, All}
 use Rattle.std.specs.declared.cmp.Ordering.TheVariants.{Less}
-use Rattle.tree_search.specs.Keys.{compare_values}
+use Rattle.laws_search.specs.Keys.{compare_values}
 use Rattle.key_orders.specs.declared.columns.ColType.{ColType}
 use Rattle.key_orders.specs.declared.columns.KeySpec.{KeySpec}
 use Rattle.key_orders.specs.declared.columns.Value.{Value}
@@ -9,11 +9,11 @@ use Rattle.key_orders.specs.declared.more.MoreSpec.{MoreSpec}
 use Rattle.key_orders.specs.declared.Tid.{Tid}
 use Rattle.key_orders.specs.Keys.{columns_of, fits_columns}
 use Rattle.key_prefixes.specs.Prefixes.{IsPrefix}
-use Rattle.stored_keys.specs.Stored.{key_read}
-use Rattle.stored_keys.specs.RowLists.{LiesAt}
+use Rattle.key_storage.specs.Stored.{key_read}
+use Rattle.key_storage.specs.RowLists.{LiesAt}
 use Rattle.page_write.specs.Bodies.{index_body}
-use Rattle.tree_image.specs.Image.{LeafEntry, leaf_entry}
-use Rattle.built_pages.specs.Items.{MayBeLaid, entry_types}
+use Rattle.bt_image.specs.Image.{LeafEntry, leaf_entry}
+use Rattle.laws_built_index.specs.Items.{MayBeLaid, entry_types}
 use Rattle.bt_build.specs.declared.entries.Place.{Place}
 use Rattle.bt_build.specs.Listed.{AreApart, AreColumns, Listed}
 

@@ -4,15 +4,15 @@ use Rattle.std.specs.Prelude.{length, map, take, drop, Option, Some, None, is_so
 use Rattle.std.specs.List.{AllByRecursion, flat_map}
 use Rattle.key_orders.specs.declared.columns.KeySpec.{KeySpec}
 use Rattle.key_orders.specs.declared.more.MoreSpec.{MoreSpec}
-use Rattle.tree_image.specs.Image.{LeafEntry}
+use Rattle.bt_image.specs.Image.{LeafEntry}
 use Rattle.page_write.specs.Pages.{room_for}
 use Rattle.page_write.specs.Writing.{HoldsItems, free_bytes}
 use Rattle.page_write.specs.declared.page.PageWriter.{PageWriter}
 use Rattle.bt_meta.specs.declared.records.Opaque.{Opaque}
-use Rattle.tree_built.specs.Built.{is_bottom, lay_level, lay_levels}
-use Rattle.built_pages.specs.Items.{leaf_item}
-use Rattle.built_pages.specs.Pages.{flags_of}
-use Rattle.built_pages.specs.Trees.{IsPageFit, page_bytes}
+use Rattle.laws_building.specs.Built.{is_bottom, lay_level, lay_levels}
+use Rattle.laws_built_index.specs.Items.{leaf_item}
+use Rattle.laws_built_index.specs.Pages.{flags_of}
+use Rattle.laws_built_index.specs.Trees.{IsPageFit, page_bytes}
 use Rattle.bt_build.specs.declared.groups.Item.{Item}
 use Rattle.bt_build.specs.declared.levels.Level.{Level}
 use Rattle.bt_build.specs.Groups.{entries_in}

@@ -1,15 +1,15 @@
 -- The levels of a tree: how its pages part the items below them.
 use Rattle.std.specs.Prelude.{◌≡◌, ◌≤◌, ◌<◌, ◌+◌, ◌-◌, ⊤, ℕ, suc, List, [], ◌∷◌, length, map, take, drop, get_or}
 use Rattle.std.specs.Prelude.{Option, Some, None}
-use Rattle.tree_search.specs.Keys.{Separator}
-use Rattle.tree_search.specs.Levels.{Downlink}
+use Rattle.laws_search.specs.Keys.{Separator}
+use Rattle.laws_search.specs.Levels.{Downlink}
 use Rattle.key_orders.specs.declared.columns.KeySpec.{KeySpec}
 use Rattle.key_orders.specs.declared.columns.Value.{Value}
 use Rattle.key_orders.specs.declared.Tid.{Tid}
-use Rattle.tree_image.specs.Image.{LeafEntry}
-use Rattle.tree_built.specs.Built.{Sheet, Splitter, internal_sheet}
-use Rattle.tree_built.specs.Seen.{item_splitter, splitter_by}
-use Rattle.built_pages.specs.Sizes.{entry_in, splitter_of}
+use Rattle.bt_image.specs.Image.{LeafEntry}
+use Rattle.laws_building.specs.Built.{Sheet, Splitter, internal_sheet}
+use Rattle.laws_building.specs.Seen.{item_splitter, splitter_by}
+use Rattle.laws_built_index.specs.Sizes.{entry_in, splitter_of}
 use Rattle.bt_build.specs.declared.groups.Item.{Item}
 use Rattle.bt_build.specs.declared.levels.Level.{Level}
 use Rattle.bt_build.specs.Groups.{entries_in}

@@ -7,8 +7,8 @@ use Rattle.key_orders.specs.declared.Tid.{Tid}
 use Rattle.key_orders.specs.Keys.{IsKey}
 use Rattle.key_orders.specs.Types.{HasAlignment}
 use Rattle.key_attrs.specs.Keyed.{fits_more}
-use Rattle.tree_image.specs.Image.{LeafEntry}
-use Rattle.built_pages.specs.Items.{MayBeLaid, entry_types}
+use Rattle.bt_image.specs.Image.{LeafEntry}
+use Rattle.laws_built_index.specs.Items.{MayBeLaid, entry_types}
 
 -- the columns of the index, and its entries as they were added
 pub record Listed : Type 0 where

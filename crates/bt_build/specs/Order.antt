@@ -2,7 +2,7 @@
 use Rattle.std.specs.Prelude.{Bool, cond, List, [], ◌∷◌}
 use Rattle.key_orders.specs.declared.columns.KeySpec.{KeySpec}
 use Rattle.key_orders.specs.Scans.{order_of}
-use Rattle.tree_image.specs.Image.{LeafEntry}
+use Rattle.bt_image.specs.Image.{LeafEntry}
 
 abbrev pub is_before : List KeySpec → LeafEntry → LeafEntry → Bool
 is_before specs d e = (order_of specs).precedes d.entry e.entry

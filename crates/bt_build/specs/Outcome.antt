@@ -9,10 +9,10 @@ use Rattle.key_orders.specs.declared.more.MoreSpec.{MoreSpec}
 use Rattle.key_orders.specs.declared.Tid.{Tid}
 use Rattle.key_orders.specs.Keys.{tid_order}
 use Rattle.bt_meta.specs.declared.records.Meta.{Meta}
-use Rattle.tree_image.specs.Image.{LeafEntry}
-use Rattle.built_pages.specs.Items.{plain_item, tids_of}
-use Rattle.built_pages.specs.Sizes.{AreIndexable, index_tree}
-use Rattle.built_pages.specs.Trees.{ItemTree, built_block}
+use Rattle.bt_image.specs.Image.{LeafEntry}
+use Rattle.laws_built_index.specs.Items.{plain_item, tids_of}
+use Rattle.laws_built_index.specs.Sizes.{AreIndexable, index_tree}
+use Rattle.laws_built_index.specs.Trees.{ItemTree, built_block}
 use Rattle.bt_build.specs.declared.build.BuiltTree.{BuiltTree}
 use Rattle.bt_build.specs.declared.fault.IndexFault.{IndexFault}
 use Rattle.bt_build.specs.declared.fault.IndexFault.TheVariants.{KeyTooLarge, TooManyBlocks, NoMemory}
@@ -57,7 +57,7 @@ blocks_below specs more x (suc n) = blocks_below specs more x n ++ built_block s
 abbrev pub index_bytes : Listed → List ℕ
 index_bytes l = blocks_below l.specs l.more (tree_for l) (tree_for l).blocks
 
--- entries that in order may be indexed, so that the laws of built_pages hold of their tree
+-- entries that in order may be indexed, so that the laws of laws_built_index hold of their tree
 abbrev pub MayBeIndexed : Listed → Type 0
 MayBeIndexed l = AreIndexable l.specs l.more (in_order l.specs l.entries)
 

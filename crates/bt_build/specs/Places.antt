@@ -4,13 +4,13 @@ use Rattle.std.specs.Prelude.{◌+◌, ℕ, Bool, List, length, map, drop, nat_l
 use Rattle.std.specs.List.{filter}
 use Rattle.std.specs.Ordering.{is_lt, nat_cmp, ordering_then}
 use Rattle.std.specs.declared.cmp.Ordering.{Ordering}
-use Rattle.tree_search.specs.Keys.{compare_values}
+use Rattle.laws_search.specs.Keys.{compare_values}
 use Rattle.key_orders.specs.declared.columns.KeySpec.{KeySpec}
 use Rattle.key_orders.specs.declared.columns.Value.{Value}
 use Rattle.key_orders.specs.declared.Tid.{Tid}
 use Rattle.key_orders.specs.Keys.{columns_of, tid_order}
 use Rattle.page_write.specs.Tuples.{index_size}
-use Rattle.stored_keys.specs.Stored.{values_read}
+use Rattle.key_storage.specs.Stored.{values_read}
 use Rattle.bt_build.specs.declared.entries.Place.{Place}
 
 -- the first values at a place, behind the byte that counts them

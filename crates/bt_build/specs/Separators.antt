@@ -1,13 +1,13 @@
 -- The separators of neighbouring entries.
 use Rattle.std.specs.Prelude.{ℕ, zero, suc, List, [], ◌∷◌, take, drop, Option, Some, None, unwrap_or}
-use Rattle.tree_search.specs.Keys.{Separator}
+use Rattle.laws_search.specs.Keys.{Separator}
 use Rattle.key_orders.specs.declared.columns.KeySpec.{KeySpec}
 use Rattle.key_orders.specs.declared.columns.Value.{Value}
 use Rattle.key_orders.specs.declared.Tid.{Tid}
-use Rattle.tree_image.specs.Image.{LeafEntry, minus_infinity}
+use Rattle.bt_image.specs.Image.{LeafEntry, minus_infinity}
 use Rattle.page_write.specs.declared.index_tuples.Kept.{Kept}
-use Rattle.built_pages.specs.Items.{pivot_item}
-use Rattle.built_pages.specs.Sizes.{splitter_of}
+use Rattle.laws_built_index.specs.Items.{pivot_item}
+use Rattle.laws_built_index.specs.Sizes.{splitter_of}
 
 abbrev pub split_of : List KeySpec → LeafEntry → LeafEntry → Separator Value Tid
 split_of specs d e = (splitter_of specs).split_key d.entry e.entry

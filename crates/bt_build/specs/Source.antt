@@ -1,14 +1,14 @@
 -- What entries are laid from.
 use Rattle.std.specs.Prelude.{◌≡◌, All, List, false}
-use Rattle.built_pages.specs.Items.{entry_types}
-use Rattle.built_pages.specs.Sizes.{AreIndexable}
+use Rattle.laws_built_index.specs.Items.{entry_types}
+use Rattle.laws_built_index.specs.Sizes.{AreIndexable}
 use Rattle.bt_build.specs.declared.source.Sorted.{Sorted}
 use Rattle.bt_build.specs.declared.source.Source.{Source}
 use Rattle.bt_build.specs.Kept.{IsKept, entries_at, entry_at}
 use Rattle.bt_build.specs.Listed.{AreColumns}
 use Rattle.bt_build.specs.Outcome.{is_too_large}
 use Rattle.bt_build.specs.declared.entries.Place.{Place}
-use Rattle.tree_image.specs.Image.{LeafEntry}
+use Rattle.bt_image.specs.Image.{LeafEntry}
 
 -- the types are those of the columns
 pub record IsSource (s : Source) : Type 0 where

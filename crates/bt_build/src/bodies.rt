@@ -2,13 +2,13 @@
 ghost use Rattle.std.specs.Prelude.{◌≡◌, ◌≤◌, All, IfOk, OnOk, length, map};
 ghost use Rattle.key_orders.specs.Types.{HasAlignment};
 ghost use Rattle.key_orders.specs.Values.{value_shown};
-ghost use Rattle.stored_keys.specs.Stored.{values_read};
+ghost use Rattle.key_storage.specs.Stored.{values_read};
 ghost use Rattle.page_write.specs.Bodies.{IsShortEnough, body_flags, index_body};
 
 use key_orders::{ColType, ValueRef};
+use key_storage::read_value;
 use outside::NoMemory;
 use page_write::{BodyFlags, body_flags, put_index_body};
-use stored_keys::read_value;
 
 // Puts so many values, read one after the other, in the place of what the list held.
 pub(crate) fn read_values<'a>(

@@ -5,7 +5,7 @@ ghost use Rattle.std.specs.Bool.{OnTrue};
 ghost use Rattle.key_orders.specs.Values.{value_shown};
 ghost use Rattle.key_attrs.specs.Keyed.{key_types, more_types};
 ghost use Rattle.page_write.specs.Bodies.{IsShortEnough};
-ghost use Rattle.tree_image.specs.Image.{leaf_entry};
+ghost use Rattle.bt_image.specs.Image.{leaf_entry};
 ghost use Rattle.bt_build.specs.Listed.{AreColumns, AreValues, IsNewTid, with_entry};
 ghost use Rattle.bt_build.specs.Outcome.{IsAnswer};
 
@@ -14,11 +14,11 @@ use crate::fault::IndexFault;
 use crate::source::Source;
 use key_orders::{ColType, KeySpec, MoreSpec, Tid, ValueRef};
 use key_prefixes::key_prefix;
+use key_storage::{RowValues, write_key};
 use outside::NoMemory;
 use page_write::index_body_length;
 use std::alloc::Global;
 use std::marker::Model;
-use stored_keys::{RowValues, write_key};
 
 // A value of an index has fewer bytes than these (varatt.h).
 const MOST_BYTES: usize = 1073741820;

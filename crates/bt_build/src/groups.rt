@@ -1,8 +1,8 @@
 //! The sorted entries in items.
 ghost use Rattle.std.specs.Prelude.{◌≡◌, ◌≤◌, ◌<◌, All, Bool, IfOk, drop, if◌then◌else◌, length, min, suc, nat_le};
-ghost use Rattle.tree_built.specs.Groups.{greatest, run_length};
+ghost use Rattle.laws_building.specs.Groups.{greatest, run_length};
 ghost use Rattle.page_write.specs.Posting.{posting_size};
-ghost use Rattle.built_pages.specs.Sizes.{grouping_of};
+ghost use Rattle.laws_built_index.specs.Sizes.{grouping_of};
 ghost use Rattle.bt_build.specs.Groups.{AreItems, IsNextItem, size_with};
 ghost use Rattle.bt_build.specs.Source.{IsPlaceOf, IsSmallOf, entries_of, entry_of};
 

@@ -1,6 +1,6 @@
 //! The bytes of items.
 ghost use Rattle.std.specs.Prelude.{◌≡◌, All, OnOk, drop, map, take};
-ghost use Rattle.built_pages.specs.Items.{leaf_item};
+ghost use Rattle.laws_built_index.specs.Items.{leaf_item};
 ghost use Rattle.bt_build.specs.Groups.{IsItem, entries_in};
 ghost use Rattle.bt_build.specs.Source.{IsPlaceOf, IsSource, entries_of};
 

@@ -1,16 +1,16 @@
 //! The order of entries, by the values that lie in the arena.
 ghost use Rattle.std.specs.Prelude.{◌≡◌, ◌+◌, IsPermutation, IsSortedBy, drop, length};
-ghost use Rattle.tree_search.specs.Keys.{compare_values};
+ghost use Rattle.laws_search.specs.Keys.{compare_values};
 ghost use Rattle.key_orders.specs.Keys.{columns_of, tid_order};
 ghost use Rattle.key_orders.specs.Orders.{column_order, null_table, value_order};
 ghost use Rattle.key_orders.specs.Values.{value_shown};
-ghost use Rattle.stored_keys.specs.Stored.{values_read};
+ghost use Rattle.key_storage.specs.Stored.{values_read};
 ghost use Rattle.bt_build.specs.Places.{is_below, key_order_at, place_order};
 
 use crate::entries::Place;
 use key_orders::{KeySpec, Tid, ValueRef, key_orders_are_total};
+use key_storage::read_value;
 use std::cmp::Ordering;
-use stored_keys::read_value;
 
 // The order of two values. Those of a column are of one kind, or null.
 fn compare_kinds(a: ValueRef<'_>, b: ValueRef<'_>) -> Ordering

@@ -1,8 +1,8 @@
 //! The separators between neighbouring entries.
 ghost use Rattle.std.specs.Prelude.{◌≡◌, ◌≤◌, List, OnOk, length};
 ghost use Rattle.key_orders.specs.declared.columns.KeySpec.{KeySpec as Spec};
-ghost use Rattle.tree_image.specs.Image.{minus_infinity};
-ghost use Rattle.built_pages.specs.Items.{MaySplit, pivot_item};
+ghost use Rattle.bt_image.specs.Image.{minus_infinity};
+ghost use Rattle.laws_built_index.specs.Items.{MaySplit, pivot_item};
 ghost use Rattle.bt_build.specs.Separators.{front_of, split_item, split_of};
 ghost use Rattle.bt_build.specs.Source.{AreSorted, IsPlaceOf, IsSource, entries_sorted, entry_of};
 
@@ -11,10 +11,10 @@ use crate::entries::Place;
 use crate::laying::Buffers;
 use crate::order::{behind_count, compare_in_column};
 use crate::source::{Sorted, Source};
-use built_pages::separators_may_be_laid;
+use key_storage::read_value;
+use laws_built_index::separators_may_be_laid;
 use outside::NoMemory;
 use page_write::{BodyFlags, Kept, put_pivot_tuple};
-use stored_keys::read_value;
 
 // What a separator has that keeps nothing.
 const NOTHING: Kept = Kept {

@@ -2,7 +2,7 @@
 ghost use Rattle.std.specs.Prelude.{◌≡◌, ◌++◌, IfOk, OnOk, nat_lt};
 ghost use Rattle.page_write.specs.Bodies.{body_flags, index_body};
 ghost use Rattle.page_write.specs.Tuples.{index_size};
-ghost use Rattle.built_pages.specs.Items.{entry_types};
+ghost use Rattle.laws_built_index.specs.Items.{entry_types};
 ghost use Rattle.bt_build.specs.Outcome.{lower_tid, lowest_tid};
 ghost use Rattle.bt_build.specs.Places.{large_tids};
 ghost use Rattle.bt_build.specs.Source.{IsPlaceOf, IsSource, entry_of};

@@ -4,11 +4,11 @@ use Rattle.std.specs.Prelude.{All, Contains, ◌&&◌, Option, Some, None}
 use Rattle.std.proofs.lemmas.Bool.{and_parts, cases_Bool}
 use Rattle.std.proofs.lemmas.List.Elements.{All-append, All-head, All-nil, All-weaker, Contains-append_left, Contains-append_right}
 use Rattle.page_layout.specs.declared.rules.Rule.{Rule}
-use Rattle.tree_rules.specs.Questions.{Finding as LevelFinding}
-use Rattle.tree_rules.specs.Rules.{BreaksLevelRule, KeepsLevelRules, roots, circle, role, downlink, separator, low_key, dead_end, not_alone, unreached}
-use Rattle.tree_rules.specs.Sound.{HasSoundPages, IsSame}
-use Rattle.tree_rules.proofs.Broken.{breaks_here, breaks_none}
-use Rattle.tree_rules.proofs.First.{first, unbroken}
+use Rattle.laws_levels.specs.Questions.{Finding as LevelFinding}
+use Rattle.laws_levels.specs.Rules.{BreaksLevelRule, KeepsLevelRules, roots, circle, role, downlink, separator, low_key, dead_end, not_alone, unreached}
+use Rattle.laws_levels.specs.Sound.{HasSoundPages, IsSame}
+use Rattle.laws_levels.proofs.Broken.{breaks_here, breaks_none}
+use Rattle.laws_levels.proofs.First.{first, unbroken}
 use Rattle.reports.specs.Added.{joined, report_lists}
 use Rattle.reports.specs.Lists.{Lists}
 use Rattle.reports.specs.declared.places.Finding.{Finding}
@@ -22,7 +22,7 @@ use Rattle.bt_pages.specs.Trees.{Tree}
 use Rattle.bt_pages.specs.Found.{block_place}
 use Rattle.bt_pages.specs.Broken.{AreEmpty, IsDoubtedAt, doubted, IsFoundAt, found}
 use Rattle.bt_pages.proofs.BlockLaws.{All-finding_at, among_finding, no_doubts}
-use Rattle.bt_walks.specs.Trees.{KeepsPages, first_broken_in, image_of, order_in, same_in}
+use Rattle.bt_level_check.specs.Trees.{KeepsPages, first_broken_in, image_of, order_in, same_in}
 use Rattle.bt_levels.specs.Broken.{BreaksPages, BreaksTree, DoubtsTree, IsBehind, KeepsPageRules, in_pages, is_level_rule, on_levels}
 use Rattle.bt_levels.specs.Lists.{index_lists, is_nothing, is_quiet, level_finding_lists, level_lists, lists_where, pages_lists}
 use Rattle.bt_levels.proofs.ListedLaws.{pages-certain, pages-complete, pages-doubted, pages-kept, pages-listed}

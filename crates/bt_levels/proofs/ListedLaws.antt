@@ -6,7 +6,7 @@ use Rattle.std.proofs.lemmas.List.Elements.{Contains-append_left, Contains-appen
 use Rattle.page_layout.specs.declared.rules.Rule.{Rule}
 use Rattle.page_layout.specs.declared.rules.Rule.TheVariants.{S1}
 use Rattle.bt_meta.specs.Pages.{is_idle, meta_of}
-use Rattle.tree_image.specs.Pages.{KeepsPage, KeepsTreeRules}
+use Rattle.bt_image.specs.Pages.{KeepsPage, KeepsTreeRules}
 use Rattle.reports.specs.Added.{doubt_at, finding_at, report_lists}
 use Rattle.reports.specs.declared.places.Finding.{Finding}
 use Rattle.reports.specs.declared.places.UnjudgedPlace.{UnjudgedPlace}

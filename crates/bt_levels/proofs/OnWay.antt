@@ -3,9 +3,9 @@ use Rattle.std.proofs.Common.{◌≡◌, subst, sym}
 use Rattle.outside.specs.Outside.{Names}
 use Rattle.bt_pages.specs.Trees.{Tree, tree_seen}
 use Rattle.bt_pages.specs.declared.tree.TreeRules.{TreeRules}
-use Rattle.bt_walks.specs.declared.leaf_walk.LeafWalk.{LeafWalk}
-use Rattle.bt_walks.specs.Trees.{HoldsPages}
-use Rattle.bt_walks.specs.UnderWay.{IsOnItsWay, index_of}
+use Rattle.bt_level_check.specs.declared.leaf_walk.LeafWalk.{LeafWalk}
+use Rattle.bt_level_check.specs.Trees.{HoldsPages}
+use Rattle.bt_level_check.specs.UnderWay.{IsOnItsWay, index_of}
 use Rattle.bt_levels.specs.OnWay.{IsOnWay}
 
 pub told_of : (P : Tree → Type 0) (names : Names) (tree : TreeRules) (walk : LeafWalk) → index_of walk ≡ tree → HoldsPages names tree → IsOnWay names tree walk

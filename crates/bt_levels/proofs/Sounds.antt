@@ -1,10 +1,10 @@
 -- Whether two separators are the same, and the image of an index whose pages keep their rules.
 use Rattle.std.proofs.Common.{◌≡◌, true, ◌↔◌, Ordering, Less, Equal, Greater, refl}
 use Rattle.std.specs.Ordering.{is_eq}
-use Rattle.tree_search.specs.Keys.{Separator, compare_keys}
-use Rattle.tree_rules.specs.Same.{same_keys}
-use Rattle.tree_rules.specs.Sound.{HasSoundPages, IsSame}
-use Rattle.tree_rules.proofs.Broken.{silent}
+use Rattle.laws_search.specs.Keys.{Separator, compare_keys}
+use Rattle.laws_levels.specs.Same.{same_keys}
+use Rattle.laws_levels.specs.Sound.{HasSoundPages, IsSame}
+use Rattle.laws_levels.proofs.Broken.{silent}
 use Rattle.key_orders.specs.declared.columns.KeySpec.{KeySpec}
 use Rattle.key_orders.specs.declared.columns.Value.{Value}
 use Rattle.key_orders.specs.declared.Tid.{Tid}
@@ -15,8 +15,8 @@ use Rattle.outside.specs.Outside.{Names}
 use Rattle.rel_files.specs.Blocks.{block_of}
 use Rattle.case_file.specs.Record.{CaseRecord}
 use Rattle.bt_pages.specs.Trees.{Tree}
-use Rattle.bt_walks.specs.Shape.{IsShapeOf}
-use Rattle.bt_walks.specs.Trees.{first_broken_in, image_of, order_in, same_in}
+use Rattle.bt_level_check.specs.Shape.{IsShapeOf}
+use Rattle.bt_level_check.specs.Trees.{first_broken_in, image_of, order_in, same_in}
 use Rattle.bt_levels.specs.declared.sound.SoundTree.{SoundTree}
 use Rattle.bt_levels.specs.Broken.{IsTrueTree}
 use Rattle.bt_levels.specs.Files.{BelongsTo, IsFileOf, number_of}

@@ -6,8 +6,8 @@ use Rattle.page_layout.specs.declared.page.PageKind.TheVariants.{Meta}
 use Rattle.page_layout.specs.declared.rules.Rule.{Rule}
 use Rattle.page_layout.specs.declared.rules.Rule.TheVariants.{L1, L2, L3, L4, L5, L6, L7, L8, L9, M1, M2, P1, P2, P3}
 use Rattle.page_layout.specs.declared.rules.Rule.TheVariants.{P4, S1}
-use Rattle.tree_search.specs.Search.{FindsAll}
-use Rattle.tree_rules.specs.Rules.{BreaksLevelRule, KeepsLevelRules}
+use Rattle.laws_search.specs.Search.{FindsAll}
+use Rattle.laws_levels.specs.Rules.{BreaksLevelRule, KeepsLevelRules}
 use Rattle.bt_meta.specs.Pages.{has_bad_root, is_no_metapage, meta_of}
 use Rattle.rel_files.specs.Blocks.{long_segment_of}
 use Rattle.case_file.specs.Record.{CaseRecord}
@@ -22,7 +22,7 @@ use Rattle.reports.specs.declared.places.Rel.TheVariants.{Index}
 use Rattle.bt_pages.specs.Trees.{Tree}
 use Rattle.bt_pages.specs.Broken.{AreEmpty, BreaksBlock, DoubtsBlock, IsDoubtedAt, IsFoundAt}
 use Rattle.bt_pages.specs.Found.{block_place}
-use Rattle.bt_walks.specs.Trees.{KeepsPages, image_of, order_in}
+use Rattle.bt_level_check.specs.Trees.{KeepsPages, image_of, order_in}
 use Rattle.bt_levels.specs.Index.{index_of, tree_lists, tree_of}
 use Rattle.bt_levels.specs.Lists.{first_rule, is_first_quiet}
 

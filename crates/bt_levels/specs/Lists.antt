@@ -6,7 +6,7 @@ use Rattle.page_layout.specs.Page.{page_rule_of}
 use Rattle.page_layout.specs.declared.page.PageKind.TheVariants.{Meta}
 use Rattle.page_layout.specs.declared.rules.Rule.{Rule}
 use Rattle.page_layout.specs.declared.rules.Rule.TheVariants.{M1, S1}
-use Rattle.tree_rules.specs.Questions.{Finding as LevelFinding}
+use Rattle.laws_levels.specs.Questions.{Finding as LevelFinding}
 use Rattle.bt_meta.specs.Pages.{meta_of, meta_rule_of}
 use Rattle.reports.specs.Added.{doubt_at, each_upto, finding_at, joined, nothing, report_lists}
 use Rattle.reports.specs.Lists.{Lists}
@@ -16,7 +16,7 @@ use Rattle.reports.specs.declared.places.Reason.TheVariants.{U4}
 use Rattle.reports.specs.declared.places.Rel.TheVariants.{Index}
 use Rattle.bt_pages.specs.Trees.{Tree}
 use Rattle.bt_pages.specs.Found.{block_lists, block_place}
-use Rattle.bt_walks.specs.Trees.{first_broken_in}
+use Rattle.bt_level_check.specs.Trees.{first_broken_in}
 
 -- the segment that is too long
 abbrev pub segment_lists : (number : ℕ) → (long : Option ℕ) → Lists

@@ -4,9 +4,9 @@ use Rattle.outside.specs.Outside.{Names}
 use Rattle.rel_files.specs.Relation.{count_of}
 use Rattle.bt_pages.specs.Trees.{tree_seen}
 use Rattle.bt_pages.specs.declared.tree.TreeRules.{TreeRules}
-use Rattle.bt_walks.specs.declared.leaf_walk.LeafWalk.{LeafWalk}
-use Rattle.bt_walks.specs.Trees.{HoldsPages}
-use Rattle.bt_walks.specs.UnderWay.{IsOnItsWay, IsReadyWalk, index_of}
+use Rattle.bt_level_check.specs.declared.leaf_walk.LeafWalk.{LeafWalk}
+use Rattle.bt_level_check.specs.Trees.{HoldsPages}
+use Rattle.bt_level_check.specs.UnderWay.{IsOnItsWay, IsReadyWalk, index_of}
 
 -- it is one along the leaves of this index, which has a block
 pub record IsWalkOf (tree : TreeRules) (walk : LeafWalk) : Type 0 where

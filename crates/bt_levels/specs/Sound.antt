@@ -7,11 +7,11 @@ use Rattle.key_orders.specs.Scans.{order_of}
 use Rattle.case_file.specs.Record.{CaseRecord}
 use Rattle.rel_files.specs.Blocks.{block_of}
 use Rattle.rel_files.specs.Relation.{IsAttached, base_of, count_of, size_of}
-use Rattle.tree_rules.specs.Rules.{KeepsLevelRules}
+use Rattle.laws_levels.specs.Rules.{KeepsLevelRules}
 use Rattle.key_attrs.specs.Columns.{TreeColumns}
-use Rattle.tree_image.specs.Image.{TreeIndex, index_image}
-use Rattle.tree_image.specs.Pages.{KeepsTreeRules}
-use Rattle.bt_walks.specs.Counts.{half_dead_in, right_halves_in}
+use Rattle.bt_image.specs.Image.{TreeIndex, index_image}
+use Rattle.bt_image.specs.Pages.{KeepsTreeRules}
+use Rattle.bt_level_check.specs.Counts.{half_dead_in, right_halves_in}
 use Rattle.bt_levels.specs.declared.files.TreeFile.{TreeFile}
 use Rattle.bt_levels.specs.declared.sound.SoundTree.{SoundTree}
 use Rattle.bt_levels.specs.Files.{BelongsTo, number_of, relation_of}

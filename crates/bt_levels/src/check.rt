@@ -6,7 +6,7 @@ ghost use Rattle.rel_files.specs.Relation.{count_of};
 ghost use Rattle.reports.specs.Added.{report_lists};
 ghost use Rattle.bt_pages.specs.Broken.{AreEmpty};
 ghost use Rattle.bt_levels.specs.Files.{BelongsTo, IsFileOf, number_of, relation_of};
-ghost use Rattle.bt_walks.specs.Shape.{IsShapeOf};
+ghost use Rattle.bt_level_check.specs.Shape.{IsShapeOf};
 ghost use Rattle.bt_levels.specs.Index.{index_of, tree_lists, tree_of};
 ghost use Rattle.bt_levels.specs.Sound.{HoldsTree, IsSoundIndexOf, file_of};
 
@@ -14,15 +14,15 @@ use crate::files::TreeFile;
 use crate::judge::judge_index;
 use crate::laws::indexes_are_judged;
 use crate::sound::SoundTree;
+use bt_image::kept_rules_make_a_sound_image;
+use bt_level_check::TreeShape;
 use bt_pages::TreeRules;
-use bt_walks::TreeShape;
 use case_file::Case;
 use key_attrs::IndexColumns;
 use key_orders::{KeySpec, MoreSpec, key_orders_are_total};
 use outside::{Files, NoMemory};
 use reports::{CheckFault, PageFault, Report};
 use std::alloc::Global;
-use tree_image::kept_rules_make_a_sound_image;
 
 // The columns of index `n` of a case.
 fn case_columns(case: &Case, n: u16) -> IndexColumns<'_>

@@ -4,7 +4,7 @@ ghost use Rattle.key_orders.specs.Types.{HasAlignment};
 ghost use Rattle.key_attrs.specs.Keyed.{key_types, more_types};
 
 use crate::files::TreeFile;
-use bt_walks::TreeShape;
+use bt_level_check::TreeShape;
 use key_attrs::IndexColumns;
 use key_orders::{KeySpec, MoreSpec};
 use outside::Files;

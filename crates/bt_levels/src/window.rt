@@ -10,8 +10,8 @@ ghost use Rattle.bt_pages.specs.Seen.{HasSeen, StaysSeen};
 ghost use Rattle.bt_pages.specs.Trees.{tree_seen};
 ghost use Rattle.bt_levels.specs.Window.{held_page};
 
+use bt_level_check::InHand;
 use bt_pages::{SeenTree, judge_page};
-use bt_walks::InHand;
 use outside::Files;
 use page_layout::PageView;
 use rel_files::ReadFault;

@@ -12,8 +12,8 @@ use Rattle.key_orders.specs.declared.more.MoreSpec.{MoreSpec}
 use Rattle.bt_meta.specs.Flags.{is_half_dead}
 use Rattle.bt_meta.specs.Pages.{opaque_of}
 use Rattle.bt_tuples.specs.Rules.{breaks_item_rule, breaks_place, has_packed, tuple_of}
-use Rattle.tree_image.specs.Image.{spot_of}
-use Rattle.tree_image.specs.Pages.{breaks_high_key, breaks_order}
+use Rattle.bt_image.specs.Image.{spot_of}
+use Rattle.bt_image.specs.Pages.{breaks_high_key, breaks_order}
 use Rattle.bt_pages.specs.declared.pass.Pass.TheVariants.{HalfDead, NotPlain, Disordered, Ordered}
 use Rattle.bt_pages.specs.Passes.{are_disordered, is_disordered, pass_by, pass_of}
 use Rattle.bt_pages.specs.Questions.{are_plain, breaks_on_page, doubt_by, is_without_fault, own_doubt, own_rule, own_rules, rule_on_page, rules_by}

@@ -10,7 +10,7 @@ use Rattle.page_layout.specs.declared.rules.Rule.TheVariants.{B12}
 use Rattle.bt_meta.specs.Flags.{is_half_dead}
 use Rattle.bt_meta.specs.Pages.{is_idle, opaque_of}
 use Rattle.bt_tuples.specs.Rules.{has_packed, tuple_of}
-use Rattle.tree_image.specs.Pages.{breaks_siblings}
+use Rattle.bt_image.specs.Pages.{breaks_siblings}
 use Rattle.reports.specs.Added.{doubt_at, finding_at, joined, report_lists}
 use Rattle.reports.specs.Lists.{Lists}
 use Rattle.reports.specs.declared.places.Finding.{Finding}

@@ -13,9 +13,9 @@ use Rattle.bt_meta.specs.Pages.{is_idle, opaque_of}
 use Rattle.bt_tuples.specs.Items.{item_rule_of}
 use Rattle.bt_tuples.specs.Rules.{KeepsItemRules, has_packed, tuple_of}
 use Rattle.bt_tuples.proofs.Outcomes.{none_is}
-use Rattle.tree_image.specs.Image.{downlink_in, first_data, item_at, spot_of}
-use Rattle.tree_image.specs.Pages.{IsDataItem, KeepsPage, breaks_downlink, breaks_high_key, breaks_order, breaks_siblings}
-use Rattle.tree_image.proofs.PageFields.{first_cases}
+use Rattle.bt_image.specs.Image.{downlink_in, first_data, item_at, spot_of}
+use Rattle.bt_image.specs.Pages.{IsDataItem, KeepsPage, breaks_downlink, breaks_high_key, breaks_order, breaks_siblings}
+use Rattle.bt_image.proofs.PageFields.{first_cases}
 use Rattle.bt_pages.specs.Trees.{Tree}
 use Rattle.bt_pages.specs.Questions.{are_plain, breaks_item, breaks_lone_rule, breaks_on_page, downlink_rules, has_downlink, is_without_fault, item_rule, lone_rule, lone_rules, order_rules, own_doubt, own_rule, own_rules, rule_on_page}
 use Rattle.bt_pages.specs.Found.{block_lists, block_place, item_place}

@@ -7,7 +7,7 @@ use Rattle.page_layout.specs.Page.{count_of}
 use Rattle.page_layout.specs.declared.rules.Rule.{Rule}
 use Rattle.bt_meta.specs.Flags.{is_half_dead, is_leaf}
 use Rattle.bt_meta.specs.Pages.{is_idle, opaque_of}
-use Rattle.tree_image.specs.Image.{first_data}
+use Rattle.bt_image.specs.Image.{first_data}
 use Rattle.reports.specs.Added.{doubt_at, each_upto, finding_at, joined, nothing, report_lists}
 use Rattle.reports.specs.Lists.{Lists}
 use Rattle.reports.specs.declared.places.Reason.{Reason}

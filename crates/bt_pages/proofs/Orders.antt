@@ -7,9 +7,9 @@ use Rattle.key_orders.specs.declared.columns.KeySpec.{KeySpec}
 use Rattle.key_orders.specs.declared.more.MoreSpec.{MoreSpec}
 use Rattle.bt_meta.specs.Flags.{is_leaf}
 use Rattle.bt_meta.specs.Pages.{opaque_of}
-use Rattle.tree_image.specs.Image.{first_data, has_high_key}
-use Rattle.tree_image.specs.Pages.{breaks_high_key, breaks_order, first_compared, least_for_high_key}
-use Rattle.tree_image.proofs.PageFields.{first_cases}
+use Rattle.bt_image.specs.Image.{first_data, has_high_key}
+use Rattle.bt_image.specs.Pages.{breaks_high_key, breaks_order, first_compared, least_for_high_key}
+use Rattle.bt_image.proofs.PageFields.{first_cases}
 
 compared-from : (page : List ℕ) → first_data page + 1 ≤ first_compared page
 compared-from page = elim (cases_Bool (is_leaf (opaque_of page))) [

@@ -4,8 +4,8 @@ use Rattle.std.specs.Prelude.{◌&&◌, ◌||◌}
 use Rattle.std.proofs.lemmas.Bool.{cases_Bool, or_parts}
 use Rattle.key_orders.specs.declared.columns.KeySpec.{KeySpec}
 use Rattle.key_orders.specs.declared.more.MoreSpec.{MoreSpec}
-use Rattle.tree_image.specs.Pages.{breaks_order}
-use Rattle.tree_image.specs.Pages.{breaks_high_key}
+use Rattle.bt_image.specs.Pages.{breaks_order}
+use Rattle.bt_image.specs.Pages.{breaks_high_key}
 use Rattle.page_layout.specs.Page.{count_of}
 use Rattle.bt_pages.specs.declared.pass.Pass.TheVariants.{NotPlain, Ordered}
 use Rattle.bt_pages.specs.Passes.{are_disordered, is_disordered, pass_by}

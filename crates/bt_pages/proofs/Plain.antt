@@ -13,7 +13,7 @@ use Rattle.bt_tuples.specs.Items.{Item, ItemFits, ItemOutcome, Pivot, Plain, Pos
 use Rattle.bt_tuples.specs.Rules.{breaks_item_rule, has_packed, tuple_of}
 use Rattle.bt_tuples.specs.Keys.{first_key, last_key}
 use Rattle.bt_tuples.proofs.Outcomes.{packed_means, read_means, rule_is}
-use Rattle.tree_image.specs.Image.{item_at, separator_in, spot_of}
+use Rattle.bt_image.specs.Image.{item_at, separator_in, spot_of}
 use Rattle.reports.specs.declared.places.Reason.{Reason}
 use Rattle.reports.specs.declared.places.Reason.TheVariants.{U5}
 use Rattle.bt_pages.specs.Questions.{doubt_by, is_without_fault, own_doubt, own_rule, own_rules}

@@ -6,7 +6,7 @@ use Rattle.std.specs.declared.cmp.Ordering.{Ordering}
 use Rattle.std.specs.declared.cmp.Ordering.TheVariants.{Less}
 use Rattle.std.proofs.lemmas.Bool.{cond-false, cond-true, lt-ltb}
 use Rattle.page_layout.specs.Page.{count_of, item_of}
-use Rattle.tree_search.specs.Keys.{compare_values}
+use Rattle.laws_search.specs.Keys.{compare_values}
 use Rattle.key_orders.specs.declared.columns.KeySpec.{KeySpec}
 use Rattle.key_orders.specs.declared.more.MoreSpec.{MoreSpec}
 use Rattle.key_orders.specs.Keys.{columns_of, tid_order}
@@ -17,9 +17,9 @@ use Rattle.bt_tuples.specs.declared.items.Spot3.TheVariants.{HighKey}
 use Rattle.bt_tuples.specs.Items.{Item, Plain, is_dead, item_outcome}
 use Rattle.bt_tuples.specs.Keys.{first_key, key_with, last_key}
 use Rattle.bt_tuples.specs.Plain.{IsPlainEntry}
-use Rattle.tree_image.specs.Image.{first_data, has_high_key, item_at, spot_of}
-use Rattle.tree_image.specs.Pages.{breaks_high_key, breaks_order, first_compared, is_key_below}
-use Rattle.tree_image.proofs.PageFields.{first_cases, leaf_spot}
+use Rattle.bt_image.specs.Image.{first_data, has_high_key, item_at, spot_of}
+use Rattle.bt_image.specs.Pages.{breaks_high_key, breaks_order, first_compared, is_key_below}
+use Rattle.bt_image.proofs.PageFields.{first_cases, leaf_spot}
 use Rattle.bt_pages.specs.declared.pass.Pass.TheVariants.{Ordered}
 use Rattle.bt_pages.specs.Passes.{RiseTo, pass_by, pass_of}
 use Rattle.bt_pages.specs.Questions.{is_without_fault}

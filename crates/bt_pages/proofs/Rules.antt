@@ -6,7 +6,7 @@ use Rattle.page_layout.specs.declared.page.PageKind.TheVariants.{Tree as tree_ki
 use Rattle.page_layout.specs.declared.rules.Rule.{Rule}
 use Rattle.page_layout.specs.declared.rules.Rule.TheVariants.{P1, P2, P3, P4}
 use Rattle.bt_meta.specs.Pages.{is_idle}
-use Rattle.bt_pages.specs.Questions.{breaks_lone_rule, lone_rule, tree_rules}
+use Rattle.bt_pages.specs.Questions.{breaks_lone_rule, lone_rule, laws_levels}
 
 -- what is asked after others that are broken changes nothing
 first_of_four : (a b c d : Bool) (r : Rule) (rest : Option Rule) → cond a (Some P1) (cond b (Some P2) (cond c (Some P3) (cond d (Some P4) None))) ≡ Some r
@@ -21,4 +21,4 @@ pub lone_rule-header : (page : List ℕ) (rule : Rule) → page_rule_of tree_kin
 unfolding page_rule_of lone_rule
 lone_rule-header page rule e =
     first_of_four (has_other_version page) (has_unknown_page_flag page) (has_bad_places tree_kind page) (is_new_but_written page) rule
-    (find (breaks_lone_rule page) (tree_rules (is_idle page))) e
+    (find (breaks_lone_rule page) (laws_levels (is_idle page))) e

@@ -8,9 +8,9 @@ use Rattle.key_orders.specs.Keys.{IsKeySeparator}
 use Rattle.key_orders.specs.Separators.{separator_of}
 use Rattle.bt_meta.specs.Flags.{is_half_dead}
 use Rattle.bt_meta.specs.Pages.{opaque_of}
-use Rattle.tree_image.specs.Image.{item_at}
+use Rattle.bt_image.specs.Image.{item_at}
 use Rattle.bt_tuples.specs.Keys.{last_key}
-use Rattle.tree_image.specs.Pages.{breaks_high_key, breaks_order}
+use Rattle.bt_image.specs.Pages.{breaks_high_key, breaks_order}
 use Rattle.bt_pages.specs.declared.pass.Pass.{Pass}
 use Rattle.bt_pages.specs.declared.pass.Pass.TheVariants.{HalfDead, NotPlain, Disordered, Ordered}
 use Rattle.bt_pages.specs.declared.turns.Turns.{Turns}

@@ -1,5 +1,5 @@
 -- The rules of the pages of a tree and of their items, in the order in which they are asked. What each says stands in
--- `tree_image` and in `bt_tuples`.
+-- `bt_image` and in `bt_tuples`.
 use Rattle.std.specs.Prelude.{ℕ, zero, suc, Bool, true, false, not, ◌==◌, ◌&&◌, nat_le, if◌then◌else◌, List, [], ◌∷◌}
 use Rattle.std.specs.Prelude.{◌++◌, find, is_none, Option, Some, None}
 use Rattle.page_layout.specs.Page.{breaks_page_rule, count_of}
@@ -12,9 +12,9 @@ use Rattle.key_orders.specs.declared.more.MoreSpec.{MoreSpec}
 use Rattle.bt_meta.specs.Flags.{is_half_dead, is_leaf}
 use Rattle.bt_meta.specs.Pages.{is_idle, opaque_of}
 use Rattle.bt_tuples.specs.Rules.{breaks_item_rule, has_packed, tuple_of}
-use Rattle.tree_image.specs.Image.{downlink_in, first_data, item_at, spot_of}
-use Rattle.tree_image.specs.Pages.{breaks_downlink, breaks_flags, breaks_half_dead, breaks_high_key, breaks_items}
-use Rattle.tree_image.specs.Pages.{breaks_level, breaks_order, breaks_siblings}
+use Rattle.bt_image.specs.Image.{downlink_in, first_data, item_at, spot_of}
+use Rattle.bt_image.specs.Pages.{breaks_downlink, breaks_flags, breaks_half_dead, breaks_high_key, breaks_items}
+use Rattle.bt_image.specs.Pages.{breaks_level, breaks_order, breaks_siblings}
 use Rattle.reports.specs.declared.places.Reason.{Reason}
 use Rattle.reports.specs.declared.places.Reason.TheVariants.{U5}
 use Rattle.bt_pages.specs.Trees.{Tree}
@@ -30,12 +30,12 @@ breaks_lone_rule page B4 = breaks_items page
 breaks_lone_rule page rule = breaks_page_rule tree_kind page rule
 
 -- those that are asked: of a page that is no part of the tree no more than its header and its flags
-abbrev pub tree_rules : (idle : Bool) → List Rule
-tree_rules true = B1 ∷ []
-tree_rules false = B1 ∷ B2 ∷ B3 ∷ B4 ∷ []
+abbrev pub laws_levels : (idle : Bool) → List Rule
+laws_levels true = B1 ∷ []
+laws_levels false = B1 ∷ B2 ∷ B3 ∷ B4 ∷ []
 
 abbrev pub lone_rules : (idle : Bool) → List Rule
-lone_rules idle = P1 ∷ P2 ∷ P3 ∷ P4 ∷ tree_rules idle
+lone_rules idle = P1 ∷ P2 ∷ P3 ∷ P4 ∷ laws_levels idle
 
 -- the first that a page breaks; one that breaks any isn't judged further
 unfoldable pub lone_rule : List ℕ → Option Rule

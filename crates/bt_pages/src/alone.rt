@@ -2,13 +2,13 @@
 ghost use Rattle.std.specs.Prelude.{◌≡◌, ◌⊎◌, false, find, None};
 ghost use Rattle.page_layout.specs.Page.{is_new, page_rule_of};
 ghost use Rattle.page_layout.specs.View.{page_bytes};
-ghost use Rattle.tree_image.specs.Pages.{breaks_flags, breaks_half_dead, breaks_items, breaks_level, has_data};
+ghost use Rattle.bt_image.specs.Pages.{breaks_flags, breaks_half_dead, breaks_items, breaks_level, has_data};
 ghost use Rattle.bt_meta.specs.Pages.{is_idle};
-ghost use Rattle.bt_pages.specs.Questions.{breaks_lone_rule, lone_rule, tree_rules};
+ghost use Rattle.bt_pages.specs.Questions.{breaks_lone_rule, lone_rule, laws_levels};
 
+use bt_image::{first_data, has_high_key};
 use bt_meta::{is_idle, opaque};
 use page_layout::{PageKind, PageView, Rule};
-use tree_image::{first_data, has_high_key};
 
 // The flags that there are (access/nbtree.h, BTP_).
 const KNOWN_FLAGS: u16 = 0x01FF;
@@ -22,7 +22,7 @@ fn has_data(page: PageView<'_>) -> bool
 }
 
 // B1.
-#[tactic(auto, unfolding(tree_image::specs::Pages::breaks_flags))]
+#[tactic(auto, unfolding(bt_image::specs::Pages::breaks_flags))]
 fn breaks_flags(page: PageView<'_>) -> bool
     ensures { result ≡ breaks_flags (page_bytes page.entry) }
 {
@@ -30,7 +30,7 @@ fn breaks_flags(page: PageView<'_>) -> bool
 }
 
 // B2.
-#[tactic(auto, unfolding(tree_image::specs::Pages::breaks_level))]
+#[tactic(auto, unfolding(bt_image::specs::Pages::breaks_level))]
 fn breaks_level(page: PageView<'_>) -> bool
     ensures { result ≡ breaks_level (page_bytes page.entry) }
 {
@@ -41,7 +41,7 @@ fn breaks_level(page: PageView<'_>) -> bool
 }
 
 // B3.
-#[tactic(auto, unfolding(tree_image::specs::Pages::breaks_half_dead))]
+#[tactic(auto, unfolding(bt_image::specs::Pages::breaks_half_dead))]
 fn breaks_half_dead(page: PageView<'_>) -> bool
     requires { page_rule_of PageKind.Tree (page_bytes page) ≡ None }
     ensures { result ≡ breaks_half_dead (page_bytes page.entry) }
@@ -51,7 +51,7 @@ fn breaks_half_dead(page: PageView<'_>) -> bool
 }
 
 // B4.
-#[tactic(auto, unfolding(tree_image::specs::Pages::breaks_items))]
+#[tactic(auto, unfolding(bt_image::specs::Pages::breaks_items))]
 fn breaks_items(page: PageView<'_>) -> bool
     requires { page_rule_of PageKind.Tree (page_bytes page) ≡ None }
     ensures { result ≡ breaks_items (page_bytes page.entry) }
@@ -63,7 +63,7 @@ fn breaks_items(page: PageView<'_>) -> bool
 fn tree_rule(page: PageView<'_>) -> Option<Rule>
     requires { page_rule_of PageKind.Tree (page_bytes page) ≡ None }
     ensures { result ≡ find (breaks_lone_rule (page_bytes page.entry))
-        (tree_rules (is_idle (page_bytes page.entry))) }
+        (laws_levels (is_idle (page_bytes page.entry))) }
 {
     if breaks_flags(page) {
         return Some(Rule::B1);

@@ -5,15 +5,15 @@ ghost use Rattle.page_layout.specs.View.{page_bytes};
 ghost use Rattle.page_layout.specs.declared.rules.Rule.TheVariants.{B10, B11};
 ghost use Rattle.bt_meta.specs.Flags.{is_half_dead};
 ghost use Rattle.bt_meta.specs.Pages.{opaque_of};
-ghost use Rattle.tree_image.specs.Pages.{breaks_high_key, breaks_order};
+ghost use Rattle.bt_image.specs.Pages.{breaks_high_key, breaks_order};
 ghost use Rattle.bt_pages.specs.Questions.{are_plain, breaks_on_page};
 
 use crate::high_key::{is_past_high_key, last_key_at};
 use crate::turns::read_item;
+use bt_image::ItemPlaces;
 use bt_tuples::ItemKeys;
 use key_attrs::IndexColumns;
 use page_layout::{PageKind, PageView, Rule};
-use tree_image::ItemPlaces;
 
 // Whether an item breaks B10.
 fn is_low_item(page: PageView<'_>, i: u16, columns: &IndexColumns<'_>) -> bool

@@ -6,16 +6,16 @@ ghost use Rattle.key_orders.specs.Separators.{separator_of};
 ghost use Rattle.bt_meta.specs.Flags.{is_half_dead};
 ghost use Rattle.bt_meta.specs.Pages.{opaque_of};
 ghost use Rattle.bt_tuples.specs.Shown.{item_shown};
-ghost use Rattle.tree_image.specs.Image.{separator_in};
-ghost use Rattle.tree_image.specs.Pages.{breaks_high_key};
+ghost use Rattle.bt_image.specs.Image.{separator_in};
+ghost use Rattle.bt_image.specs.Pages.{breaks_high_key};
 ghost use Rattle.bt_pages.specs.Passes.{IsCarried};
 ghost use Rattle.bt_pages.specs.Questions.{are_plain, is_without_fault};
 
+use bt_image::{breaks_high_key, has_high_key, spot_of};
 use bt_tuples::{ItemKeys, TreeItem, tree_item};
 use key_attrs::IndexColumns;
 use key_orders::SepRef;
 use page_layout::{PageKind, PageView};
-use tree_image::{breaks_high_key, has_high_key, spot_of};
 
 // What an item keeps as a separator; one that is none keeps nothing.
 pub fn separator_in<'p>(item: TreeItem<'p>) -> SepRef<'p>

@@ -12,12 +12,12 @@ ghost use Rattle.bt_pages.specs.Questions.{are_plain, is_without_fault, own_doub
 
 use crate::disorder::order_rule;
 use crate::pass::Pass;
+use bt_image::spot_of;
 use bt_meta::tree_head;
 use bt_tuples::{ItemFault, tree_item};
 use key_attrs::IndexColumns;
 use page_layout::{PageKind, PageView, Rule};
 use reports::Reason;
-use tree_image::spot_of;
 
 /// What is found of an item before its downlink is followed.
 #[derive(Clone, Copy, Debug, PartialEq, Eq)]

@@ -4,7 +4,7 @@ ghost use Rattle.page_layout.specs.declared.rules.Rule.{Rule};
 ghost use Rattle.bt_meta.specs.Pages.{is_idle};
 ghost use Rattle.reports.specs.declared.places.Place.{Place};
 ghost use Rattle.reports.specs.declared.places.Reason.{Reason};
-ghost use Rattle.tree_image.specs.Pages.{KeepsPage};
+ghost use Rattle.bt_image.specs.Pages.{KeepsPage};
 ghost use Rattle.bt_pages.specs.Broken.{AreEmpty, BreaksBlock, DoubtsBlock, IsDoubtedAt, IsFoundAt};
 ghost use Rattle.bt_pages.specs.Found.{block_lists};
 ghost use Rattle.bt_pages.specs.Trees.{Tree};

@@ -10,18 +10,18 @@ ghost use Rattle.bt_meta.specs.Pages.{opaque_of};
 ghost use Rattle.bt_tuples.specs.Rules.{breaks_place};
 ghost use Rattle.rel_files.specs.Faults.{read_fault};
 ghost use Rattle.rel_files.specs.Relation.{IsAttached};
-ghost use Rattle.tree_image.specs.Image.{downlink_in, item_at};
-ghost use Rattle.tree_image.specs.Pages.{breaks_downlink, breaks_siblings, is_bad_sibling};
+ghost use Rattle.bt_image.specs.Image.{downlink_in, item_at};
+ghost use Rattle.bt_image.specs.Pages.{breaks_downlink, breaks_siblings, is_bad_sibling};
 ghost use Rattle.bt_pages.specs.Questions.{breaks_item, downlink_rules, has_downlink, sibling_rule};
 ghost use Rattle.bt_pages.specs.Seen.{HasSeen, StaysSeen};
 ghost use Rattle.bt_pages.specs.Trees.{tree_seen};
 
 use crate::seen::SeenTree;
+use bt_image::first_data;
 use bt_meta::{HeadKind, opaque, tree_head};
 use outside::Files;
 use page_layout::{PageKind, PageView, Rule};
 use rel_files::ReadFault;
-use tree_image::first_data;
 
 // Whether a block of this level has a left sibling that is a bad one.
 fn is_bad_left<F: Files>(
@@ -84,7 +84,7 @@ fn is_bad_right<F: Files>(
 /// B12 of a block, whose page is in hand: it has a left or a right sibling that isn't a block of the
 /// index, is no part of the tree, has another level or doesn't link back. It reads at most twice of each.
 /// `ReadFault` comes only where the files couldn't be read.
-#[tactic(auto, unfolding(crate::specs::Questions::sibling_rule, tree_image::specs::Pages::breaks_siblings))]
+#[tactic(auto, unfolding(crate::specs::Questions::sibling_rule, bt_image::specs::Pages::breaks_siblings))]
 pub fn sibling_rule<F: Files>(
     files: &mut F,
     tree: &mut SeenTree<'_>,
@@ -110,7 +110,7 @@ pub fn sibling_rule<F: Files>(
 }
 
 // Where the downlink of item i leads.
-#[tactic(auto, unfolding(tree_image::specs::Image::item_at, bt_tuples::specs::Items::meaning_of))]
+#[tactic(auto, unfolding(bt_image::specs::Image::item_at, bt_tuples::specs::Items::meaning_of))]
 fn downlink(page: PageView<'_>, i: u16) -> u32
     requires page { page_rule_of PageKind.Tree (page_bytes page) ≡ None }
     requires first { 1 ≤ i }
@@ -128,7 +128,7 @@ fn downlink(page: PageView<'_>, i: u16) -> u32
 }
 
 // Whether a downlink from a page of this level is a bad one.
-#[tactic(auto, unfolding(tree_image::specs::Pages::breaks_downlink))]
+#[tactic(auto, unfolding(bt_image::specs::Pages::breaks_downlink))]
 fn is_bad_downlink<F: Files>(
     files: &mut F,
     tree: &mut SeenTree<'_>,

@@ -6,16 +6,16 @@ ghost use Rattle.page_layout.specs.Page.{count_of, page_rule_of};
 ghost use Rattle.page_layout.specs.View.{page_bytes};
 ghost use Rattle.bt_meta.specs.Flags.{is_half_dead, is_leaf};
 ghost use Rattle.bt_meta.specs.Pages.{opaque_of};
-ghost use Rattle.tree_image.specs.Image.{first_data, has_high_key};
+ghost use Rattle.bt_image.specs.Image.{first_data, has_high_key};
 ghost use Rattle.bt_pages.specs.Passes.{RiseTo, pass_of};
 ghost use Rattle.bt_pages.specs.declared.pass.Pass.TheVariants.{Ordered};
 
 use crate::high_key::{last_key_at, separator_in};
+use bt_image::{breaks_high_key, first_data, has_high_key};
 use bt_meta::opaque;
 use bt_tuples::{Spot3, plain_entry_prefix, tree_item};
 use key_attrs::IndexColumns;
 use page_layout::{PageKind, PageView};
-use tree_image::{breaks_high_key, first_data, has_high_key};
 
 // Whether the data items of a leaf are plain entries, of which each has a greater number than the one before.
 fn do_entries_rise(page: PageView<'_>, first: u16, columns: &IndexColumns<'_>) -> bool

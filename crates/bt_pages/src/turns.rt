@@ -6,16 +6,16 @@ ghost use Rattle.page_layout.specs.View.{page_bytes};
 ghost use Rattle.key_orders.specs.Separators.{separator_of};
 ghost use Rattle.bt_meta.specs.Flags.{is_half_dead};
 ghost use Rattle.bt_meta.specs.Pages.{opaque_of};
-ghost use Rattle.tree_image.specs.Pages.{breaks_order};
-ghost use Rattle.tree_image.specs.Places.{place_of, places_of};
+ghost use Rattle.bt_image.specs.Pages.{breaks_order};
+ghost use Rattle.bt_image.specs.Places.{place_of, places_of};
 ghost use Rattle.bt_pages.specs.Passes.{IsCarried, held};
 ghost use Rattle.bt_pages.specs.Questions.{is_without_fault};
 
+use bt_image::{ItemPlace, ItemPlaces, breaks_order};
 use bt_tuples::ItemKeys;
 use key_attrs::IndexColumns;
 use key_orders::SepRef;
 use page_layout::{PageKind, PageView};
-use tree_image::{ItemPlace, ItemPlaces, breaks_order};
 
 // Reads an item into a place, where it is plain, and tells whether it isn't above the item before, whose
 // last key is in hand (B10). The place then has the key of the last entry.

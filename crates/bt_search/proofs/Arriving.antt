@@ -4,20 +4,20 @@ use Rattle.std.specs.Prelude.{IfOk, Result, Ok, Err, None, Option, Some, cond, n
 use Rattle.std.proofs.lemmas.Bool.{and_cases, and_from, both_ways, cases_lt, cond-false, cond-true, eq-eqb, lt-ltb, ne_eqb, not_from_false, or_parts}
 use Rattle.outside.specs.Outside.{Names}
 use Rattle.page_layout.specs.Page.{count_of}
-use Rattle.tree_search.specs.Keys.{Entry}
-use Rattle.tree_search.specs.Order.{Scan}
-use Rattle.tree_search.specs.Search.{Answers, At, Ended, IsWanted, State, Stuck, descend, right_of, search_start, visit, visit_page}
-use Rattle.tree_search.specs.Spots.{Stands, VisitsOn, from_place, left_of, rest_of, visits_made, yielded_of}
-use Rattle.tree_search.specs.Tree.{Index}
-use Rattle.tree_search.proofs.Whole.{after_ended}
+use Rattle.laws_search.specs.Keys.{Entry}
+use Rattle.laws_search.specs.Order.{Scan}
+use Rattle.laws_search.specs.Search.{Answers, At, Ended, IsWanted, State, Stuck, descend, right_of, search_start, visit, visit_page}
+use Rattle.laws_search.specs.Spots.{Stands, VisitsOn, from_place, left_of, rest_of, visits_made, yielded_of}
+use Rattle.laws_search.specs.Tree.{Index}
+use Rattle.laws_search.proofs.Whole.{after_ended}
 use Rattle.key_orders.specs.declared.columns.Value.{Value}
 use Rattle.key_orders.specs.declared.Tid.{Tid}
 use Rattle.key_orders.specs.Scans.{Bounds, order_of}
 use Rattle.key_attrs.specs.Columns.{TreeColumns}
 use Rattle.bt_meta.specs.Flags.{is_half_dead, is_leaf}
 use Rattle.bt_meta.specs.Pages.{opaque_of}
-use Rattle.tree_image.specs.Image.{TreePage, first_data, has_high_key, page_image}
-use Rattle.tree_image.specs.Pages.{breaks_items}
+use Rattle.bt_image.specs.Image.{TreePage, first_data, has_high_key, page_image}
+use Rattle.bt_image.specs.Pages.{breaks_items}
 use Rattle.bt_levels.specs.declared.sound.SoundTree.{SoundTree}
 use Rattle.bt_levels.specs.Sound.{HoldsTree, block_count, fastroot_of, held_block, image_of, index_columns, specs_of}
 use Rattle.bt_steps.specs.declared.inner.Step.{Step}

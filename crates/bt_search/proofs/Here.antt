@@ -2,7 +2,7 @@
 use Rattle.std.proofs.Common.{◌≡◌, ◌≤◌, ℕ, List, [], ◌∷◌, Bool, false, ap, refl, subst, sym}
 use Rattle.std.specs.Prelude.{Some, Ok, slice_get}
 use Rattle.page_layout.specs.Page.{count_of, item_of}
-use Rattle.tree_search.specs.Keys.{Entry, Separator}
+use Rattle.laws_search.specs.Keys.{Entry, Separator}
 use Rattle.key_orders.specs.declared.columns.Value.{Value}
 use Rattle.key_orders.specs.declared.Tid.{Tid}
 use Rattle.key_attrs.specs.Columns.{TreeColumns}
@@ -15,8 +15,8 @@ use Rattle.bt_tuples.specs.Keys.{first_key, key_with}
 use Rattle.bt_tuples.specs.Rules.{tuple_of}
 use Rattle.bt_tuples.specs.Tuples.{values_in}
 use Rattle.bt_tuples.proofs.Outcomes.{read_means}
-use Rattle.tree_image.specs.Image.{first_data, keys_in}
-use Rattle.tree_image.proofs.Rises.{IsGood}
+use Rattle.bt_image.specs.Image.{first_data, keys_in}
+use Rattle.bt_image.proofs.Rises.{IsGood}
 use Rattle.bt_steps.specs.Entries.{IsRead, keys_at}
 use Rattle.bt_steps.specs.Sought.{HasSought}
 use Rattle.bt_steps.proofs.Items.{entry_with, item-good, item-reads, keys-are}

@@ -4,7 +4,7 @@ use Rattle.std.specs.Prelude.{None, Some, Ok, ◌&&◌, ◌||◌, ◌==◌, nat_
 use Rattle.std.proofs.lemmas.Bool.{or_parts}
 use Rattle.std.proofs.lemmas.Bool.Decides.{nat_tests}
 use Rattle.page_layout.specs.Page.{item_of}
-use Rattle.tree_search.specs.Keys.{Entry, Separator}
+use Rattle.laws_search.specs.Keys.{Entry, Separator}
 use Rattle.key_orders.specs.declared.columns.KeySpec.{KeySpec}
 use Rattle.key_orders.specs.declared.columns.Value.{Value}
 use Rattle.key_orders.specs.declared.Tid.{Tid}
@@ -21,8 +21,8 @@ use Rattle.bt_tuples.specs.declared.items.Spot3.TheVariants.{LeafItem}
 use Rattle.bt_tuples.specs.declared.keys.ItemKeys.{ItemKeys}
 use Rattle.bt_tuples.proofs.Outcomes.{read_means}
 use Rattle.bt_tuples.proofs.TidLists.{length-tids_at, slice_get-tids_at}
-use Rattle.tree_image.specs.Image.{item_at, keys_in}
-use Rattle.tree_image.proofs.Rises.{IsGood}
+use Rattle.bt_image.specs.Image.{item_at, keys_in}
+use Rattle.bt_image.proofs.Rises.{IsGood}
 use Rattle.bt_steps.specs.Entries.{IsRead, keys_at}
 use Rattle.bt_steps.proofs.Items.{item-good, item-reads, keys-are, list-count, list-each, one-each}
 use Rattle.bt_steps.proofs.OnItem.{list-tid, one-is}

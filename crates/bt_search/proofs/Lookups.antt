@@ -4,16 +4,16 @@ use Rattle.std.specs.Prelude.{Contains, None, Option, Some, cond, not, nat_lt, â
 use Rattle.std.specs.List.{filter}
 use Rattle.std.proofs.lemmas.List.Sorted.{IsPermutation-sym}
 use Rattle.std.proofs.lemmas.Bool.{and_from, and_left, and_right, both_ways, cases_Bool, cond-false, cond-true, eq-eqb, ne_eqb, not-true, not_from_false, not_from_true}
-use Rattle.tree_search.specs.Order.{IsOrder, IsScan, Order, Scan}
-use Rattle.tree_search.specs.Probe.{child_for, halves_down, leaf_after}
-use Rattle.tree_search.specs.Search.{At, Ended, State, Stuck, after_visits, descend, entries_of, is_wanted, right_of, search_start, visit, visit_page}
-use Rattle.tree_search.specs.Searchable.{IsSearchable}
-use Rattle.tree_search.specs.Tree.{Index}
-use Rattle.tree_search.proofs.Gather.{In-from_Contains}
-use Rattle.tree_search.proofs.Lists.{In}
-use Rattle.tree_search.proofs.Probe.{finds_leaf}
-use Rattle.tree_search.proofs.Unique.{In-permutation}
-use Rattle.tree_search.proofs.Whole.{after_ended, finds}
+use Rattle.laws_search.specs.Order.{IsOrder, IsScan, Order, Scan}
+use Rattle.laws_search.specs.Probe.{child_for, halves_down, leaf_after}
+use Rattle.laws_search.specs.Search.{At, Ended, State, Stuck, after_visits, descend, entries_of, is_wanted, right_of, search_start, visit, visit_page}
+use Rattle.laws_search.specs.Searchable.{IsSearchable}
+use Rattle.laws_search.specs.Tree.{Index}
+use Rattle.laws_search.proofs.Gather.{In-from_Contains}
+use Rattle.laws_search.proofs.Lists.{In}
+use Rattle.laws_search.proofs.Probe.{finds_leaf}
+use Rattle.laws_search.proofs.Unique.{In-permutation}
+use Rattle.laws_search.proofs.Whole.{after_ended, finds}
 
 -- THE SCAN OF ONE ENTRY
 

@@ -3,9 +3,9 @@ use Rattle.std.proofs.Common.{◌≡◌, ◌≢◌, ℕ, zero, suc, ◌+◌, ◌
 use Rattle.std.specs.Prelude.{Contains, IfSome, None, Option, Some, cond, if◌then◌else◌, not, nat_lt, option_map, ◌==◌, ◌&&◌, ◌||◌}
 use Rattle.std.proofs.lemmas.Bool.{and_from, and_parts, both_ways, eq-eqb, ltb-true, not_from_false, not-true, or_parts}
 use Rattle.outside.specs.Outside.{Names}
-use Rattle.tree_search.specs.Keys.{Entry}
-use Rattle.tree_search.specs.Probe.{child_for, leaf_after}
-use Rattle.tree_search.specs.Search.{entries_of, right_of}
+use Rattle.laws_search.specs.Keys.{Entry}
+use Rattle.laws_search.specs.Probe.{child_for, leaf_after}
+use Rattle.laws_search.specs.Search.{entries_of, right_of}
 use Rattle.key_orders.specs.declared.columns.Value.{Value}
 use Rattle.key_orders.specs.declared.Tid.{Tid}
 use Rattle.key_attrs.specs.Columns.{TreeColumns}
@@ -13,7 +13,7 @@ use Rattle.bt_meta.specs.Flags.{is_half_dead, is_leaf}
 use Rattle.bt_meta.specs.Pages.{is_idle, opaque_of}
 use Rattle.bt_levels.specs.declared.sound.SoundTree.{SoundTree}
 use Rattle.bt_levels.specs.Sound.{HoldsTree, block_count, fastroot_of, held_block, image_of, index_columns, specs_of}
-use Rattle.tree_image.specs.Image.{TreeIndex, page_image, page_keys}
+use Rattle.bt_image.specs.Image.{TreeIndex, page_image, page_keys}
 use Rattle.bt_steps.specs.Pages.{IsReadable}
 use Rattle.bt_steps.specs.Sought.{HasSought, IsSought, is_below}
 use Rattle.bt_steps.specs.Ways.{Goes, Key, Leads, down_to, is_left_behind, next_of}

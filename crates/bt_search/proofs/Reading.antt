@@ -6,9 +6,9 @@ use Rattle.std.proofs.lemmas.Bool.{cases_lt, cond-false, ne_eqb, or_from, or_par
 use Rattle.std.proofs.lemmas.List.{take_all}
 use Rattle.outside.specs.Outside.{Names}
 use Rattle.page_layout.specs.Page.{count_of}
-use Rattle.tree_search.specs.Keys.{Entry}
-use Rattle.tree_search.specs.Search.{State, right_of}
-use Rattle.tree_search.specs.Spots.{Stands, from_place}
+use Rattle.laws_search.specs.Keys.{Entry}
+use Rattle.laws_search.specs.Search.{State, right_of}
+use Rattle.laws_search.specs.Spots.{Stands, from_place}
 use Rattle.key_orders.specs.declared.columns.Value.{Value}
 use Rattle.key_orders.specs.declared.Tid.{Tid}
 use Rattle.key_orders.specs.Scans.{Bounds}
@@ -16,9 +16,9 @@ use Rattle.key_attrs.specs.Columns.{TreeColumns}
 use Rattle.bt_meta.specs.Flags.{is_half_dead, is_leaf}
 use Rattle.bt_meta.specs.Pages.{opaque_of}
 use Rattle.bt_tuples.specs.Items.{Item, Pivot, Plain, Posting}
-use Rattle.tree_image.specs.Image.{first_data, item_at, keys_in, page_image, page_keys, spot_of}
-use Rattle.tree_image.proofs.PageFields.{first_cases, leaf_item_good, leaf_spot}
-use Rattle.tree_image.proofs.Rises.{IsGood}
+use Rattle.bt_image.specs.Image.{first_data, item_at, keys_in, page_image, page_keys, spot_of}
+use Rattle.bt_image.proofs.PageFields.{first_cases, leaf_item_good, leaf_spot}
+use Rattle.bt_image.proofs.Rises.{IsGood}
 use Rattle.bt_levels.specs.declared.sound.SoundTree.{SoundTree}
 use Rattle.bt_levels.specs.Sound.{HoldsTree, block_count, held_block, image_of, index_columns}
 use Rattle.bt_search.specs.declared.item.Fate.{Fate}

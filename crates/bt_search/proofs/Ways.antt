@@ -2,11 +2,11 @@
 use Rattle.std.proofs.Common.{◌≡◌, ◌≢◌, ℕ, zero, suc, ◌+◌, ◌-◌, ◌<◌, ◌≤◌, inl, inr, sym, ◌∙◌, subst, arith}
 use Rattle.std.specs.Prelude.{◌==◌, cond}
 use Rattle.std.proofs.lemmas.Bool.{cases_eq, cond-false, cond-true, eq-eqb, ne_eqb}
-use Rattle.tree_search.specs.Levels.{level_rows}
-use Rattle.tree_search.specs.Order.{Order}
-use Rattle.tree_search.specs.Probe.{halves_down, right_halves}
-use Rattle.tree_search.specs.Searchable.{IsSearchable}
-use Rattle.tree_search.specs.Tree.{Index}
+use Rattle.laws_search.specs.Levels.{level_rows}
+use Rattle.laws_search.specs.Order.{Order}
+use Rattle.laws_search.specs.Probe.{halves_down, right_halves}
+use Rattle.laws_search.specs.Searchable.{IsSearchable}
+use Rattle.laws_search.specs.Tree.{Index}
 
 module _ {S E : Type 0} (x : Index S E) where
   -- the right halves of the levels from one on are among those of all levels above it too

@@ -1,9 +1,9 @@
 -- What visits to pages lead to.
 use Rattle.std.specs.Prelude.{◌≡◌, ℕ, ◌+◌, List}
 use Rattle.outside.specs.Outside.{Names}
-use Rattle.tree_search.specs.Keys.{Entry, goes_right}
-use Rattle.tree_search.specs.Search.{State}
-use Rattle.tree_search.specs.Spots.{IsVisited}
+use Rattle.laws_search.specs.Keys.{Entry, goes_right}
+use Rattle.laws_search.specs.Search.{State}
+use Rattle.laws_search.specs.Spots.{IsVisited}
 use Rattle.key_orders.specs.declared.columns.KeySpec.{KeySpec}
 use Rattle.key_orders.specs.declared.columns.Value.{Value}
 use Rattle.key_orders.specs.declared.Tid.{Tid}

@@ -2,11 +2,11 @@
 use Rattle.std.specs.Prelude.{◌≡◌, ℕ, ◌<◌, ◌≤◌, List, [], length, None, Option, Some, slice_get}
 use Rattle.page_layout.specs.Page.{count_of, page_rule_of}
 use Rattle.page_layout.specs.declared.page.PageKind.TheVariants.{Tree}
-use Rattle.tree_search.specs.Keys.{Entry}
+use Rattle.laws_search.specs.Keys.{Entry}
 use Rattle.key_orders.specs.declared.columns.Value.{Value}
 use Rattle.key_orders.specs.declared.Tid.{Tid}
 use Rattle.key_attrs.specs.Columns.{TreeColumns}
-use Rattle.tree_image.specs.Image.{LeafEntry, entries_in, item_at}
+use Rattle.bt_image.specs.Image.{LeafEntry, entries_in, item_at}
 use Rattle.bt_search.specs.declared.spot.EntryRef.{EntryRef}
 use Rattle.bt_search.specs.declared.spot.Spot.{Spot}
 use Rattle.bt_steps.specs.Entries.{IsRead, keys_at}

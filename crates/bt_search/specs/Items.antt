@@ -1,8 +1,8 @@
 -- What a scan does with the entries of an item of a leaf, how many these are, and their TIDs.
 use Rattle.std.specs.Prelude.{◌≡◌, ℕ, ◌+◌, ◌*◌, Bool, true, false, List}
-use Rattle.tree_search.specs.Back.{Back}
-use Rattle.tree_search.specs.Keys.{Entry, Separator}
-use Rattle.tree_search.specs.Search.{is_wanted}
+use Rattle.laws_search.specs.Back.{Back}
+use Rattle.laws_search.specs.Keys.{Entry, Separator}
+use Rattle.laws_search.specs.Search.{is_wanted}
 use Rattle.key_orders.specs.declared.columns.Value.{Value}
 use Rattle.key_orders.specs.declared.Tid.{Tid}
 use Rattle.key_orders.specs.Scans.{Bounds, back_of}

@@ -1,8 +1,8 @@
 -- What a reader finds on a leaf.
 use Rattle.std.specs.Prelude.{◌≡◌, ℕ, List, [], ◌∷◌, Some}
 use Rattle.outside.specs.Outside.{Names}
-use Rattle.tree_search.specs.Keys.{Entry}
-use Rattle.tree_search.specs.Search.{At}
+use Rattle.laws_search.specs.Keys.{Entry}
+use Rattle.laws_search.specs.Search.{At}
 use Rattle.key_orders.specs.declared.columns.Value.{Value}
 use Rattle.key_orders.specs.declared.Tid.{Tid}
 use Rattle.key_orders.specs.Scans.{Bounds}

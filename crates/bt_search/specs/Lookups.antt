@@ -1,9 +1,9 @@
 -- A look-up of one entry: the way to the leaf on which alone it may stand, and what is found there.
 use Rattle.std.specs.Prelude.{◌≡◌, ◌≢◌, ◌==◌, ℕ, ◌+◌, ◌-◌, ◌<◌, true, false, cond, List, Contains, Option, None, Some}
 use Rattle.outside.specs.Outside.{Names}
-use Rattle.tree_search.specs.Keys.{Entry}
-use Rattle.tree_search.specs.Probe.{halves_down, leaf_after}
-use Rattle.tree_search.specs.Search.{entries_of}
+use Rattle.laws_search.specs.Keys.{Entry}
+use Rattle.laws_search.specs.Probe.{halves_down, leaf_after}
+use Rattle.laws_search.specs.Search.{entries_of}
 use Rattle.key_orders.specs.declared.columns.Value.{Value}
 use Rattle.key_orders.specs.declared.Tid.{Tid}
 use Rattle.bt_meta.specs.Flags.{is_half_dead, is_leaf}

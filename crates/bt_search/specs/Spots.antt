@@ -1,9 +1,9 @@
 -- A reader's spot on the leaves of an index: where it may stand, and what is left for a scan from there on.
 use Rattle.std.specs.Prelude.{◌≡◌, ◌≢◌, ℕ, ◌==◌, cond, List, [], ◌∷◌, Some, None, Option}
 use Rattle.outside.specs.Outside.{Names}
-use Rattle.tree_search.specs.Keys.{Entry}
-use Rattle.tree_search.specs.Search.{State, Ended}
-use Rattle.tree_search.specs.Spots.{Stands, from_place, left_of, rest_of}
+use Rattle.laws_search.specs.Keys.{Entry}
+use Rattle.laws_search.specs.Search.{State, Ended}
+use Rattle.laws_search.specs.Spots.{Stands, from_place, left_of, rest_of}
 use Rattle.key_orders.specs.declared.columns.Value.{Value}
 use Rattle.key_orders.specs.declared.Tid.{Tid}
 use Rattle.key_orders.specs.Scans.{Bounds, scan_of}

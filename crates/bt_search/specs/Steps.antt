@@ -1,8 +1,8 @@
 -- A search of an index that the names hold, step by step.
 use Rattle.std.specs.Prelude.{ℕ, ◌≤◌}
 use Rattle.outside.specs.Outside.{Names}
-use Rattle.tree_search.specs.Search.{Answers, IsWanted, search_start}
-use Rattle.tree_search.specs.Spots.{ReadsOn, Stands, VisitsOn}
+use Rattle.laws_search.specs.Search.{Answers, IsWanted, search_start}
+use Rattle.laws_search.specs.Spots.{ReadsOn, Stands, VisitsOn}
 use Rattle.key_orders.specs.Scans.{Bounds, order_of}
 use Rattle.bt_levels.specs.declared.sound.SoundTree.{SoundTree}
 use Rattle.bt_levels.specs.Sound.{block_count, image_of, specs_of}

@@ -2,9 +2,9 @@
 ghost use Rattle.std.specs.Prelude.{◌≡◌, ◌≢◌, ◌<◌, ◌≤◌, ◌+◌, ◌-◌, ◌^◌, ◌↔◌, [], IfOk, OnOk};
 ghost use Rattle.outside.specs.Outside.{AskedAtMost, IfTold, Tells};
 ghost use Rattle.page_layout.specs.View.{page_bytes};
-ghost use Rattle.tree_image.specs.Image.{first_data};
+ghost use Rattle.bt_image.specs.Image.{first_data};
 ghost use Rattle.rel_files.specs.Faults.{read_fault};
-ghost use Rattle.tree_search.specs.Search.{Answers, At, IsWanted, search_start};
+ghost use Rattle.laws_search.specs.Search.{Answers, At, IsWanted, search_start};
 ghost use Rattle.key_orders.specs.Scans.{FitsKey, order_of};
 ghost use Rattle.bt_levels.specs.Sound.{HoldsTree, block_count, fastroot_of, held_block, image_of, specs_of};
 ghost use Rattle.bt_search.specs.Descents.{ComesTo, GoesOn};
@@ -13,13 +13,13 @@ ghost use Rattle.bt_search.specs.Spots.{StandsAt, left_at, left_from, rest_at, s
 
 use crate::laws::searches_go_in_steps;
 use crate::spot::{NOWHERE, Spot, Visits};
+use bt_image::first_data;
 use bt_levels::SoundTree;
 use bt_steps::{Step, step_on};
 use key_orders::Scan;
 use outside::Files;
 use page_layout::PageView;
 use rel_files::ReadFault;
-use tree_image::first_data;
 
 /// A search under way: of which tree, by which scan, and at how many visits it gives up.
 #[derive(Drop)]

@@ -1,7 +1,7 @@
 //! Reads the entry at a place of a leaf.
 ghost use Rattle.std.specs.Prelude.{◌<◌, ◌↔◌, IfSome, IsSome, IsSomeAnd, length, slice_get};
 ghost use Rattle.bt_tuples.specs.Shown.{item_shown};
-ghost use Rattle.tree_image.specs.Image.{keys_in};
+ghost use Rattle.bt_image.specs.Image.{keys_in};
 ghost use Rattle.bt_search.specs.Entries.{IsEntryAt, Shows, entry_on};
 ghost use Rattle.bt_levels.specs.Sound.{index_columns};
 

@@ -6,10 +6,10 @@ ghost use Rattle.rel_files.specs.Faults.{read_fault};
 ghost use Rattle.key_orders.specs.declared.columns.Value.{Value as Shown};
 ghost use Rattle.key_orders.specs.declared.Tid.{Tid as At};
 ghost use Rattle.key_orders.specs.Values.{value_shown};
-ghost use Rattle.stored_keys.specs.Same.{same_key};
+ghost use Rattle.key_storage.specs.Same.{same_key};
 ghost use Rattle.key_attrs.specs.Columns.{tree_columns};
 ghost use Rattle.bt_tuples.specs.Shown.{item_shown};
-ghost use Rattle.tree_image.specs.Image.{entries_in};
+ghost use Rattle.bt_image.specs.Image.{entries_in};
 ghost use Rattle.bt_levels.specs.Sound.{HoldsTree, held_block, index_columns};
 ghost use Rattle.bt_search.specs.Cached.{IsCacheOf};
 ghost use Rattle.bt_search.specs.Entries.{IsEntryAt, included_in, included_on};
@@ -21,10 +21,10 @@ use bt_levels::SoundTree;
 use bt_tuples::{Spot3, TreeItem, tree_item};
 use key_attrs::IndexColumns;
 use key_orders::ValueRef;
+use key_storage::same_values;
 use outside::Files;
 use page_layout::{PageKind, PageView};
 use rel_files::ReadFault;
-use stored_keys::same_values;
 
 // Whether these are the included values of an item's entry at a number. Only a plain item has some.
 fn item_includes(item: TreeItem<'_>, nth: u16, more: &[ValueRef<'_>]) -> bool

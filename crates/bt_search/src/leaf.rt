@@ -3,7 +3,7 @@ ghost use Rattle.std.specs.Prelude.{◌≡◌, ◌≢◌, ◌<◌, ◌≤◌, �
 ghost use Rattle.outside.specs.Outside.{Names as Held};
 ghost use Rattle.page_layout.specs.Page.{count_of, page_rule_of};
 ghost use Rattle.page_layout.specs.View.{page_bytes};
-ghost use Rattle.tree_search.specs.Keys.{Entry as Given};
+ghost use Rattle.laws_search.specs.Keys.{Entry as Given};
 ghost use Rattle.key_orders.specs.declared.columns.Value.{Value};
 ghost use Rattle.key_orders.specs.declared.Tid.{Tid as Place};
 ghost use Rattle.key_orders.specs.Scans.{FitsKey};

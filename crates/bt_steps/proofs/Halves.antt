@@ -2,8 +2,8 @@
 use Rattle.std.proofs.Common.{◌≡◌, ◌≢◌, ℕ, zero, suc, ◌+◌, ◌-◌, ◌<◌, ◌≤◌, inl, inr, Bool, true, false, List, [], length, map, refl, ap, sym, subst, ◌∙◌, arith}
 use Rattle.std.specs.List.{filter}
 use Rattle.std.proofs.lemmas.Bool.{cases_Bool, cases_lt, cond-false, cond-true, le-ltb, ne_eqb}
-use Rattle.tree_search.specs.Keys.{IsSeparatorOf, Separator}
-use Rattle.tree_search.specs.Search.{last_or}
+use Rattle.laws_search.specs.Keys.{IsSeparatorOf, Separator}
+use Rattle.laws_search.specs.Search.{last_or}
 use Rattle.page_layout.specs.Page.{count_of}
 use Rattle.key_orders.specs.declared.columns.Value.{Value}
 use Rattle.key_orders.specs.declared.Tid.{Tid}
@@ -13,9 +13,9 @@ use Rattle.bt_meta.specs.Flags.{is_half_dead, is_leaf}
 use Rattle.bt_meta.specs.Pages.{opaque_of}
 use Rattle.bt_tuples.specs.declared.items.Spot3.TheVariants.{Inner, LeafItem}
 use Rattle.bt_tuples.specs.Keys.{first_key, last_key}
-use Rattle.tree_image.specs.Image.{first_data, item_at, numbers_from, spot_of}
-use Rattle.tree_image.specs.Pages.{IsPlainItem, first_compared, is_key_below}
-use Rattle.tree_image.proofs.PageFields.{first_cases, order_kept}
+use Rattle.bt_image.specs.Image.{first_data, item_at, numbers_from, spot_of}
+use Rattle.bt_image.specs.Pages.{IsPlainItem, first_compared, is_key_below}
+use Rattle.bt_image.proofs.PageFields.{first_cases, order_kept}
 use Rattle.bt_steps.specs.Pages.{IsReadable}
 use Rattle.bt_steps.specs.Ways.{Goes, GoesLower, is_passed}
 use Rattle.bt_steps.proofs.Separators.{first-is, is-separator, last-is}

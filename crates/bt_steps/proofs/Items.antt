@@ -1,7 +1,7 @@
 -- A leaf's item that was read, and its entries.
 use Rattle.std.proofs.Common.{◌≡◌, ℕ, zero, suc, Bool, false, List, [], ◌∷◌, length, refl, ap, sym, subst, ◌∙◌}
 use Rattle.std.specs.Prelude.{Option, Some, Ok, Err, slice_get}
-use Rattle.tree_search.specs.Keys.{Entry}
+use Rattle.laws_search.specs.Keys.{Entry}
 use Rattle.key_orders.specs.declared.columns.Value.{Value}
 use Rattle.key_orders.specs.declared.Tid.{Tid}
 use Rattle.key_attrs.specs.Columns.{TreeColumns}
@@ -10,10 +10,10 @@ use Rattle.bt_tuples.specs.declared.items.Spot3.{Spot3}
 use Rattle.bt_tuples.specs.declared.items.Spot3.TheVariants.{LeafItem}
 use Rattle.bt_tuples.specs.Items.{Item, ItemOutcome, Plain, Posting, item_outcome}
 use Rattle.bt_tuples.proofs.Outcomes.{kept_means, read_means}
-use Rattle.tree_image.specs.Image.{item_at, keys_in, spot_of}
-use Rattle.tree_image.specs.Pages.{IsPlainItem}
-use Rattle.tree_image.proofs.PageFields.{leaf_item_good}
-use Rattle.tree_image.proofs.Rises.{IsGood}
+use Rattle.bt_image.specs.Image.{item_at, keys_in, spot_of}
+use Rattle.bt_image.specs.Pages.{IsPlainItem}
+use Rattle.bt_image.proofs.PageFields.{leaf_item_good}
+use Rattle.bt_image.proofs.Rises.{IsGood}
 use Rattle.bt_steps.specs.Entries.{IsRead, keys_at}
 
 abbrev pub entry_with : List Value → Bool → Tid → Entry Value Tid

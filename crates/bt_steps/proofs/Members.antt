@@ -6,8 +6,8 @@ use Rattle.std.proofs.lemmas.Bool.{cases_eq}
 use Rattle.std.proofs.lemmas.List.Elements.{Contains-append_cases, Contains-append_left, Contains-append_right}
 use Rattle.std.proofs.lemmas.Option.{get_or_from_slice_get, slice_get_within}
 use Rattle.page_layout.specs.Page.{count_of}
-use Rattle.tree_image.specs.Image.{data_items, first_data, numbers_from}
-use Rattle.tree_image.specs.Pages.{IsDataItem}
+use Rattle.bt_image.specs.Image.{data_items, first_data, numbers_from}
+use Rattle.bt_image.specs.Pages.{IsDataItem}
 
 pub none-in : {X : Type 0} (x : X) (xs : List X) → xs ≡ [] → Contains xs x → ⊥
 none-in x [] e h = let lt = h.1 in omega (arith, lt)

@@ -4,11 +4,11 @@ use Rattle.std.specs.Prelude.{Some, slice_get}
 use Rattle.std.specs.Ordering.{is_ne}
 use Rattle.std.specs.declared.cmp.Ordering.{Ordering}
 use Rattle.std.specs.declared.cmp.Ordering.TheVariants.{Less, Equal, Greater}
-use Rattle.tree_search.specs.Keys.{Entry}
+use Rattle.laws_search.specs.Keys.{Entry}
 use Rattle.key_orders.specs.declared.columns.Value.{Value}
 use Rattle.key_orders.specs.declared.Tid.{Tid}
 use Rattle.bt_tuples.specs.Items.{Plain, Posting}
-use Rattle.tree_image.specs.Image.{keys_in}
+use Rattle.bt_image.specs.Image.{keys_in}
 use Rattle.bt_steps.proofs.Items.{entry_with}
 use Rattle.bt_steps.proofs.TidRises.{some-is}
 

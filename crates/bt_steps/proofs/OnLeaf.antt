@@ -6,11 +6,11 @@ use Rattle.std.specs.List.{flat_map}
 use Rattle.std.specs.Ordering.{is_lt}
 use Rattle.std.proofs.lemmas.Bool.{and_parts, both_ways, cases_lt, cond-true, not-false, not-true}
 use Rattle.page_layout.specs.Page.{count_of}
-use Rattle.tree_search.specs.Keys.{Entry, Separator, as_separator, compare_keys}
-use Rattle.tree_search.specs.Order.{Order}
-use Rattle.tree_search.proofs.Gather.{In-from_Contains}
-use Rattle.tree_search.proofs.Lists.{Each-front, Each-in, In, In-cases, In-left, In-right}
-use Rattle.tree_search.proofs.Rising.{Rising, rising_across, rising_from_adjacent}
+use Rattle.laws_search.specs.Keys.{Entry, Separator, as_separator, compare_keys}
+use Rattle.laws_search.specs.Order.{Order}
+use Rattle.laws_search.proofs.Gather.{In-from_Contains}
+use Rattle.laws_search.proofs.Lists.{Each-front, Each-in, In, In-cases, In-left, In-right}
+use Rattle.laws_search.proofs.Rising.{Rising, rising_across, rising_from_adjacent}
 use Rattle.key_orders.specs.declared.columns.Value.{Value}
 use Rattle.key_orders.specs.declared.Tid.{Tid}
 use Rattle.key_orders.specs.Keys.{columns_of, entry_of, tid_order}
@@ -22,11 +22,11 @@ use Rattle.bt_tuples.specs.declared.items.Spot3.{Spot3}
 use Rattle.bt_tuples.specs.Items.{Item, Pivot, Plain, Posting}
 use Rattle.bt_tuples.specs.Rules.{KeepsItemRules}
 use Rattle.bt_tuples.specs.Keys.{first_key, last_key}
-use Rattle.tree_image.specs.Image.{first_data, item_at, keys_in, numbers_from, page_keys}
-use Rattle.tree_image.specs.Pages.{KeepsPage, first_compared, is_key_below}
-use Rattle.tree_image.proofs.PageFields.{first_cases, leaf_item_good, leaf_spot, order_kept}
-use Rattle.tree_image.proofs.Rises.{AreSame, IsGood, adjacent_from, items_rise}
-use Rattle.tree_image.proofs.Sound.{same_values}
+use Rattle.bt_image.specs.Image.{first_data, item_at, keys_in, numbers_from, page_keys}
+use Rattle.bt_image.specs.Pages.{KeepsPage, first_compared, is_key_below}
+use Rattle.bt_image.proofs.PageFields.{first_cases, leaf_item_good, leaf_spot, order_kept}
+use Rattle.bt_image.proofs.Rises.{AreSame, IsGood, adjacent_from, items_rise}
+use Rattle.bt_image.proofs.Sound.{same_values}
 use Rattle.bt_steps.specs.Entries.{IsRead}
 use Rattle.bt_steps.specs.Pages.{IsReadable, is_live_leaf}
 use Rattle.bt_steps.specs.Sought.{IsSought, is_within}

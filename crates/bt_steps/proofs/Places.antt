@@ -4,14 +4,14 @@ use Rattle.std.specs.Prelude.{slice_get}
 use Rattle.std.specs.List.{flat_map}
 use Rattle.std.proofs.lemmas.Bool.{and_from, cond-true, not_from_false}
 use Rattle.std.proofs.lemmas.Grind.{flat_map-append}
-use Rattle.tree_search.specs.Keys.{Entry}
+use Rattle.laws_search.specs.Keys.{Entry}
 use Rattle.page_layout.specs.Page.{count_of}
 use Rattle.key_orders.specs.declared.columns.Value.{Value}
 use Rattle.key_orders.specs.declared.Tid.{Tid}
 use Rattle.key_attrs.specs.Columns.{TreeColumns}
 use Rattle.bt_meta.specs.Flags.{is_half_dead, is_leaf}
 use Rattle.bt_meta.specs.Pages.{opaque_of}
-use Rattle.tree_image.specs.Image.{first_data, item_at, keys_in, numbers_from, page_image, page_keys}
+use Rattle.bt_image.specs.Image.{first_data, item_at, keys_in, numbers_from, page_image, page_keys}
 use Rattle.bt_steps.specs.Entries.{entries_before, keys_at, place_of}
 
 -- Lists by numbers

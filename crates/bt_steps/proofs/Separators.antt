@@ -2,7 +2,7 @@
 use Rattle.std.proofs.Common.{◌≡◌, ◌≢◌, ℕ, suc, ◌-◌, ◌≤◌, Bool, true, false, cond, List, [], ◌∷◌, length, take, refl, ap, sym, ◌∙◌, arith}
 use Rattle.std.specs.Prelude.{Option, Some, None, Ok, Err, not, ◌&&◌, ◌||◌, ◌==◌, nat_lt}
 use Rattle.std.proofs.lemmas.Bool.{ltb-false, not-false, or_parts}
-use Rattle.tree_search.specs.Keys.{IsSeparatorOf, Separator, is_without}
+use Rattle.laws_search.specs.Keys.{IsSeparatorOf, Separator, is_without}
 use Rattle.page_layout.specs.Page.{item_of}
 use Rattle.key_orders.specs.declared.columns.ColType.{ColType}
 use Rattle.key_orders.specs.declared.columns.Value.{Value}
@@ -24,8 +24,8 @@ use Rattle.bt_tuples.specs.Items.{is_dead, meaning_by, meaning_of, values_or_non
 use Rattle.bt_tuples.specs.Keys.{first_key, last_key}
 use Rattle.bt_tuples.specs.Rules.{breaks_form, includes_some, is_packed, is_pivot, is_unread, keeps_wrong, tuple_of}
 use Rattle.bt_tuples.specs.Tuples.{body_in, columns_by, keeps_tid, kept_tid, null_bits_in, number_of, tid_at, values_in}
-use Rattle.tree_image.specs.Image.{downlink_in, item_at, separator_in, spot_of}
-use Rattle.tree_image.specs.Pages.{IsPlainItem}
+use Rattle.bt_image.specs.Image.{downlink_in, item_at, separator_in, spot_of}
+use Rattle.bt_image.specs.Pages.{IsPlainItem}
 
 -- How many values there are
 

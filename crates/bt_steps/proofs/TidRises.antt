@@ -3,8 +3,8 @@ use Rattle.std.proofs.Common.{◌≡◌, ℕ, zero, suc, ◌<◌, ◌↔◌, fal
 use Rattle.std.specs.Prelude.{Option, Some, None, slice_get}
 use Rattle.std.specs.declared.cmp.Ordering.TheVariants.{Less, Equal}
 use Rattle.std.proofs.lemmas.Bool.{not-false, or_parts}
-use Rattle.tree_search.specs.Keys.{Separator, compare_keys}
-use Rattle.tree_search.proofs.Keys.{lt_less}
+use Rattle.laws_search.specs.Keys.{Separator, compare_keys}
+use Rattle.laws_search.proofs.Keys.{lt_less}
 use Rattle.key_orders.specs.declared.columns.Value.{Value}
 use Rattle.key_orders.specs.declared.Tid.{Tid}
 use Rattle.key_orders.specs.Keys.{columns_of, tid_order}

@@ -3,8 +3,8 @@ use Rattle.std.proofs.Common.{◌≡◌, ◌≢◌, ℕ, suc, ◌+◌, ◌-◌, 
 use Rattle.std.specs.Prelude.{not, nat_lt, ◌&&◌, ◌||◌, ◌==◌, Some, None}
 use Rattle.std.specs.List.{filter}
 use Rattle.std.proofs.lemmas.Bool.{and_cases, both_ways, eq-eqb, and_from, and_left, cond-false, cond-true, lt-ltb, not_from_false, or_right, or_from, or_parts}
-use Rattle.tree_search.specs.Keys.{Separator}
-use Rattle.tree_search.specs.Search.{last_or, right_of}
+use Rattle.laws_search.specs.Keys.{Separator}
+use Rattle.laws_search.specs.Search.{last_or, right_of}
 use Rattle.page_layout.specs.Page.{count_of}
 use Rattle.key_orders.specs.declared.columns.Value.{Value}
 use Rattle.key_orders.specs.declared.Tid.{Tid}
@@ -12,9 +12,9 @@ use Rattle.key_attrs.specs.Columns.{TreeColumns}
 use Rattle.bt_meta.specs.Flags.{is_half_dead, is_leaf}
 use Rattle.bt_meta.specs.Pages.{opaque_of}
 use Rattle.bt_tuples.specs.declared.items.Spot3.TheVariants.{FirstInner, HighKey, Inner, LeafItem}
-use Rattle.tree_image.specs.Image.{child_in, downlink_in, first_data, has_high_key, item_at, numbers_from, page_image, separator_in, spot_of}
-use Rattle.tree_image.specs.Pages.{IsPlainItem, breaks_items}
-use Rattle.tree_image.proofs.PageFields.{first_cases}
+use Rattle.bt_image.specs.Image.{child_in, downlink_in, first_data, has_high_key, item_at, numbers_from, page_image, separator_in, spot_of}
+use Rattle.bt_image.specs.Pages.{IsPlainItem, breaks_items}
+use Rattle.bt_image.proofs.PageFields.{first_cases}
 use Rattle.bt_steps.specs.Pages.{IsReadable}
 use Rattle.bt_steps.specs.Ways.{Goes, GoesLower, down_to, is_left_behind, is_passed, next_of}
 use Rattle.bt_steps.proofs.Halves.{inner-rises, last-passes, passed-down, stopped-up}

@@ -2,13 +2,13 @@
 use Rattle.std.specs.Prelude.{◌≡◌, ℕ, ◌+◌, ◌-◌, ◌<◌, ◌≤◌, false, List, length}
 use Rattle.std.specs.List.{flat_map}
 use Rattle.page_layout.specs.Page.{count_of}
-use Rattle.tree_search.specs.Keys.{Entry}
+use Rattle.laws_search.specs.Keys.{Entry}
 use Rattle.key_orders.specs.declared.columns.Value.{Value}
 use Rattle.key_orders.specs.declared.Tid.{Tid}
 use Rattle.key_attrs.specs.Columns.{TreeColumns}
 use Rattle.bt_tuples.specs.declared.items.Spot3.TheVariants.{LeafItem}
 use Rattle.bt_tuples.specs.Rules.{KeepsItemRules, has_packed, tuple_of}
-use Rattle.tree_image.specs.Image.{first_data, item_at, keys_in, numbers_from}
+use Rattle.bt_image.specs.Image.{first_data, item_at, keys_in, numbers_from}
 
 -- the entries of item i, one for each TID
 unfoldable pub keys_at : TreeColumns → List ℕ → ℕ → List (Entry Value Tid)

@@ -2,14 +2,14 @@
 use Rattle.std.specs.Prelude.{◌≡◌, ℕ, ◌≤◌, Bool, false, not, ◌&&◌, List, None}
 use Rattle.page_layout.specs.Page.{count_of, page_rule_of}
 use Rattle.page_layout.specs.declared.page.PageKind.TheVariants.{Tree}
-use Rattle.tree_search.specs.Keys.{Entry, Separator}
-use Rattle.tree_search.specs.Order.{Scan}
+use Rattle.laws_search.specs.Keys.{Entry, Separator}
+use Rattle.laws_search.specs.Order.{Scan}
 use Rattle.key_orders.specs.declared.columns.Value.{Value}
 use Rattle.key_orders.specs.declared.Tid.{Tid}
 use Rattle.key_attrs.specs.Columns.{TreeColumns}
 use Rattle.bt_meta.specs.Flags.{is_half_dead, is_leaf}
 use Rattle.bt_meta.specs.Pages.{is_idle, opaque_of}
-use Rattle.tree_image.specs.Pages.{IsDataItem, IsPlainItem, breaks_items, breaks_order}
+use Rattle.bt_image.specs.Pages.{IsDataItem, IsPlainItem, breaks_items, breaks_order}
 
 -- an entry that a scan passes over though it matches
 abbrev pub is_killed : Entry Value Tid → Bool

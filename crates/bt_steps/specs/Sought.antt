@@ -2,15 +2,15 @@
 use Rattle.std.specs.Prelude.{◌≡◌, ◌≤◌, ℕ, false, not, List, Some, slice_get, Contains}
 use Rattle.page_layout.specs.Page.{count_of}
 use Rattle.std.specs.Ordering.{is_lt}
-use Rattle.tree_search.specs.Keys.{Entry, as_separator, compare_keys}
-use Rattle.tree_search.specs.Search.{entries_of}
+use Rattle.laws_search.specs.Keys.{Entry, as_separator, compare_keys}
+use Rattle.laws_search.specs.Search.{entries_of}
 use Rattle.key_orders.specs.declared.columns.KeySpec.{KeySpec}
 use Rattle.key_orders.specs.declared.columns.Value.{Value}
 use Rattle.key_orders.specs.declared.Tid.{Tid}
 use Rattle.key_orders.specs.Keys.{columns_of, entry_of, tid_order}
 use Rattle.key_orders.specs.Scans.{order_of}
 use Rattle.key_attrs.specs.Columns.{TreeColumns}
-use Rattle.tree_image.specs.Image.{TreeIndex, first_data}
+use Rattle.bt_image.specs.Image.{TreeIndex, first_data}
 use Rattle.bt_steps.specs.Entries.{IsRead, keys_at}
 use Rattle.bt_steps.specs.Ways.{Goes}
 

@@ -6,9 +6,9 @@ use Rattle.std.specs.Cmp.{IsTotalOrder, nat_cmp_total, on_total, then_total}
 use Rattle.std.specs.Ordering.{is_lt}
 use Rattle.std.specs.declared.cmp.Ordering.{Ordering}
 use Rattle.std.proofs.lemmas.Bool.{both_ways, cases_Bool, not_from_false, not-true}
-use Rattle.tree_search.specs.Keys.{Separator, as_separator, compare_keys, goes_right}
-use Rattle.tree_search.specs.Order.{IsOrder}
-use Rattle.tree_search.proofs.Keys.{key_order_laws, keys_total, lt_less, right_of_lower}
+use Rattle.laws_search.specs.Keys.{Separator, as_separator, compare_keys, goes_right}
+use Rattle.laws_search.specs.Order.{IsOrder}
+use Rattle.laws_search.proofs.Keys.{key_order_laws, keys_total, lt_less, right_of_lower}
 use Rattle.key_orders.specs.declared.columns.KeySpec.{KeySpec}
 use Rattle.key_orders.specs.declared.columns.Value.{Value}
 use Rattle.key_orders.specs.declared.Tid.{Tid}

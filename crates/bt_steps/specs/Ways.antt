@@ -1,8 +1,8 @@
 -- Where a search goes from a page: to the right, down, or nowhere, since it reads the page.
 use Rattle.std.specs.Prelude.{◌≡◌, ℕ, Bool, true, false, ◌||◌, cond, List, [], ◌∷◌, length, Option, Some, None}
-use Rattle.tree_search.specs.Keys.{IsSeparatorOf, Separator}
-use Rattle.tree_search.specs.Probe.{child_for}
-use Rattle.tree_search.specs.Search.{right_of}
+use Rattle.laws_search.specs.Keys.{IsSeparatorOf, Separator}
+use Rattle.laws_search.specs.Probe.{child_for}
+use Rattle.laws_search.specs.Search.{right_of}
 use Rattle.key_orders.specs.declared.columns.KeySpec.{KeySpec}
 use Rattle.key_orders.specs.declared.columns.Value.{Value}
 use Rattle.key_orders.specs.declared.Tid.{Tid}
@@ -11,7 +11,7 @@ use Rattle.key_attrs.specs.Columns.{TreeColumns}
 use Rattle.bt_meta.specs.Flags.{is_half_dead, is_leaf}
 use Rattle.bt_meta.specs.Pages.{opaque_of}
 use Rattle.bt_tuples.specs.Keys.{first_key}
-use Rattle.tree_image.specs.Image.{TreePage, item_at, page_image}
+use Rattle.bt_image.specs.Image.{TreePage, item_at, page_image}
 use Rattle.bt_steps.specs.declared.inner.Step.{Step}
 use Rattle.bt_steps.specs.declared.inner.Step.TheVariants.{To, Read, Lost}
 

@@ -6,17 +6,17 @@ ghost use Rattle.key_attrs.specs.Columns.{TreeColumns as Columns, tree_columns};
 ghost use Rattle.bt_meta.specs.Flags.{is_half_dead, is_leaf};
 ghost use Rattle.bt_meta.specs.Pages.{opaque_of};
 ghost use Rattle.bt_tuples.specs.declared.items.Spot3.{Spot3 as Place};
-ghost use Rattle.tree_image.specs.Image.{downlink_in, first_data, item_at, spot_of};
-ghost use Rattle.tree_image.specs.Pages.{IsPlainItem};
+ghost use Rattle.bt_image.specs.Image.{downlink_in, first_data, item_at, spot_of};
+ghost use Rattle.bt_image.specs.Pages.{IsPlainItem};
 ghost use Rattle.bt_steps.specs.Pages.{IsReadable};
 ghost use Rattle.bt_steps.specs.Ways.{Leads, is_left_behind, is_passed};
 
 use crate::way::Way;
+use bt_image::{first_data, has_high_key, spot_of};
 use bt_meta::{opaque, tree_head};
 use bt_tuples::{ItemKeys, Spot3};
 use key_attrs::IndexColumns;
 use page_layout::{PageKind, PageView};
-use tree_image::{first_data, has_high_key, spot_of};
 
 /// What a visit to a page leads to.
 #[derive(Clone, Copy, Debug, PartialEq, Eq)]

@@ -4,7 +4,7 @@ ghost use Rattle.std.specs.Prelude.{Contains, true, false};
 ghost use Rattle.std.specs.declared.cmp.Ordering.TheVariants.{Equal};
 ghost use Rattle.page_layout.specs.Page.{count_of, page_rule_of};
 ghost use Rattle.page_layout.specs.View.{page_bytes};
-ghost use Rattle.tree_search.specs.Keys.{Entry as Given};
+ghost use Rattle.laws_search.specs.Keys.{Entry as Given};
 ghost use Rattle.key_orders.specs.declared.columns.Value.{Value};
 ghost use Rattle.key_orders.specs.declared.Tid.{Tid as At};
 ghost use Rattle.key_orders.specs.Keys.{IsKey, tid_order};
@@ -12,20 +12,20 @@ ghost use Rattle.key_attrs.specs.Columns.{tree_columns};
 ghost use Rattle.bt_meta.specs.Flags.{is_half_dead, is_leaf};
 ghost use Rattle.bt_meta.specs.Pages.{opaque_of};
 ghost use Rattle.bt_tuples.specs.Rules.{are_not_rising};
-ghost use Rattle.tree_image.specs.Image.{first_data, page_keys};
+ghost use Rattle.bt_image.specs.Image.{first_data, page_keys};
 ghost use Rattle.bt_steps.specs.Entries.{IsRead, keys_at};
 ghost use Rattle.bt_steps.specs.Pages.{IsReadable, is_live_leaf};
 ghost use Rattle.bt_steps.specs.Sought.{HasSought, IsSought};
 
 use crate::inner::last_passed;
 use crate::way::{Sought, UpTo};
+use bt_image::first_data;
 use bt_meta::{is_idle, opaque};
 use bt_tuples::{ItemKeys, Spot3, TidList, TreeItem, tree_item};
 use key_attrs::IndexColumns;
 use key_orders::{Tid, cmp_values, key_orders_are_total};
 use page_layout::{PageKind, PageView};
 use std::cmp::Ordering;
-use tree_image::first_data;
 
 /// A place on a leaf: an item, counted from 1, and a TID of the item, counted from 0.
 #[derive(Clone, Copy, Debug, PartialEq, Eq)]

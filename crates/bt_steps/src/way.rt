@@ -1,6 +1,6 @@
 //! What a search goes by on its way down a tree.
 ghost use Rattle.std.specs.Prelude.{◌≡◌, List};
-ghost use Rattle.tree_search.specs.Keys.{goes_right};
+ghost use Rattle.laws_search.specs.Keys.{goes_right};
 ghost use Rattle.key_orders.specs.declared.columns.KeySpec.{KeySpec as Spec};
 ghost use Rattle.key_orders.specs.Keys.{IsKey, IsKeySeparator, columns_of};
 ghost use Rattle.key_orders.specs.Scans.{FitsKey};

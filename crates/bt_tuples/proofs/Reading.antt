@@ -3,7 +3,7 @@ use Rattle.std.proofs.Common.{◌≡◌, ℕ, ◌<◌, Bool, true, false, cond, 
 use Rattle.std.specs.Prelude.{Option, Some, None, Ok, Err}
 use Rattle.std.proofs.Math.Seq.{drop-append_seam, take-append_seam}
 use Rattle.page_layout.specs.declared.rules.Rule.TheVariants.{B9}
-use Rattle.tree_search.specs.Keys.{Separator, is_without}
+use Rattle.laws_search.specs.Keys.{Separator, is_without}
 use Rattle.key_orders.specs.Keys.{IsKey, IsKeySeparator, fits_columns}
 use Rattle.key_orders.specs.declared.columns.KeySpec.{KeySpec}
 use Rattle.key_orders.specs.declared.columns.Value.{Value}

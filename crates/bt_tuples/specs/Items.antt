@@ -6,7 +6,7 @@ use Rattle.page_layout.specs.declared.page.LineFlag.TheVariants.{Unused, Normal,
 use Rattle.page_layout.specs.declared.rules.Rule.{Rule}
 use Rattle.page_layout.specs.declared.rules.Rule.TheVariants.{B5, B6, B7, B8, B9}
 use Rattle.page_layout.specs.Page.{item_of}
-use Rattle.tree_search.specs.Keys.{Separator}
+use Rattle.laws_search.specs.Keys.{Separator}
 use Rattle.key_orders.specs.declared.columns.KeySpec.{KeySpec}
 use Rattle.key_orders.specs.declared.columns.Value.{Value}
 use Rattle.key_orders.specs.declared.more.MoreSpec.{MoreSpec}

@@ -1,7 +1,7 @@
 -- The keys of an item: that of its first entry and that of its last, which differ in their TIDs alone. Of a pivot both
 -- are what it keeps.
 use Rattle.std.specs.Prelude.{◌≡◌, ℕ, true, List, [], ◌∷◌, ◌++◌, Option, Some, Ok}
-use Rattle.tree_search.specs.Keys.{Separator}
+use Rattle.laws_search.specs.Keys.{Separator}
 use Rattle.key_orders.specs.declared.columns.KeySpec.{KeySpec}
 use Rattle.key_orders.specs.declared.columns.Value.{Value}
 use Rattle.key_orders.specs.declared.more.MoreSpec.{MoreSpec}

@@ -3,11 +3,11 @@ use Rattle.std.proofs.Common.{◌≡◌, ℕ, zero, suc, ◌+◌, ◌<◌, List,
 use Rattle.std.proofs.lemmas.List.Elements.{All-from_get_or}
 use Rattle.case_file.specs.Record.{CaseRecord}
 use Rattle.case_file.specs.declared.case.Column.{Column}
-use Rattle.heap_check.specs.declared.row_cursor.RowCursor.{RowCursor}
-use Rattle.heap_check.specs.declared.row_values.AskedColumns.{AskedColumns}
-use Rattle.heap_check.specs.declared.row_values.AskedColumns.TheVariants as asked
-use Rattle.heap_check.specs.RowCursor.{AreAsked, IsSameCursor, case_at}
-use Rattle.heap_check.specs.RowValues.{column_asked, count_asked}
+use Rattle.heap_rows.specs.declared.row_cursor.RowCursor.{RowCursor}
+use Rattle.heap_rows.specs.declared.row_values.AskedColumns.{AskedColumns}
+use Rattle.heap_rows.specs.declared.row_values.AskedColumns.TheVariants as asked
+use Rattle.heap_rows.specs.RowCursor.{AreAsked, IsSameCursor, case_at}
+use Rattle.heap_rows.specs.RowValues.{column_asked, count_asked}
 use Rattle.copy_out.specs.Live.{IsOver, numbers_from}
 
 -- The numbers

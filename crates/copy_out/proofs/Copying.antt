@@ -6,11 +6,11 @@ use Rattle.std.proofs.lemmas.List.Sums.{sum_by-append, sum_by-cons}
 use Rattle.std.proofs.lemmas.Option.{get_or_from_slice_get, slice_get_within}
 use Rattle.outside.specs.Outside.{Names}
 use Rattle.case_file.specs.declared.case.Column.{Column}
-use Rattle.heap_check.specs.declared.row_cells.Cell.{Cell}
-use Rattle.heap_check.specs.declared.row_cursor.RowPlace.{RowPlace}
-use Rattle.heap_check.specs.declared.rows.LiveRow.{LiveRow}
-use Rattle.heap_check.specs.declared.row_cursor.RowCursor.{RowCursor}
-use Rattle.heap_check.specs.RowCursor.{IsPlaceOfFirst, rows_ahead}
+use Rattle.heap_rows.specs.declared.row_cells.Cell.{Cell}
+use Rattle.heap_rows.specs.declared.row_cursor.RowPlace.{RowPlace}
+use Rattle.heap_rows.specs.declared.rows.LiveRow.{LiveRow}
+use Rattle.heap_rows.specs.declared.row_cursor.RowCursor.{RowCursor}
+use Rattle.heap_rows.specs.RowCursor.{IsPlaceOfFirst, rows_ahead}
 use Rattle.copy_out.specs.Fields.{field_text}
 use Rattle.copy_out.specs.Lines.{fields_of, is_unread, line_of, row_text, tab_before, text_of, unread_in, unread_of}
 use Rattle.copy_out.specs.Live.{AreLeft, IsAdded, cells_in}

@@ -4,10 +4,10 @@ use Rattle.std.specs.List.{flat_map}
 use Rattle.std.proofs.lemmas.Bool.{cond-false}
 use Rattle.std.proofs.lemmas.List.{drop_more}
 use Rattle.case_file.specs.declared.case.Column.{Column}
-use Rattle.heap_check.specs.RowFits.{FitColumns, FitsColumn}
+use Rattle.heap_rows.specs.RowFits.{FitColumns, FitsColumn}
 use Rattle.copy_out.specs.Fields.{field_text}
 use Rattle.copy_out.specs.Lines.{fields_of, joined, tab_before}
-use Rattle.heap_check.specs.declared.row_cells.Cell.{Cell}
+use Rattle.heap_rows.specs.declared.row_cells.Cell.{Cell}
 
 -- fields with a tab before each
 abbrev pub with_tabs : List (List ℕ) → List ℕ

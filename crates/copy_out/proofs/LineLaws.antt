@@ -5,9 +5,9 @@ use Rattle.std.proofs.lemmas.List.{append_assoc}
 use Rattle.case_file.specs.declared.case.Column.{Column}
 use Rattle.copy_out.specs.Fields.{HasBytes, field_text}
 use Rattle.copy_out.specs.Laws.{TextsTellRows}
-use Rattle.heap_check.specs.RowFits.{FitColumns}
+use Rattle.heap_rows.specs.RowFits.{FitColumns}
 use Rattle.copy_out.specs.Lines.{IsRow, fields_of, joined, line_of, text_of}
-use Rattle.heap_check.specs.declared.row_cells.Cell.{Cell}
+use Rattle.heap_rows.specs.declared.row_cells.Cell.{Cell}
 use Rattle.copy_out.proofs.Breaks.{IsClear, IsPlain, cut_same, each-joined, each-weaker, joined_same}
 use Rattle.copy_out.proofs.FieldLaws.{field_clear, field_tells}
 

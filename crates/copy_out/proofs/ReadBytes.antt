@@ -9,7 +9,7 @@ use Rattle.key_orders.specs.declared.columns.Value.{Value}
 use Rattle.key_orders.specs.declared.columns.Value.TheVariants.{Bytes}
 use Rattle.copy_out.specs.Fields.{HasBytes}
 use Rattle.copy_out.specs.Readings.{ReadsAs, byte_of, bytes_read, unescaped, without_hyphens}
-use Rattle.heap_check.specs.declared.row_cells.Cell.TheVariants.{Held}
+use Rattle.heap_rows.specs.declared.row_cells.Cell.TheVariants.{Held}
 use Rattle.copy_out.specs.declared.forms.Form.{Form}
 use Rattle.copy_out.specs.declared.forms.Form.TheVariants.{Letter, Decimal, Grouped, Escaped, Digits}
 use Rattle.copy_out.proofs.Breaks.{each-at}

@@ -10,7 +10,7 @@ use Rattle.copy_out.specs.Laws.{RefusedIsNoText, RefusedOnce}
 use Rattle.copy_out.specs.Lines.{IsRow, IsText, fields_of, line_of, row_text, text_of}
 use Rattle.copy_out.specs.Readings.{IsNoRow, Lacks}
 use Rattle.copy_out.specs.Refused.{Answers, IsNoLine, first_line, TellsFault}
-use Rattle.heap_check.specs.declared.row_cells.Cell.{Cell}
+use Rattle.heap_rows.specs.declared.row_cells.Cell.{Cell}
 use Rattle.copy_out.specs.declared.read_texts.LineFault.{LineFault}
 use Rattle.copy_out.specs.declared.read_texts.LineFault.TheVariants.{NoMemory, Refused}
 use Rattle.copy_out.proofs.LineLaws.{fields_clear, line_tells, no_feeds, some_line, text_tells}

@@ -10,15 +10,15 @@ use Rattle.page_layout.specs.declared.rules.Rule.{Rule}
 use Rattle.page_layout.specs.declared.rules.Rule.TheVariants.{P1, P2, P3, P4}
 use Rattle.case_file.specs.Record.{CaseRecord}
 use Rattle.reports.specs.Added.{each_upto}
-use Rattle.heap_pages.specs.declared.verdict.ItemVerdict.{ItemVerdict}
-use Rattle.heap_pages.specs.declared.verdict.ItemVerdict.TheVariants.{Passes, Breaks, InDoubt}
-use Rattle.heap_pages.specs.Verdicts.{item_verdict}
-use Rattle.heap_files.specs.Case.{heap_blocks, heap_page, table_of}
-use Rattle.heap_files.specs.Files.{IsSoundHeapOf, heap_in}
-use Rattle.heap_files.specs.declared.files.SoundHeap.{SoundHeap}
+use Rattle.heap_page_check.specs.declared.verdict.ItemVerdict.{ItemVerdict}
+use Rattle.heap_page_check.specs.declared.verdict.ItemVerdict.TheVariants.{Passes, Breaks, InDoubt}
+use Rattle.heap_page_check.specs.Verdicts.{item_verdict}
+use Rattle.heap_table_check.specs.Case.{heap_blocks, heap_page, table_of}
+use Rattle.heap_table_check.specs.Files.{IsSoundHeapOf, heap_in}
+use Rattle.heap_table_check.specs.declared.files.SoundHeap.{SoundHeap}
 use Rattle.rel_files.specs.Relation.{count_of as blocks_in}
-use Rattle.heap_check.specs.declared.rows.LiveRow.{LiveRow}
-use Rattle.heap_check.specs.Rows.{block_rows, item_rows, page_rows, row_at, row_by, rows_by_rule, rows_of}
+use Rattle.heap_rows.specs.declared.rows.LiveRow.{LiveRow}
+use Rattle.heap_rows.specs.Rows.{block_rows, item_rows, page_rows, row_at, row_by, rows_by_rule, rows_of}
 
 -- A page without a broken rule has at most 2042 items
 

@@ -3,12 +3,12 @@ use Rattle.std.proofs.Common.{◌≡◌, ◌≢◌, ◌⊎◌, inl, inr, ℕ, ze
 use Rattle.std.specs.List.{AllByRecursion}
 use Rattle.std.proofs.lemmas.List.{drop_more, take_more}
 use Rattle.case_file.specs.declared.case.Column.{Column}
-use Rattle.heap_check.specs.RowFits.{FitColumns, FitsColumn}
+use Rattle.heap_rows.specs.RowFits.{FitColumns, FitsColumn}
 use Rattle.copy_out.specs.Fields.{HasBytes, IsField, field_text}
 use Rattle.copy_out.specs.Lines.{IsRow, fields_of, joined, row_text}
 use Rattle.copy_out.specs.Readings.{CutsField, Lacks}
-use Rattle.heap_check.specs.declared.row_cells.Cell.{Cell}
-use Rattle.heap_check.specs.declared.row_cells.Cell.TheVariants.{Packed}
+use Rattle.heap_rows.specs.declared.row_cells.Cell.{Cell}
+use Rattle.heap_rows.specs.declared.row_cells.Cell.TheVariants.{Packed}
 use Rattle.copy_out.proofs.Breaks.{IsClear, IsPlain, cut_same, each-drop, each-weaker}
 use Rattle.copy_out.proofs.Joining.{fit_length}
 use Rattle.copy_out.proofs.LineLaws.{fields_clear}

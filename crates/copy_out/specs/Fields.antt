@@ -8,9 +8,9 @@ use Rattle.key_orders.specs.declared.columns.ColType.TheVariants as of
 use Rattle.key_orders.specs.declared.columns.Value.{Value}
 use Rattle.key_orders.specs.declared.columns.Value.TheVariants.{Null, Bool, Int, Bytes}
 use Rattle.case_file.specs.declared.case.Column.{Column}
-use Rattle.heap_check.specs.declared.row_cells.Cell.{Cell}
-use Rattle.heap_check.specs.declared.row_cells.Cell.TheVariants.{Held, Packed}
-use Rattle.heap_check.specs.RowFits.{FitsColumn}
+use Rattle.heap_rows.specs.declared.row_cells.Cell.{Cell}
+use Rattle.heap_rows.specs.declared.row_cells.Cell.TheVariants.{Held, Packed}
+use Rattle.heap_rows.specs.RowFits.{FitsColumn}
 use Rattle.copy_out.specs.Escapes.{escaped}
 use Rattle.copy_out.specs.declared.forms.Form.{Form}
 use Rattle.copy_out.specs.declared.forms.Form.TheVariants.{Letter, Decimal, Grouped, Escaped, Digits}

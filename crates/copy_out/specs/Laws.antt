@@ -2,7 +2,7 @@
 use Rattle.std.specs.Prelude.{◌≡◌, ℕ, List}
 use Rattle.std.specs.List.{AllByRecursion}
 use Rattle.case_file.specs.declared.case.Column.{Column}
-use Rattle.heap_check.specs.declared.row_cells.Cell.{Cell}
+use Rattle.heap_rows.specs.declared.row_cells.Cell.{Cell}
 use Rattle.copy_out.specs.Lines.{IsRow, IsText, text_of}
 use Rattle.copy_out.specs.Refused.{IsRefusedAt}
 

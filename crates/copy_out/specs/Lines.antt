@@ -2,9 +2,9 @@
 use Rattle.std.specs.Prelude.{◌≡◌, ℕ, ◌==◌, if◌then◌else◌, Bool, true, false, List, [], ◌∷◌, ◌++◌, codes}
 use Rattle.std.specs.List.{AllByRecursion, count_by, flat_map, join_with_byte, sum_by}
 use Rattle.case_file.specs.declared.case.Column.{Column}
-use Rattle.heap_check.specs.declared.row_cells.Cell.{Cell}
-use Rattle.heap_check.specs.declared.row_cells.Cell.TheVariants.{Held, Packed}
-use Rattle.heap_check.specs.RowFits.{FitColumns}
+use Rattle.heap_rows.specs.declared.row_cells.Cell.{Cell}
+use Rattle.heap_rows.specs.declared.row_cells.Cell.TheVariants.{Held, Packed}
+use Rattle.heap_rows.specs.RowFits.{FitColumns}
 use Rattle.copy_out.specs.Fields.{HasBytes, field_text}
 
 -- the fields of a row, one for each column

@@ -3,11 +3,11 @@ use Rattle.std.specs.Prelude.{◌≡◌, ℕ, zero, suc, ◌+◌, List, [], ◌�
 use Rattle.outside.specs.Outside.{Names}
 use Rattle.case_file.specs.Record.{CaseRecord}
 use Rattle.case_file.specs.declared.case.Column.{Column}
-use Rattle.heap_check.specs.RowCursor.{AreAsked, asked_at, case_at}
-use Rattle.heap_check.specs.Rows.{rows_of}
-use Rattle.heap_check.specs.declared.row_cells.Cell.{Cell}
-use Rattle.heap_check.specs.declared.row_cursor.RowCursor.{RowCursor}
-use Rattle.heap_check.specs.declared.rows.LiveRow.{LiveRow}
+use Rattle.heap_rows.specs.RowCursor.{AreAsked, asked_at, case_at}
+use Rattle.heap_rows.specs.Rows.{rows_of}
+use Rattle.heap_rows.specs.declared.row_cells.Cell.{Cell}
+use Rattle.heap_rows.specs.declared.row_cursor.RowCursor.{RowCursor}
+use Rattle.heap_rows.specs.declared.rows.LiveRow.{LiveRow}
 use Rattle.copy_out.specs.Lines.{line_of, text_of, unread_in, unread_of}
 use Rattle.copy_out.specs.declared.live.CopyWriter.{CopyWriter}
 

@@ -11,10 +11,10 @@ use Rattle.case_file.specs.declared.case.Column.{Column}
 use Rattle.key_orders.specs.declared.columns.Value.{Value}
 use Rattle.key_orders.specs.declared.columns.Value.TheVariants.{Null, Bool as BoolValue, Int, Bytes}
 use Rattle.copy_out.specs.Fields.{HasBytes}
-use Rattle.heap_check.specs.RowFits.{FitColumns}
+use Rattle.heap_rows.specs.RowFits.{FitColumns}
 use Rattle.copy_out.specs.Lines.{IsRow, row_text}
-use Rattle.heap_check.specs.declared.row_cells.Cell.{Cell}
-use Rattle.heap_check.specs.declared.row_cells.Cell.TheVariants.{Held, Packed}
+use Rattle.heap_rows.specs.declared.row_cells.Cell.{Cell}
+use Rattle.heap_rows.specs.declared.row_cells.Cell.TheVariants.{Held, Packed}
 use Rattle.copy_out.specs.declared.forms.Form.{Form}
 use Rattle.copy_out.specs.declared.forms.Form.TheVariants.{Letter, Decimal, Grouped, Escaped, Digits}
 

@@ -4,7 +4,7 @@ use Rattle.std.specs.Prelude.{Result, Ok, Err}
 use Rattle.std.specs.List.{AllByRecursion}
 use Rattle.case_file.specs.declared.case.Column.{Column}
 use Rattle.copy_out.specs.Lines.{IsRow, line_of, text_of}
-use Rattle.heap_check.specs.declared.row_cells.Cell.{Cell}
+use Rattle.heap_rows.specs.declared.row_cells.Cell.{Cell}
 use Rattle.copy_out.specs.declared.read_texts.LineFault.{LineFault}
 use Rattle.copy_out.specs.declared.read_texts.LineFault.TheVariants.{NoMemory, Refused}
 

@@ -2,13 +2,13 @@
 ghost use Rattle.std.specs.Prelude.{◌≡◌, ◌++◌, codes, length, OnOk};
 ghost use Rattle.hex.specs.Hex.{encode_lower};
 ghost use Rattle.key_orders.specs.Values.{value_shown};
-ghost use Rattle.heap_check.specs.RowValues.{cell_lent};
+ghost use Rattle.heap_rows.specs.RowValues.{cell_lent};
 ghost use Rattle.copy_out.specs.Fields.{FitsAs, FitsForm, cell_text, grouped, hexadecimal, in_groups, value_text};
 ghost use Rattle.copy_out.specs.Lines.{tab_before};
 
 use crate::escapes::push_escaped;
 use crate::forms::Form;
-use heap_check::{Cell, CellRef};
+use heap_rows::{Cell, CellRef};
 use key_orders::ValueRef;
 use outside::NoMemory;
 use text_writer::{TextWriter, push_hexadecimal};

@@ -1,12 +1,12 @@
 //! The text of a row.
 ghost use Rattle.std.specs.Prelude.{◌≡◌, ◌++◌, IfOk, OnOk};
-ghost use Rattle.heap_check.specs.RowFits.{FitColumns};
+ghost use Rattle.heap_rows.specs.RowFits.{FitColumns};
 ghost use Rattle.copy_out.specs.Lines.{line_of, row_text};
 
 use crate::fields::{lent, push_field, push_tab};
 use crate::forms::form_of;
 use case_file::Column;
-use heap_check::{Cell, LiveRow};
+use heap_rows::{Cell, LiveRow};
 use key_orders::Octets;
 use outside::NoMemory;
 use std::alloc::Global;

@@ -2,12 +2,12 @@
 ghost use Rattle.std.specs.Prelude.{◌≡◌, ◌<◌, ◌≤◌, ◌+◌, ◌++◌, ◌∷◌, [], List, false, true, length};
 ghost use Rattle.std.specs.Prelude.{IfOk, OnOk};
 ghost use Rattle.outside.specs.Outside.{Asked, IfTold, Names, Tells};
-ghost use Rattle.heap_files.specs.Found.{IsQuiet};
-ghost use Rattle.heap_files.specs.Files.{BelongTo, IsSoundHeapOf, files_of};
-ghost use Rattle.heap_check.specs.RowCursor.{IsAtRow, IsCursorOf, IsSameCursor, rows_ahead};
-ghost use Rattle.heap_check.specs.RowValues.{cell_lent};
-ghost use Rattle.heap_check.specs.Rows.{rows_of};
-ghost use Rattle.heap_check.specs.declared.rows.LiveRow.{LiveRow as Row};
+ghost use Rattle.heap_table_check.specs.Found.{IsQuiet};
+ghost use Rattle.heap_table_check.specs.Files.{BelongTo, IsSoundHeapOf, files_of};
+ghost use Rattle.heap_rows.specs.RowCursor.{IsAtRow, IsCursorOf, IsSameCursor, rows_ahead};
+ghost use Rattle.heap_rows.specs.RowValues.{cell_lent};
+ghost use Rattle.heap_rows.specs.Rows.{rows_of};
+ghost use Rattle.heap_rows.specs.declared.rows.LiveRow.{LiveRow as Row};
 ghost use Rattle.copy_out.specs.Fields.{FitsAs, cell_text};
 ghost use Rattle.copy_out.specs.Lines.{unread_in};
 ghost use Rattle.copy_out.specs.Live.{AreLeft, IsAdded, IsOver, copied_text, numbers_from, unread_values};
@@ -15,7 +15,7 @@ ghost use Rattle.copy_out.specs.Live.{AreLeft, IsAdded, IsOver, copied_text, num
 use crate::fields::{push_field, push_tab};
 use crate::forms::{Form, form_of};
 use case_file::{Case, Column};
-use heap_check::{CellRef, RowCursor, SoundHeap};
+use heap_rows::{CellRef, RowCursor, SoundHeap};
 use key_orders::Octets;
 use outside::{Files, NoMemory};
 use page_layout::MAX_ITEMS;

@@ -3,11 +3,11 @@ ghost use Rattle.std.specs.Prelude.{◌≡◌, ◌^◌, ◌<◌, ℤ, false, dro
 ghost use Rattle.copy_out.specs.Fields.{HasBytes, IsField};
 ghost use Rattle.copy_out.specs.Readings.{IsNumberOf, ReadsAs, byte_of, bytes_read, mark_of, unescaped};
 ghost use Rattle.copy_out.specs.Readings.{without_hyphens};
-ghost use Rattle.heap_check.specs.declared.row_cells.Cell.{Cell as Shown};
+ghost use Rattle.heap_rows.specs.declared.row_cells.Cell.{Cell as Shown};
 
 use crate::forms::{Form, form_of};
 use case_file::Column;
-use heap_check::Cell;
+use heap_rows::Cell;
 use hex::FromHexError;
 use key_orders::{Octets, Value};
 use outside::NoMemory;

@@ -1,13 +1,13 @@
 //! A line of a text, read back.
 ghost use Rattle.std.specs.Prelude.{◌≡◌, ◌++◌, ◌∷◌, ◌↔◌, IfOk, IsTrue, MatchOption};
-ghost use Rattle.heap_check.specs.RowFits.{FitsColumn};
+ghost use Rattle.heap_rows.specs.RowFits.{FitsColumn};
 ghost use Rattle.copy_out.specs.Lines.{IsRow, row_text};
 ghost use Rattle.copy_out.specs.Readings.{CutsField, IsNoRow, Lacks, ReadsRow};
 
 use crate::lines::push_fields;
 use crate::read_fields::read_cell;
 use case_file::Column;
-use heap_check::{Cell, Cells};
+use heap_rows::{Cell, Cells};
 use key_orders::fits_type;
 use outside::NoMemory;
 use std::alloc::Global;

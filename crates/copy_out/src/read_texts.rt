@@ -2,12 +2,12 @@
 ghost use Rattle.std.specs.Prelude.{◌≡◌, ◌++◌, ◌∷◌, ◌<◌, [], List, IfOk, IfErr, OnErr, OnOk, length, slice_index_or};
 ghost use Rattle.copy_out.specs.Lines.{IsText};
 ghost use Rattle.copy_out.specs.Refused.{Answers, TellsFault};
-ghost use Rattle.heap_check.specs.declared.row_cells.Cell.{Cell as Shown};
+ghost use Rattle.heap_rows.specs.declared.row_cells.Cell.{Cell as Shown};
 ghost use Rattle.copy_out.specs.declared.read_texts.LineFault.TheVariants as fault;
 
 use crate::read_lines::{cut_at, read_line};
 use case_file::Column;
-use heap_check::Cells;
+use heap_rows::Cells;
 use outside::NoMemory;
 use std::alloc::Global;
 use std::marker::Model;
@@ -21,7 +21,7 @@ pub struct CopyRows {
 
 impl Model for CopyRows {
     ghost use Rattle.std.specs.Prelude.{List};
-    ghost use Rattle.heap_check.specs.declared.row_cells.Cell.{Cell};
+    ghost use Rattle.heap_rows.specs.declared.row_cells.Cell.{Cell};
 
     ghost Value = { List (List Cell) };
 

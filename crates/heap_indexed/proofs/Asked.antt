@@ -12,7 +12,7 @@ use Rattle.reports.specs.Lists.{Lists}
 use Rattle.reports.specs.declared.places.Finding.{Finding}
 use Rattle.reports.specs.declared.places.UnjudgedPlace.{UnjudgedPlace}
 use Rattle.bt_pages.specs.Broken.{AreEmpty}
-use Rattle.indexed_rules.specs.Lists.{duplicates_lists, indexed_lists, joined_lists, or_else}
+use Rattle.join_rules.specs.Lists.{duplicates_lists, indexed_lists, joined_lists, or_else}
 
 some-found : (fs : List Finding) (us : List UnjudgedPlace) (others : Lists) → 1 ≤ length fs ⊎ 1 ≤ length us → or_else fs us others ≡ record { findings = fs; unjudged = us }
 some-found [] [] others some = absurd (omega (arith, some))

@@ -5,14 +5,14 @@ use Rattle.outside.specs.Outside.{Names}
 use Rattle.key_orders.specs.declared.Tid.{Tid}
 use Rattle.case_file.specs.Record.{CaseRecord}
 use Rattle.reports.specs.Added.{each_upto, joined, nothing, report_lists}
-use Rattle.root_set.specs.Targets.{is_in}
+use Rattle.heap_targets.specs.Targets.{is_in}
 use Rattle.bt_levels.specs.declared.sound.SoundTree.{SoundTree}
 use Rattle.bt_levels.specs.Files.{IsFileOf, number_of}
 use Rattle.bt_levels.specs.Sound.{IsSoundIndexOf, block_count, file_of, held_block, index_columns}
-use Rattle.indexed_rules.specs.Entries.{may_be_named}
-use Rattle.indexed_rules.specs.Lists.{entries_lists, joined_lists, leaves_lists, rows_lists}
-use Rattle.index_targets.specs.Passes.{strays_of}
-use Rattle.row_probes.proofs.Cases.{blocks-are}
+use Rattle.join_rules.specs.Entries.{may_be_named}
+use Rattle.join_rules.specs.Lists.{entries_lists, joined_lists, leaves_lists, rows_lists}
+use Rattle.join_leaf_pass.specs.Passes.{strays_of}
+use Rattle.join_look_ups.proofs.Cases.{blocks-are}
 
 module _ (case : CaseRecord) (names : Names) (tree : SoundTree) (index : IsSoundIndexOf case (number_of (file_of tree)) tree) (file : IsFileOf case names (file_of tree)) where
   -- what its entries give

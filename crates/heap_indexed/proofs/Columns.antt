@@ -7,17 +7,17 @@ use Rattle.std.proofs.lemmas.List.{take-append-drop, take_more}
 use Rattle.std.proofs.lemmas.List.Elements.{All-append, All-head, All-nil, All-tail}
 use Rattle.case_file.specs.Record.{CaseRecord}
 use Rattle.case_file.specs.Sound.{IsSound}
-use Rattle.heap_check.specs.declared.row_values.AskedColumns.{AskedColumns}
-use Rattle.heap_check.specs.declared.row_values.AskedColumns.TheVariants.{All as Every, Only}
-use Rattle.heap_check.specs.RowCursor.{AreAsked}
-use Rattle.heap_files.specs.declared.files.SoundHeap.{SoundHeap}
+use Rattle.heap_rows.specs.declared.row_values.AskedColumns.{AskedColumns}
+use Rattle.heap_rows.specs.declared.row_values.AskedColumns.TheVariants.{All as Every, Only}
+use Rattle.heap_rows.specs.RowCursor.{AreAsked}
+use Rattle.heap_table_check.specs.declared.files.SoundHeap.{SoundHeap}
 use Rattle.bt_levels.specs.declared.sound.SoundTree.{SoundTree}
 use Rattle.bt_levels.specs.Files.{number_of}
 use Rattle.bt_levels.specs.Sound.{file_of, index_columns}
-use Rattle.row_keys.specs.Joined.{BelongTogether}
+use Rattle.join_row_keys.specs.Joined.{BelongTogether}
 use Rattle.heap_indexed.specs.Meetings.{columns_of_all}
-use Rattle.row_keys.specs.Rows.{AreAskedFrom, columns_in}
-use Rattle.row_keys.proofs.KeyLaws.{columns-many, columns-there}
+use Rattle.join_row_keys.specs.Rows.{AreAskedFrom, columns_in}
+use Rattle.join_row_keys.proofs.KeyLaws.{columns-many, columns-there}
 
 key : SoundTree → List ℕ
 key tree = columns_in (index_columns tree)

@@ -13,26 +13,26 @@ use Rattle.bt_levels.specs.Files.{number_of}
 use Rattle.bt_levels.specs.Sound.{file_of, index_columns}
 use Rattle.reports.specs.Added.{finding_at, joined, nothing}
 use Rattle.reports.specs.declared.places.Place.TheVariants.{Tuple}
-use Rattle.heap_check.specs.declared.row_cells.Cell.{Cell}
-use Rattle.heap_check.specs.declared.rows.LiveRow.{LiveRow}
-use Rattle.heap_check.specs.declared.row_cells.Cell.TheVariants.{Held}
-use Rattle.heap_check.specs.declared.row_values.AskedColumns.{AskedColumns}
-use Rattle.heap_check.specs.PageRows.{ArePageRows, IsPageRow}
-use Rattle.indexed_rules.specs.Lists.{missing_rule, row_lists, row_lists_by}
-use Rattle.indexed_rules.specs.Rows.{key_numbers, more_numbers, values_at, with_value}
-use Rattle.indexed_rules.proofs.Alive.{tid-is, tid-same}
-use Rattle.index_targets.specs.Passes.{AreTargets}
-use Rattle.row_slots.proofs.SlotLaws.{both}
-use Rattle.root_set.specs.Targets.{is_in}
-use Rattle.row_slots.specs.Met.{Keys, same_tid}
-use Rattle.row_slots.specs.Slots.{AreAllMet, Tables, is_item_of, keys_in, keys_with_rows}
-use Rattle.row_probes.specs.Judging.{MetHave}
-use Rattle.row_probes.specs.Looking.{has_entry}
+use Rattle.heap_rows.specs.declared.row_cells.Cell.{Cell}
+use Rattle.heap_rows.specs.declared.rows.LiveRow.{LiveRow}
+use Rattle.heap_rows.specs.declared.row_cells.Cell.TheVariants.{Held}
+use Rattle.heap_rows.specs.declared.row_values.AskedColumns.{AskedColumns}
+use Rattle.heap_rows.specs.PageRows.{ArePageRows, IsPageRow}
+use Rattle.join_rules.specs.Lists.{missing_rule, row_lists, row_lists_by}
+use Rattle.join_rules.specs.Rows.{key_numbers, more_numbers, values_at, with_value}
+use Rattle.join_rules.proofs.Alive.{tid-is, tid-same}
+use Rattle.join_leaf_pass.specs.Passes.{AreTargets}
+use Rattle.join_slots.proofs.SlotLaws.{both}
+use Rattle.heap_targets.specs.Targets.{is_in}
+use Rattle.join_slots.specs.Met.{Keys, same_tid}
+use Rattle.join_slots.specs.Slots.{AreAllMet, Tables, is_item_of, keys_in, keys_with_rows}
+use Rattle.join_look_ups.specs.Judging.{MetHave}
+use Rattle.join_look_ups.specs.Looking.{has_entry}
 use Rattle.heap_indexed.specs.Meetings.{HasRoots, IsKeptRow, IsPut, IsRootIn}
-use Rattle.row_probes.specs.Rows.{lists_of_row, owed_for}
-use Rattle.row_keys.proofs.KeyLaws.{asked-column, both-parts, key-count, values-many}
-use Rattle.row_keys.specs.Rows.{AreAskedFrom, columns_in}
-use Rattle.row_probes.proofs.Owed.{owed-first, owed-none}
+use Rattle.join_look_ups.specs.Rows.{lists_of_row, owed_for}
+use Rattle.join_row_keys.proofs.KeyLaws.{asked-column, both-parts, key-count, values-many}
+use Rattle.join_row_keys.specs.Rows.{AreAskedFrom, columns_in}
+use Rattle.join_look_ups.proofs.Owed.{owed-first, owed-none}
 
 -- the same rows are kept in other slots with these keys
 pub kept-same : (columns : TreeColumns) (old new : Tables) (rows : List LiveRow) → ((tid : Tid) → keys_in new tid ≡ keys_in old tid) → All (IsKeptRow columns old) rows → All (IsKeptRow columns new) rows

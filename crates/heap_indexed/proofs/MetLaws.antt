@@ -7,19 +7,19 @@ use Rattle.outside.specs.Outside.{Names}
 use Rattle.key_orders.specs.declared.columns.Value.{Value}
 use Rattle.key_orders.specs.declared.Tid.{Tid}
 use Rattle.key_attrs.specs.Columns.{TreeColumns}
-use Rattle.stored_keys.specs.Same.{same_key}
-use Rattle.stored_keys.proofs.SameLaws.{two_parts}
-use Rattle.tree_image.specs.Image.{LeafEntry, index_entries}
+use Rattle.key_storage.specs.Same.{same_key}
+use Rattle.key_storage.proofs.SameLaws.{two_parts}
+use Rattle.bt_image.specs.Image.{LeafEntry, index_entries}
 use Rattle.bt_levels.specs.declared.sound.SoundTree.{SoundTree}
 use Rattle.bt_levels.specs.Sound.{HoldsTree, block_count, held_block, index_columns, specs_of}
-use Rattle.row_slots.specs.Met.{Keyed, Keys, Mets, keyed, has_entry as meets_entry, is_entry_of, meets, met_after, same_tid}
-use Rattle.row_slots.specs.Slots.{Tables, keys_in, met_in}
-use Rattle.row_slots.proofs.MetLaws.{met_after_is, met_if_entry}
-use Rattle.leaf_meets.specs.Meeting.{HaveMet, HaveMetSome, alive_in, all_entries, is_alive as is_unkilled, keyed_entry, leaf_entries}
-use Rattle.indexed_rules.specs.Entries.{has_alive, is_alive_of}
-use Rattle.row_probes.specs.Judging.{MetHave, TellsOf}
-use Rattle.row_probes.specs.Looking.{entries_of, has_entry}
-use Rattle.row_probes.proofs.Widths.{HasKeyOf, entries-keyed}
+use Rattle.join_slots.specs.Met.{Keyed, Keys, Mets, keyed, has_entry as meets_entry, is_entry_of, meets, met_after, same_tid}
+use Rattle.join_slots.specs.Slots.{Tables, keys_in, met_in}
+use Rattle.join_slots.proofs.MetLaws.{met_after_is, met_if_entry}
+use Rattle.join_meet.specs.Meeting.{HaveMet, HaveMetSome, alive_in, all_entries, is_alive as is_unkilled, keyed_entry, leaf_entries}
+use Rattle.join_rules.specs.Entries.{has_alive, is_alive_of}
+use Rattle.join_look_ups.specs.Judging.{MetHave, TellsOf}
+use Rattle.join_look_ups.specs.Looking.{entries_of, has_entry}
+use Rattle.join_look_ups.proofs.Widths.{HasKeyOf, entries-keyed}
 
 -- The entries that met rows are those of the index
 

@@ -3,14 +3,14 @@ use Rattle.std.proofs.Common.{◌∙◌, ℕ, ◌<◌, length, get_or, sym, subs
 use Rattle.case_file.specs.Record.{CaseRecord}
 use Rattle.bt_levels.specs.declared.sound.SoundTree.{SoundTree}
 use Rattle.bt_levels.specs.Sound.{index_columns}
-use Rattle.heap_files.specs.declared.files.SoundHeap.{SoundHeap}
-use Rattle.heap_check.specs.declared.row_cursor.RowCursor.{RowCursor}
-use Rattle.heap_check.specs.RowCursor.{IsSameCursor, asked_at}
-use Rattle.row_keys.specs.declared.keys.KeyedHeap.{KeyedHeap}
+use Rattle.heap_table_check.specs.declared.files.SoundHeap.{SoundHeap}
+use Rattle.heap_rows.specs.declared.row_cursor.RowCursor.{RowCursor}
+use Rattle.heap_rows.specs.RowCursor.{IsSameCursor, asked_at}
+use Rattle.join_row_keys.specs.declared.keys.KeyedHeap.{KeyedHeap}
 use Rattle.heap_indexed.specs.declared.ranges.Ranges.{Ranges}
-use Rattle.row_keys.specs.Joined.{BelongTogether}
+use Rattle.join_row_keys.specs.Joined.{BelongTogether}
 use Rattle.heap_indexed.specs.Meetings.{IsIndexNo, IsOfTable}
-use Rattle.row_keys.specs.Rows.{AreAskedFrom, IsIndexAt, columns_in}
+use Rattle.join_row_keys.specs.Rows.{AreAskedFrom, IsIndexAt, columns_in}
 
 -- a cursor of the same heap that is asked for the same columns
 pub same-table : (ranges : Ranges) (old new : RowCursor) → IsSameCursor old new → IsOfTable ranges old → IsOfTable ranges new

@@ -4,19 +4,19 @@ use Rattle.std.specs.Prelude.{Contains, None, Option, Some}
 use Rattle.std.proofs.lemmas.List.Elements.{Contains-append_left, Contains-append_right}
 use Rattle.outside.specs.Outside.{Names}
 use Rattle.case_file.specs.Record.{CaseRecord}
-use Rattle.root_set.specs.Targets.{is_in}
-use Rattle.root_set.proofs.Filled.{tells}
-use Rattle.heap_files.specs.declared.files.SoundHeap.{SoundHeap}
-use Rattle.heap_files.specs.Case.{heap_blocks, heap_page}
-use Rattle.heap_files.specs.Files.{IsSoundHeapOf, targets_in}
-use Rattle.heap_files.specs.Found.{IsQuiet}
-use Rattle.heap_check.specs.declared.rows.LiveRow.{LiveRow}
-use Rattle.heap_check.specs.RowLaws.{AreLiveTuples}
-use Rattle.heap_check.specs.Rows.{rows_of}
-use Rattle.row_keys.proofs.HeapRoots.{root-named}
+use Rattle.heap_targets.specs.Targets.{is_in}
+use Rattle.heap_targets.proofs.Filled.{tells}
+use Rattle.heap_table_check.specs.declared.files.SoundHeap.{SoundHeap}
+use Rattle.heap_table_check.specs.Case.{heap_blocks, heap_page}
+use Rattle.heap_table_check.specs.Files.{IsSoundHeapOf, targets_in}
+use Rattle.heap_table_check.specs.Found.{IsQuiet}
+use Rattle.heap_rows.specs.declared.rows.LiveRow.{LiveRow}
+use Rattle.heap_rows.specs.RowLaws.{AreLiveTuples}
+use Rattle.heap_rows.specs.Rows.{rows_of}
+use Rattle.join_row_keys.proofs.HeapRoots.{root-named}
 use Rattle.heap_indexed.specs.Meetings.{HasRoots}
-use Rattle.row_probes.specs.Rows.{rows_from}
-use Rattle.row_probes.proofs.Owed.{rows-all, rows-more}
+use Rattle.join_look_ups.specs.Rows.{rows_from}
+use Rattle.join_look_ups.proofs.Owed.{rows-all, rows-more}
 
 -- the rows of some blocks are among all
 part-of-all : (case : CaseRecord) (names : Names) (first count : ℕ) (row : LiveRow) → first + count ≤ heap_blocks case names → Contains (rows_from case names first count) row → Contains (rows_of case names) row

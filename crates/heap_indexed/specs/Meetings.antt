@@ -12,24 +12,24 @@ use Rattle.bt_levels.specs.Sound.{HoldsTree, index_columns}
 use Rattle.case_file.specs.Record.{CaseRecord}
 use Rattle.reports.specs.Added.{joined}
 use Rattle.reports.specs.Lists.{Lists}
-use Rattle.heap_files.specs.Files.{BelongTo, IsSoundHeapOf, files_of}
-use Rattle.heap_files.specs.Found.{IsQuiet}
-use Rattle.heap_check.specs.declared.row_cursor.RowCursor.{RowCursor}
-use Rattle.heap_check.specs.declared.rows.LiveRow.{LiveRow}
-use Rattle.heap_check.specs.RowCursor.{asked_at, case_at, heap_at}
-use Rattle.apart_keys.specs.Apart.{AreApart}
-use Rattle.index_targets.specs.Passes.{strays_of}
-use Rattle.root_set.specs.Targets.{is_in}
-use Rattle.row_slots.specs.Slots.{Tables, keys_in, keys_with, met_in}
-use Rattle.row_keys.specs.declared.joined.IndexedTable.{IndexedTable}
-use Rattle.row_keys.specs.declared.keys.KeyedHeap.{KeyedHeap}
+use Rattle.heap_table_check.specs.Files.{BelongTo, IsSoundHeapOf, files_of}
+use Rattle.heap_table_check.specs.Found.{IsQuiet}
+use Rattle.heap_rows.specs.declared.row_cursor.RowCursor.{RowCursor}
+use Rattle.heap_rows.specs.declared.rows.LiveRow.{LiveRow}
+use Rattle.heap_rows.specs.RowCursor.{asked_at, case_at, heap_at}
+use Rattle.join_distinct.specs.Apart.{AreApart}
+use Rattle.join_leaf_pass.specs.Passes.{strays_of}
+use Rattle.heap_targets.specs.Targets.{is_in}
+use Rattle.join_slots.specs.Slots.{Tables, keys_in, keys_with, met_in}
+use Rattle.join_row_keys.specs.declared.joined.IndexedTable.{IndexedTable}
+use Rattle.join_row_keys.specs.declared.keys.KeyedHeap.{KeyedHeap}
 use Rattle.heap_indexed.specs.declared.meeting.Meeting.{Meeting}
 use Rattle.heap_indexed.specs.declared.ranges.Ranges.{Ranges}
-use Rattle.row_keys.specs.Joined.{BelongTogether, HoldTogether}
-use Rattle.row_probes.specs.Judging.{IsBehind, TellsOf}
-use Rattle.row_probes.specs.Looking.{AreOf}
-use Rattle.row_keys.specs.Rows.{AreAskedFrom, columns_in}
-use Rattle.row_probes.specs.Rows.{HasValues, owed_for, rows_from}
+use Rattle.join_row_keys.specs.Joined.{BelongTogether, HoldTogether}
+use Rattle.join_look_ups.specs.Judging.{IsBehind, TellsOf}
+use Rattle.join_look_ups.specs.Looking.{AreOf}
+use Rattle.join_row_keys.specs.Rows.{AreAskedFrom, columns_in}
+use Rattle.join_look_ups.specs.Rows.{HasValues, owed_for, rows_from}
 
 -- The heap and its indexes
 

@@ -5,19 +5,19 @@ ghost use Rattle.outside.specs.Outside.{Asked, IfTold, Tells};
 ghost use Rattle.reports.specs.Added.{report_lists};
 ghost use Rattle.bt_levels.specs.Files.{number_of};
 ghost use Rattle.bt_levels.specs.Sound.{file_of};
-ghost use Rattle.apart_keys.specs.Apart.{AreApart};
-ghost use Rattle.indexed_rules.specs.Lists.{entries_lists, indexed_lists, joined_lists};
-ghost use Rattle.row_keys.specs.Joined.{BelongTogether, HoldTogether};
+ghost use Rattle.join_distinct.specs.Apart.{AreApart};
+ghost use Rattle.join_rules.specs.Lists.{entries_lists, indexed_lists, joined_lists};
+ghost use Rattle.join_row_keys.specs.Joined.{BelongTogether, HoldTogether};
 
-use duplicate_keys::check_duplicates;
-use index_targets::{Leaves, Spans};
-use indexed_rules::heaps_and_indexes_are_judged;
+use heap_targets::set_tells_of_pages;
+use join_leaf_pass::{Leaves, Spans};
+use join_look_ups::{LookUps, probe_rows};
+use join_row_keys::IndexedHeap;
+use join_rules::heaps_and_indexes_are_judged;
+use join_slots::RowSlots;
+use join_unique::check_duplicates;
 use outside::Files;
 use reports::{CheckFault, PageFault, Report};
-use root_set::set_tells_of_pages;
-use row_keys::IndexedHeap;
-use row_probes::{LookUps, probe_rows};
-use row_slots::RowSlots;
 use std::alloc::Global;
 
 // Adds each entry of an index that names what no entry may name.

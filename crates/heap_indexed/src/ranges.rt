@@ -8,26 +8,26 @@ ghost use Rattle.rel_files.specs.Relation.{count_of};
 ghost use Rattle.reports.specs.Added.{joined, nothing};
 ghost use Rattle.reports.specs.Lists.{Lists};
 ghost use Rattle.bt_levels.specs.declared.sound.SoundTree.{SoundTree as Tree};
-ghost use Rattle.heap_files.specs.Files.{heap_in, targets_in};
-ghost use Rattle.heap_check.specs.RowCursor.{IsAtRow, IsCursorOf, IsSameCursor, next_in, rows_here, taken_in};
-ghost use Rattle.heap_check.specs.Rows.{block_rows, rows_of};
-ghost use Rattle.heap_check.specs.declared.rows.LiveRow.{LiveRow as Row};
-ghost use Rattle.index_targets.specs.Passes.{strays_of};
-ghost use Rattle.row_probes.specs.Judging.{IsBehind};
+ghost use Rattle.heap_table_check.specs.Files.{heap_in, targets_in};
+ghost use Rattle.heap_rows.specs.RowCursor.{IsAtRow, IsCursorOf, IsSameCursor, next_in, rows_here, taken_in};
+ghost use Rattle.heap_rows.specs.Rows.{block_rows, rows_of};
+ghost use Rattle.heap_rows.specs.declared.rows.LiveRow.{LiveRow as Row};
+ghost use Rattle.join_leaf_pass.specs.Passes.{strays_of};
+ghost use Rattle.join_look_ups.specs.Judging.{IsBehind};
 ghost use Rattle.heap_indexed.specs.Meetings.{AreInWork, AreKeptOf, AreToFinish, EachFor, HasRoots, HaveKept};
 ghost use Rattle.heap_indexed.specs.Meetings.{HoldIt, IsIndexNo};
 ghost use Rattle.heap_indexed.specs.Meetings.{IsJudged, IsOfTable};
 ghost use Rattle.heap_indexed.specs.declared.meeting.Meeting.{Meeting as Work};
-ghost use Rattle.row_keys.specs.Rows.{IsFound};
-ghost use Rattle.row_probes.specs.Rows.{owed_for, rows_from};
+ghost use Rattle.join_row_keys.specs.Rows.{IsFound};
+ghost use Rattle.join_look_ups.specs.Rows.{owed_for, rows_from};
 
 use crate::meeting::Meeting;
-use heap_check::{RowCursor, RowPlace, rows_are_live_tuples};
+use heap_rows::{RowCursor, RowPlace, rows_are_live_tuples};
+use heap_targets::RootSet;
+use join_row_keys::{IndexedHeap, IndexedTable, KeyedHeap};
 use outside::{Files, NoMemory};
 use page_layout::MAX_ITEMS;
 use reports::PageFault;
-use root_set::RootSet;
-use row_keys::{IndexedHeap, IndexedTable, KeyedHeap};
 
 // The bytes that the rows of a range may use for all indexes together before the range ends with a block: 100 MiB, or
 // 256 for each block of the heap, a 32nd of its bytes, where that is more. So the number of ranges is bounded.

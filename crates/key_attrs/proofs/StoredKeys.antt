@@ -1,7 +1,7 @@
 -- Values that are stored one behind the other, and what is left of them.
 use Rattle.std.proofs.Common.{◌≡◌, ◌+◌, ◌-◌, ◌<◌, ℕ, zero, suc, List, [], ◌∷◌, drop, get_or, length, refl, sym, ap, ◌∙◌, arith, add-one, drop-cons}
 use Rattle.key_orders.specs.declared.columns.Value.{Value}
-use Rattle.stored_keys.specs.Stored.{value_read, values_read}
+use Rattle.key_storage.specs.Stored.{value_read, values_read}
 
 abbrev first_of : Value → List Value → Value
 first_of d [] = d

@@ -2,7 +2,7 @@
 ghost use Rattle.std.specs.Prelude.{◌≡◌, Ok, None, IfSome, length};
 ghost use Rattle.std.specs.Bool.{OnTrue};
 ghost use Rattle.key_orders.specs.Values.{value_shown};
-ghost use Rattle.stored_keys.specs.Stored.{values_read};
+ghost use Rattle.key_storage.specs.Stored.{values_read};
 ghost use Rattle.key_attrs.specs.Columns.{all_types};
 ghost use Rattle.key_attrs.specs.Keyed.{key_values};
 ghost use Rattle.key_attrs.specs.FirstValues.{BeginsPlainKey};
@@ -10,7 +10,7 @@ ghost use Rattle.key_attrs.specs.FirstValues.{BeginsPlainKey};
 use crate::columns::IndexColumns;
 use crate::keyed::value_at;
 use key_orders::ValueRef;
-use stored_keys::after_value;
+use key_storage::after_value;
 use varlena_attrs::plain_piece;
 
 /// Whether an index tuple without null bits, which has this body, has as its values those that are stored at the

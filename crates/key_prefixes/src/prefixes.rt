@@ -1,7 +1,7 @@
 //! A number for the first value of a key, by which many keys are told apart at once.
 ghost use Rattle.std.specs.Prelude.{◌≡◌, ◌<◌, ℕ, true, List, map};
 ghost use Rattle.std.specs.declared.cmp.Ordering.TheVariants.{Less};
-ghost use Rattle.tree_search.specs.Keys.{compare_values};
+ghost use Rattle.laws_search.specs.Keys.{compare_values};
 ghost use Rattle.key_orders.specs.declared.columns.Value.{Value as Shown};
 ghost use Rattle.key_orders.specs.Values.{value_shown};
 ghost use Rattle.key_orders.specs.Keys.{columns_of, fits_columns};

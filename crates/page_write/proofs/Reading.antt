@@ -123,8 +123,8 @@ heap_rules items fits =
     heap_rules_by (page_with 8192 items []) (lower_for items) (8192 - room_for items) (reads_page_header 8192 items [] (omega arith) fits)
     (omega arith) (omega (arith, fits)) (omega arith) (whole_words (length items))
 
-pub tree_rules : (items : List (List ℕ)) (tail : List ℕ) → FitsBelow 8176 items → page_rule_of Tree (page_with 8176 items tail) ≡ None
-tree_rules items tail fits =
+pub laws_levels : (items : List (List ℕ)) (tail : List ℕ) → FitsBelow 8176 items → page_rule_of Tree (page_with 8176 items tail) ≡ None
+laws_levels items tail fits =
     tree_rules_by (page_with 8176 items tail) (lower_for items) (8176 - room_for items) (reads_page_header 8176 items tail (omega arith) fits)
     (omega arith) (omega (arith, fits)) (omega arith) (whole_words (length items))
 

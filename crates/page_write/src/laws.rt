@@ -31,7 +31,7 @@ ghost use Rattle.page_write.specs.Tuples.{plain_tuple, values_part};
 ///
 /// - `length`: the page has as many bytes as its special space begins at, and those of the special space.
 /// - `header`: its header says where things are.
-/// - `heap_rules`, `tree_rules`: it breaks none of P1 to P4.
+/// - `heap_rules`, `laws_levels`: it breaks none of P1 to P4.
 /// - `count`: it has as many items as were laid.
 /// - `item`: the line pointer of each names its storage, right below that of the items before it.
 /// - `bytes`: its bytes stand there.
@@ -42,7 +42,7 @@ pub fn laid_pages_read_back()
     ensures header { (place : ℕ) (items : List (List ℕ)) (tail : List ℕ) → place ≤ 8192 → FitsBelow place items
         → header_of (page_with place items tail) ≡ header_with (lower_for items) (place - room_for items) place }
     ensures heap_rules { (items : List (List ℕ)) → FitsBelow 8192 items → page_rule_of Heap (heap_page items) ≡ None }
-    ensures tree_rules { (items : List (List ℕ)) (special : Special) → FitsBelow 8176 items
+    ensures laws_levels { (items : List (List ℕ)) (special : Special) → FitsBelow 8176 items
         → page_rule_of Tree (tree_page items special) ≡ None }
     ensures count { (place : ℕ) (items : List (List ℕ)) (tail : List ℕ) → place ≤ 8192 → FitsBelow place items
         → count_of (page_with place items tail) ≡ length items }

@@ -1,6 +1,6 @@
 use Rattle.std.proofs.Common.{◌∙◌, ℕ, arith, subst, sym}
 use Rattle.key_attrs.specs.Columns.{tree_columns}
-use Rattle.tree_search.specs.Back.{Seeks}
+use Rattle.laws_search.specs.Back.{Seeks}
 use Rattle.page_layout.specs.View.{page_bytes}
 use Rattle.bt_levels.specs.Sound.{index_columns}
 use Rattle.bt_steps.specs.declared.inner.Step.TheVariants.{Lost, Read, To}

@@ -1,6 +1,6 @@
 use Rattle.std.proofs.Common.{◌-◌, ◌≤◌}
 use Rattle.outside.specs.Outside.{IfTold, PassedAtMost}
-use Rattle.tree_search.specs.Back.{Seeks}
+use Rattle.laws_search.specs.Back.{Seeks}
 use Rattle.back_scan.specs.Spots.{GoesOn, SeeksTo}
 use Rattle.back_scan.proofs.descent.arrive.Given as goal
 

@@ -1,6 +1,6 @@
-use Rattle.tree_search.specs.Search.{search_start}
-use Rattle.tree_search_back.proofs.Steps.{goes_back}
-use Rattle.tree_search_back.proofs.Whole.{finds_reverse}
+use Rattle.laws_search.specs.Search.{search_start}
+use Rattle.laws_back_search.proofs.Steps.{goes_back}
+use Rattle.laws_back_search.proofs.Whole.{finds_reverse}
 use Rattle.key_orders.specs.Scans.{order_of}
 use Rattle.bt_levels.specs.Sound.{image_of, specs_of}
 use Rattle.bt_steps.specs.Pages.{is_killed}

@@ -1,8 +1,8 @@
 use Rattle.std.proofs.Common.{◌≡◌, ◌∙◌, ◌+◌, ◌-◌, ◌++◌, ◌∷◌, [], ap, arith, append-nil, append_assoc, map, sym, ℕ}
 use Rattle.std.proofs.lemmas.List.{map-append}
 use Rattle.key_orders.specs.Values.{value_shown}
-use Rattle.stored_keys.specs.Stored.{value_read, values_read}
-use Rattle.stored_keys.proofs.StoredLaws.{next_read}
+use Rattle.key_storage.specs.Stored.{value_read, values_read}
+use Rattle.key_storage.proofs.StoredLaws.{next_read}
 use Rattle.bt_build.proofs.bodies.read_values.Goals as goal
 
 pub loop-init : goal.loop-init

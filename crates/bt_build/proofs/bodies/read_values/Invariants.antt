@@ -1,6 +1,6 @@
 use Rattle.std.proofs.Common.{◌≡◌, ◌-◌, ◌++◌, map}
 use Rattle.key_orders.specs.Values.{value_shown}
-use Rattle.stored_keys.specs.Stored.{values_read}
+use Rattle.key_storage.specs.Stored.{values_read}
 use Rattle.bt_build.proofs.bodies.read_values.Given as goal
 
 abbrev pub invariant-loop : goal.invariant-loop

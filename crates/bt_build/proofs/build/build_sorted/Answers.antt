@@ -1,10 +1,10 @@
 use Rattle.std.proofs.Common.{◌≡◌, ◌≤◌, ◌∙◌, ◌++◌, ℕ, List, ap, arith, length, subst, sym}
 use Rattle.std.specs.List.{AllByRecursion}
 use Rattle.std.proofs.lemmas.List.Elements.{All-from_recursion, recursion_from_All}
-use Rattle.tree_image.specs.Image.{LeafEntry}
-use Rattle.tree_built.specs.Built.{lay_levels}
-use Rattle.built_pages.specs.Items.{plain_item}
-use Rattle.built_pages.specs.Trees.{IsPageFit}
+use Rattle.bt_image.specs.Image.{LeafEntry}
+use Rattle.laws_building.specs.Built.{lay_levels}
+use Rattle.laws_built_index.specs.Items.{plain_item}
+use Rattle.laws_built_index.specs.Trees.{IsPageFit}
 use Rattle.page_write.specs.Pages.{meta_page}
 use Rattle.bt_build.specs.declared.groups.Item.{Item}
 use Rattle.bt_build.specs.Laid.{levels_bytes}

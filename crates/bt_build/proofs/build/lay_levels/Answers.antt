@@ -1,8 +1,8 @@
 use Rattle.std.proofs.Common.{◌≡◌, ◌∙◌, ◌∷◌, ◌++◌, ℕ, List, add-one, ap, arith, drop, subst, suc, sym}
 use Rattle.std.specs.List.{AllByRecursion}
 use Rattle.std.proofs.Math.Seq.{drop-cons}
-use Rattle.tree_built.specs.Built.{lay_levels}
-use Rattle.built_pages.specs.Trees.{IsPageFit}
+use Rattle.laws_building.specs.Built.{lay_levels}
+use Rattle.laws_built_index.specs.Trees.{IsPageFit}
 use Rattle.bt_build.specs.declared.levels.Level.{Level}
 use Rattle.bt_build.specs.Laid.{AreLevelsLeft, levels_bytes}
 use Rattle.bt_build.specs.Levels.{AreLevels, sheets_of}

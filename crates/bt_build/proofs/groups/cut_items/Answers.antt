@@ -1,5 +1,5 @@
 use Rattle.std.proofs.Common.{◌+◌, List, sym, subst}
-use Rattle.tree_image.specs.Image.{LeafEntry}
+use Rattle.bt_image.specs.Image.{LeafEntry}
 use Rattle.bt_build.specs.Groups.{IsNextItem}
 use Rattle.bt_build.specs.Source.{entries_of}
 use Rattle.bt_build.proofs.GroupLaws.{SoFar, drop_entries, next_so_far}

@@ -1,6 +1,6 @@
 use Rattle.std.proofs.Common.{◌∙◌, ap, sym}
 use Rattle.std.specs.Ordering.{is_eq}
-use Rattle.tree_search.specs.Keys.{compare_values}
+use Rattle.laws_search.specs.Keys.{compare_values}
 use Rattle.key_orders.specs.Keys.{columns_of}
 use Rattle.bt_build.specs.Source.{entry_of}
 use Rattle.bt_build.proofs.SortedLaws.{first_is}

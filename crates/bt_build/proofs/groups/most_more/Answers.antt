@@ -1,6 +1,6 @@
 use Rattle.std.proofs.Common.{◌≡◌, ◌∙◌, ◌-◌, ◌/◌, ℕ, min, ap, arith, sym}
 use Rattle.std.specs.Prelude.{Bool, nat_le, if◌then◌else◌, suc}
-use Rattle.tree_built.specs.Groups.{greatest}
+use Rattle.laws_building.specs.Groups.{greatest}
 use Rattle.page_write.specs.Posting.{posting_size}
 use Rattle.bt_build.proofs.GroupLaws.{most_is, room_more}
 use Rattle.bt_build.proofs.groups.most_more.Goals as goal

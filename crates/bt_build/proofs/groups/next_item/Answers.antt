@@ -1,9 +1,9 @@
 use Rattle.std.proofs.Common.{◌∙◌, List, min, refl, ap, arith, get_or}
 use Rattle.std.specs.Prelude.{Bool, nat_le, not, suc, if◌then◌else◌}
-use Rattle.tree_built.specs.Groups.{greatest, run_length}
+use Rattle.laws_building.specs.Groups.{greatest, run_length}
 use Rattle.page_write.specs.Posting.{posting_size}
 use Rattle.std.proofs.lemmas.List.Elements.{All-get_or}
-use Rattle.built_pages.specs.Sizes.{grouping_of}
+use Rattle.laws_built_index.specs.Sizes.{grouping_of}
 use Rattle.bt_build.specs.declared.entries.Place.{Place}
 use Rattle.bt_build.specs.Source.{IsPlaceOf, IsSmallOf, entries_of, entry_of}
 use Rattle.bt_build.proofs.GroupLaws.{most_few, next_here, nowhere, short_told}

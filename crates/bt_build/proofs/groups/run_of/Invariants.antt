@@ -1,6 +1,6 @@
 use Rattle.std.proofs.Common.{◌≡◌, ◌+◌, drop}
-use Rattle.tree_built.specs.Groups.{run_length}
-use Rattle.built_pages.specs.Sizes.{grouping_of}
+use Rattle.laws_building.specs.Groups.{run_length}
+use Rattle.laws_built_index.specs.Sizes.{grouping_of}
 use Rattle.bt_build.specs.Source.{entries_of, entry_of}
 use Rattle.bt_build.proofs.groups.run_of.Given as goal
 

@@ -1,6 +1,6 @@
 use Rattle.std.proofs.Common.{◌∙◌, ◌∷◌, ℕ, List, suc, ap, arith, drop, sym}
 use Rattle.std.proofs.lemmas.List.{length-map}
-use Rattle.built_pages.specs.Items.{leaf_item}
+use Rattle.laws_built_index.specs.Items.{leaf_item}
 use Rattle.bt_build.specs.declared.groups.Item.{Item}
 use Rattle.bt_build.specs.Groups.{entries_in}
 use Rattle.bt_build.specs.Laid.{leaf_tuples}

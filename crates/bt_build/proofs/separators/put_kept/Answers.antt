@@ -6,11 +6,11 @@ use Rattle.std.proofs.lemmas.List.Elements.{All-from_recursion}
 use Rattle.key_orders.specs.declared.columns.ColType.{ColType}
 use Rattle.key_orders.specs.Types.{HasAlignment}
 use Rattle.key_orders.specs.Values.{value_shown}
-use Rattle.stored_keys.specs.Stored.{values_read}
+use Rattle.key_storage.specs.Stored.{values_read}
 use Rattle.key_attrs.specs.Keyed.{key_types}
 use Rattle.page_write.specs.Bodies.{IsShortEnough, body_flags, index_body}
 use Rattle.page_write.specs.Tuples.{pivot_tuple}
-use Rattle.built_pages.specs.Items.{kept_types}
+use Rattle.laws_built_index.specs.Items.{kept_types}
 use Rattle.bt_build.specs.Separators.{front_of}
 use Rattle.bt_build.specs.Source.{entry_of}
 use Rattle.bt_build.proofs.SeparatorLaws.{stand_aligned, types_kept, values_front}

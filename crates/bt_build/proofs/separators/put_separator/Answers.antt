@@ -1,11 +1,11 @@
 use Rattle.std.proofs.Common.{◌≡◌, ◌-◌, ◌∙◌, ap, arith, length, subst, sym}
 use Rattle.std.specs.Prelude.{None, Option, unwrap_or}
 use Rattle.std.proofs.lemmas.Result.{on_ok_weaker}
-use Rattle.tree_search.specs.Keys.{Separator}
+use Rattle.laws_search.specs.Keys.{Separator}
 use Rattle.key_orders.specs.declared.columns.Value.{Value}
 use Rattle.key_orders.specs.declared.Tid.{Tid}
-use Rattle.tree_image.specs.Image.{minus_infinity}
-use Rattle.built_pages.specs.Items.{MaySplit, pivot_item}
+use Rattle.bt_image.specs.Image.{minus_infinity}
+use Rattle.laws_built_index.specs.Items.{MaySplit, pivot_item}
 use Rattle.bt_build.specs.Separators.{split_before}
 use Rattle.bt_build.specs.Source.{entries_sorted}
 use Rattle.bt_build.proofs.SeparatorLaws.{at, before_first, behind_last, front_is, may_there, nothing_long, short_there, split_is}

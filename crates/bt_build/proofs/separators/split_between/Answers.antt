@@ -1,7 +1,7 @@
 use Rattle.std.proofs.Common.{◌≡◌, ◌+◌, ◌-◌, ◌∙◌, ℕ, sym, subst, arith, length, List}
-use Rattle.tree_built.specs.Splits.{split_values}
+use Rattle.laws_building.specs.Splits.{split_values}
 use Rattle.key_orders.specs.Keys.{columns_of}
-use Rattle.stored_keys.specs.Stored.{values_read}
+use Rattle.key_storage.specs.Stored.{values_read}
 use Rattle.bt_build.specs.Separators.{split_of}
 use Rattle.bt_build.specs.Source.{entry_of}
 use Rattle.bt_build.proofs.SortedLaws.{first_is}

@@ -5,9 +5,9 @@ use Rattle.std.proofs.lemmas.List.Elements.{All-from_recursion}
 use Rattle.key_orders.specs.declared.columns.ColType.{ColType}
 use Rattle.key_orders.specs.declared.columns.Value.{Value}
 use Rattle.key_orders.specs.Values.{value_shown}
-use Rattle.stored_keys.specs.Stored.{values_read}
+use Rattle.key_storage.specs.Stored.{values_read}
 use Rattle.page_write.specs.Bodies.{IsShortEnough, body_flags, index_body}
-use Rattle.built_pages.specs.Items.{entry_types}
+use Rattle.laws_built_index.specs.Items.{entry_types}
 use Rattle.bt_build.specs.Source.{entry_of}
 use Rattle.bt_build.proofs.SourceLaws.{all_values, refs_short, stand_length}
 use Rattle.bt_build.proofs.source.put_entry_body.Goals as goal

@@ -4,7 +4,7 @@ use Rattle.key_orders.specs.declared.columns.KeySpec.{KeySpec}
 use Rattle.key_orders.specs.declared.more.MoreSpec.{MoreSpec}
 use Rattle.key_orders.specs.Types.{HasAlignment}
 use Rattle.key_attrs.specs.Keyed.{key_types, more_types}
-use Rattle.bt_walks.specs.Shape.{IsShapeOf}
+use Rattle.bt_level_check.specs.Shape.{IsShapeOf}
 use Rattle.bt_levels.specs.Files.{number_of}
 use Rattle.bt_levels.specs.Index.{index_of, tree_of}
 use Rattle.bt_levels.proofs.Keys.{aligned-keys, aligned-more, few-keys, few-more, index-has}

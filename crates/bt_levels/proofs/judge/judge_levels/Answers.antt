@@ -3,7 +3,7 @@ use Rattle.outside.specs.Adds.{Begins}
 use Rattle.outside.proofs.Adding.{Adds-exit, Begins-none}
 use Rattle.reports.specs.Added.{joined, report_lists}
 use Rattle.bt_pages.specs.Trees.{tree_seen}
-use Rattle.bt_walks.specs.Trees.{first_broken_in}
+use Rattle.bt_level_check.specs.Trees.{first_broken_in}
 use Rattle.bt_levels.specs.Lists.{level_finding_lists, level_lists}
 use Rattle.bt_levels.proofs.OnWay.{told_of}
 use Rattle.bt_levels.proofs.judge.judge_levels.Goals as goal

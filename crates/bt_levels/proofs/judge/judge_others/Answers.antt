@@ -8,8 +8,8 @@ use Rattle.reports.proofs.Upto.{upto-cut, upto-next, upto-none}
 use Rattle.bt_pages.specs.Found.{block_lists}
 use Rattle.bt_pages.specs.Trees.{tree_seen}
 use Rattle.bt_pages.specs.declared.tree.TreeRules.{TreeRules}
-use Rattle.bt_walks.specs.Trees.{HoldsPages}
-use Rattle.bt_walks.specs.UnderWay.{IsOnItsWay}
+use Rattle.bt_level_check.specs.Trees.{HoldsPages}
+use Rattle.bt_level_check.specs.UnderWay.{IsOnItsWay}
 use Rattle.bt_levels.specs.Lists.{other_lists}
 use Rattle.bt_levels.specs.Window.{held_page}
 use Rattle.bt_levels.proofs.judge.judge_others.Goals as goal

@@ -5,8 +5,8 @@ use Rattle.bt_pages.specs.Found.{block_lists}
 use Rattle.bt_pages.specs.Seen.{StaysSeen}
 use Rattle.bt_pages.specs.Trees.{tree_seen}
 use Rattle.rel_files.specs.Relation.{count_of}
-use Rattle.bt_walks.specs.Budget.{TakesReads}
-use Rattle.bt_walks.specs.UnderWay.{budget_left}
+use Rattle.bt_level_check.specs.Budget.{TakesReads}
+use Rattle.bt_level_check.specs.UnderWay.{budget_left}
 use Rattle.bt_levels.specs.OnWay.{IsOnWay, IsWalkOf}
 use Rattle.bt_levels.specs.Window.{held_page}
 use Rattle.bt_levels.proofs.judge.judge_others.Given as goal

@@ -1,9 +1,9 @@
 use Rattle.rel_files.specs.Blocks.{long_segment_of}
 use Rattle.attach_files.specs.Refusals.{index_limit}
-use Rattle.tree_search.proofs.Whole.{finds}
-use Rattle.tree_rules.proofs.Broken.{silent}
-use Rattle.tree_rules.proofs.Searchable.{searchable}
-use Rattle.bt_walks.specs.Trees.{KeepsPages, image_of, order_in, same_in}
+use Rattle.laws_search.proofs.Whole.{finds}
+use Rattle.laws_levels.proofs.Broken.{silent}
+use Rattle.laws_levels.proofs.Searchable.{searchable}
+use Rattle.bt_level_check.specs.Trees.{KeepsPages, image_of, order_in, same_in}
 use Rattle.bt_levels.specs.Index.{index_of, tree_lists, tree_of}
 use Rattle.bt_levels.proofs.LevelLaws.{tree-doubted, tree-doubts, tree-kept, tree-listed, tree-sound}
 use Rattle.bt_levels.proofs.Sounds.{same_law}

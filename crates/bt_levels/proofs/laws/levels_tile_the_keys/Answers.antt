@@ -1,6 +1,6 @@
 use Rattle.std.proofs.Common.{◌∙◌}
 use Rattle.key_orders.specs.Scans.{order_of}
-use Rattle.tree_search.proofs.Tiles.{level_tiles}
+use Rattle.laws_search.proofs.Tiles.{level_tiles}
 use Rattle.bt_levels.specs.Sound.{image_of, specs_of}
 use Rattle.bt_levels.proofs.laws.levels_tile_the_keys.Goals as goal
 

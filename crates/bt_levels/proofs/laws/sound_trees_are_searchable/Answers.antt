@@ -1,8 +1,8 @@
 use Rattle.key_orders.specs.Keys.{columns_of, tid_order}
 use Rattle.key_orders.specs.Scans.{order_of}
-use Rattle.tree_rules.specs.Same.{same_keys}
-use Rattle.tree_rules.proofs.Broken.{silent}
-use Rattle.tree_rules.proofs.Searchable.{searchable}
+use Rattle.laws_levels.specs.Same.{same_keys}
+use Rattle.laws_levels.proofs.Broken.{silent}
+use Rattle.laws_levels.proofs.Searchable.{searchable}
 use Rattle.bt_levels.specs.Sound.{block_count, held_block, image_of, specs_of}
 use Rattle.bt_levels.proofs.Sounds.{same_law}
 use Rattle.bt_levels.proofs.laws.sound_trees_are_searchable.Goals as goal

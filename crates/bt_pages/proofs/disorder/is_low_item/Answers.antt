@@ -1,6 +1,6 @@
 use Rattle.std.proofs.Common.{◌≡◌, ◌∙◌, ap, sym, subst, true, false}
 use Rattle.page_layout.specs.View.{page_bytes}
-use Rattle.tree_image.specs.declared.places.ItemPlace.{ItemPlace}
+use Rattle.bt_image.specs.declared.places.ItemPlace.{ItemPlace}
 use Rattle.bt_pages.specs.Questions.{is_without_fault}
 use Rattle.bt_pages.proofs.Passing.{plain-each}
 use Rattle.bt_pages.proofs.disorder.is_low_item.Goals as goal

@@ -1,7 +1,7 @@
 use Rattle.std.proofs.Common.{◌≡◌, ◌∙◌, ap, sym, true, false}
 use Rattle.page_layout.specs.View.{page_bytes}
 use Rattle.bt_tuples.specs.Shown.{item_shown}
-use Rattle.tree_image.specs.Image.{item_at, separator_in}
+use Rattle.bt_image.specs.Image.{item_at, separator_in}
 use Rattle.bt_pages.specs.Questions.{is_without_fault}
 use Rattle.bt_pages.proofs.Orders.{high_key-none}
 use Rattle.bt_pages.proofs.Plain.{at_spot, fits-separator, item-means, plain-unread}

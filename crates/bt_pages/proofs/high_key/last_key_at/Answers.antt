@@ -2,7 +2,7 @@ use Rattle.std.proofs.Common.{◌≡◌, ◌∙◌, ap, sym, subst, true, false,
 use Rattle.page_layout.specs.View.{page_bytes}
 use Rattle.key_orders.specs.Keys.{IsKeySeparator}
 use Rattle.bt_tuples.specs.Keys.{last_key}
-use Rattle.tree_image.specs.Image.{item_at}
+use Rattle.bt_image.specs.Image.{item_at}
 use Rattle.bt_pages.specs.Questions.{is_without_fault}
 use Rattle.bt_pages.proofs.Passing.{plain-each}
 use Rattle.bt_pages.proofs.Plain.{at_spot, fits-last, item-means, nothing-fits, plain-unread}

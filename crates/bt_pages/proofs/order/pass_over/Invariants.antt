@@ -1,6 +1,6 @@
 use Rattle.std.proofs.Common.{◌≡◌, true}
 use Rattle.page_layout.specs.View.{page_bytes}
-use Rattle.tree_image.specs.Places.{places_of}
+use Rattle.bt_image.specs.Places.{places_of}
 use Rattle.bt_pages.specs.Passes.{IsCarried, are_disordered, held}
 use Rattle.bt_pages.specs.Questions.{are_plain}
 use Rattle.bt_pages.proofs.order.pass_over.Given as goal

@@ -1,8 +1,8 @@
 use Rattle.std.proofs.Common.{◌≡◌, ◌≤◌, subst, arith}
 use Rattle.page_layout.specs.Page.{count_of}
 use Rattle.page_layout.specs.View.{page_bytes}
-use Rattle.tree_image.specs.Image.{first_data}
-use Rattle.tree_image.proofs.PageFields.{first_cases}
+use Rattle.bt_image.specs.Image.{first_data}
+use Rattle.bt_image.proofs.PageFields.{first_cases}
 use Rattle.bt_pages.specs.Passes.{RiseTo}
 use Rattle.bt_pages.proofs.Rising.{entry-plain, rise-entry, rise-first}
 use Rattle.bt_pages.proofs.quiet.do_entries_rise.Goals as goal

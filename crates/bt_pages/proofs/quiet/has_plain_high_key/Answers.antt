@@ -5,8 +5,8 @@ use Rattle.page_layout.specs.View.{page_bytes}
 use Rattle.key_orders.specs.Separators.{separator_of}
 use Rattle.bt_tuples.specs.Keys.{last_key}
 use Rattle.bt_tuples.specs.Shown.{item_shown}
-use Rattle.tree_image.specs.Image.{item_at, separator_in}
-use Rattle.tree_image.specs.Pages.{breaks_high_key}
+use Rattle.bt_image.specs.Image.{item_at, separator_in}
+use Rattle.bt_image.specs.Pages.{breaks_high_key}
 use Rattle.bt_pages.specs.Passes.{RiseTo}
 use Rattle.bt_pages.proofs.Plain.{at_spot, fits-separator, item-means, plain-read}
 use Rattle.bt_pages.proofs.Rising.{high_key-spot, rise-high_key, rise-pass}

@@ -1,6 +1,6 @@
 use Rattle.std.proofs.Common.{◌≡◌, ◌-◌, sym, subst, arith}
 use Rattle.page_layout.specs.View.{page_bytes}
-use Rattle.tree_image.specs.Image.{first_data}
+use Rattle.bt_image.specs.Image.{first_data}
 use Rattle.bt_pages.specs.Passes.{RiseTo}
 use Rattle.bt_pages.proofs.Orders.{high_key-none}
 use Rattle.bt_pages.proofs.Rising.{first-after, first-alone, rise-none, rise-pass}

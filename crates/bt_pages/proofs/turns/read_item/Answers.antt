@@ -2,9 +2,9 @@ use Rattle.std.proofs.Common.{◌≡◌, ◌∙◌, ℕ, List, ap, sym, subst, a
 use Rattle.page_layout.specs.View.{page_bytes}
 use Rattle.key_orders.specs.Keys.{IsKeySeparator}
 use Rattle.bt_tuples.specs.Keys.{first_key, last_key}
-use Rattle.tree_image.specs.declared.places.ItemPlace.{ItemPlace}
-use Rattle.tree_image.specs.Image.{item_at, spot_of}
-use Rattle.tree_image.specs.Places.{place_of}
+use Rattle.bt_image.specs.declared.places.ItemPlace.{ItemPlace}
+use Rattle.bt_image.specs.Image.{item_at, spot_of}
+use Rattle.bt_image.specs.Places.{place_of}
 use Rattle.bt_pages.proofs.Orders.{compared-past_1}
 use Rattle.bt_pages.proofs.Plain.{at_spot, fits-first, fits-last, item-means, plain-read, plain-unread}
 use Rattle.bt_pages.proofs.turns.read_item.Goals as goal

@@ -1,7 +1,7 @@
 use Rattle.std.proofs.Common.{◌∙◌, ℕ, [], ap, arith, subst, sym}
 use Rattle.key_attrs.specs.Columns.{tree_columns}
-use Rattle.tree_search.specs.Search.{At}
-use Rattle.tree_image.specs.Image.{first_data}
+use Rattle.laws_search.specs.Search.{At}
+use Rattle.bt_image.specs.Image.{first_data}
 use Rattle.bt_levels.specs.Sound.{index_columns}
 use Rattle.bt_steps.specs.declared.inner.Step.TheVariants.{Lost, Read, To}
 use Rattle.bt_search.specs.Descents.{GoesOn}

@@ -1,6 +1,6 @@
 use Rattle.std.proofs.Common.{◌-◌, ◌≤◌, []}
 use Rattle.outside.specs.Outside.{IfTold, PassedAtMost}
-use Rattle.tree_search.specs.Search.{At}
+use Rattle.laws_search.specs.Search.{At}
 use Rattle.bt_search.specs.Descents.{ComesTo, GoesOn}
 use Rattle.bt_search.proofs.descent.arrive.Given as goal
 

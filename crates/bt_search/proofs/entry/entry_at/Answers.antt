@@ -4,7 +4,7 @@ use Rattle.std.proofs.lemmas.Grind.{common_steps}
 use Rattle.page_layout.specs.Page.{page_rule_of}
 use Rattle.page_layout.specs.View.{page_bytes}
 use Rattle.page_layout.specs.declared.page.PageKind.TheVariants.{Tree}
-use Rattle.tree_search.specs.Keys.{Entry}
+use Rattle.laws_search.specs.Keys.{Entry}
 use Rattle.key_orders.specs.declared.columns.Value.{Value}
 use Rattle.key_orders.specs.declared.Tid.{Tid}
 use Rattle.key_attrs.specs.Columns.{tree_columns}

@@ -1,11 +1,11 @@
 use Rattle.std.proofs.Common.{refl, sym, subst}
 use Rattle.std.specs.Prelude.{IsSomeAnd, Option, slice_get}
-use Rattle.tree_search.specs.Keys.{Entry}
+use Rattle.laws_search.specs.Keys.{Entry}
 use Rattle.key_orders.specs.declared.columns.Value.{Value}
 use Rattle.key_orders.specs.declared.Tid.{Tid}
 use Rattle.bt_tuples.specs.declared.items.TreeItem.{TreeItem}
 use Rattle.bt_tuples.specs.Shown.{item_shown}
-use Rattle.tree_image.specs.Image.{keys_in}
+use Rattle.bt_image.specs.Image.{keys_in}
 use Rattle.bt_search.specs.declared.spot.EntryRef.{EntryRef}
 use Rattle.bt_search.specs.Entries.{Shows}
 use Rattle.bt_steps.proofs.Items.{list-get}

@@ -3,11 +3,11 @@ use Rattle.std.specs.Prelude.{slice_get}
 use Rattle.key_orders.specs.declared.columns.Value.{Value}
 use Rattle.key_orders.specs.declared.Tid.{Tid}
 use Rattle.key_orders.specs.Values.{value_shown}
-use Rattle.stored_keys.specs.Same.{same_key}
+use Rattle.key_storage.specs.Same.{same_key}
 use Rattle.bt_tuples.specs.declared.items.TreeItem.{TreeItem}
 use Rattle.bt_tuples.specs.Items.{Posting}
 use Rattle.bt_tuples.specs.Shown.{item_shown}
-use Rattle.tree_image.specs.Image.{entries_in}
+use Rattle.bt_image.specs.Image.{entries_in}
 use Rattle.bt_search.specs.Entries.{included_in}
 use Rattle.bt_search.proofs.included.item_includes.Goals as goal
 

@@ -2,11 +2,11 @@ use Rattle.std.proofs.Common.{◌∙◌, map, ap}
 use Rattle.std.specs.Prelude.{slice_get}
 use Rattle.page_layout.specs.View.{page_bytes}
 use Rattle.key_orders.specs.Values.{value_shown}
-use Rattle.stored_keys.specs.Same.{same_key}
+use Rattle.key_storage.specs.Same.{same_key}
 use Rattle.key_attrs.specs.Columns.{tree_columns}
 use Rattle.bt_tuples.specs.Items.{Item}
 use Rattle.bt_tuples.specs.Shown.{item_shown}
-use Rattle.tree_image.specs.Image.{entries_in}
+use Rattle.bt_image.specs.Image.{entries_in}
 use Rattle.bt_steps.proofs.Items.{item-is, item-unread}
 use Rattle.bt_search.specs.Entries.{included_in}
 use Rattle.bt_search.proofs.included.page_includes.Goals as goal

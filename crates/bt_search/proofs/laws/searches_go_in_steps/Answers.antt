@@ -1,11 +1,11 @@
 use Rattle.std.proofs.Common.{ℕ, zero, suc, ◌≤◌, Bool, List, sym, subst, arith}
-use Rattle.tree_search.specs.Order.{Scan}
-use Rattle.tree_search.specs.Search.{Answers, At, Ended, IsWanted, State, Stuck, search_start, visit}
-use Rattle.tree_search.specs.Spots.{left_of, visits_made}
-use Rattle.tree_search.specs.Tree.{Index}
-use Rattle.tree_search.specs.Keys.{Entry}
-use Rattle.tree_search.proofs.Spots.{reads_in_steps}
-use Rattle.tree_search.proofs.Whole.{finds}
+use Rattle.laws_search.specs.Order.{Scan}
+use Rattle.laws_search.specs.Search.{Answers, At, Ended, IsWanted, State, Stuck, search_start, visit}
+use Rattle.laws_search.specs.Spots.{left_of, visits_made}
+use Rattle.laws_search.specs.Tree.{Index}
+use Rattle.laws_search.specs.Keys.{Entry}
+use Rattle.laws_search.proofs.Spots.{reads_in_steps}
+use Rattle.laws_search.proofs.Whole.{finds}
 use Rattle.key_orders.specs.declared.columns.Value.{Value}
 use Rattle.key_orders.specs.declared.Tid.{Tid}
 use Rattle.key_orders.specs.Scans.{order_of}

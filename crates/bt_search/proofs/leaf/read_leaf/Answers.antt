@@ -6,7 +6,7 @@ use Rattle.page_layout.specs.View.{page_bytes}
 use Rattle.page_layout.specs.declared.page.PageKind.TheVariants.{Tree}
 use Rattle.bt_meta.specs.declared.records.Opaque.{Opaque}
 use Rattle.bt_meta.specs.Pages.{opaque_of}
-use Rattle.tree_image.proofs.PageFields.{first_cases}
+use Rattle.bt_image.proofs.PageFields.{first_cases}
 use Rattle.bt_levels.specs.Sound.{held_block, index_columns}
 use Rattle.bt_search.specs.declared.spot.Spot.{Spot}
 use Rattle.bt_search.specs.Entries.{IsEntryAt}

@@ -2,9 +2,9 @@ use Rattle.std.proofs.Common.{◌≡◌, ◌∙◌, ℕ, ◌+◌, ◌-◌, List,
 use Rattle.std.specs.Prelude.{Some, ◌==◌}
 use Rattle.std.proofs.lemmas.Bool.{cond-false, ne_eqb}
 use Rattle.std.specs.Ordering.{is_lt}
-use Rattle.tree_search.specs.Keys.{Entry, as_separator, compare_keys}
-use Rattle.tree_search.specs.Order.{IsOrder}
-use Rattle.tree_search.specs.Probe.{halves_down, leaf_after}
+use Rattle.laws_search.specs.Keys.{Entry, as_separator, compare_keys}
+use Rattle.laws_search.specs.Order.{IsOrder}
+use Rattle.laws_search.specs.Probe.{halves_down, leaf_after}
 use Rattle.key_orders.specs.declared.columns.KeySpec.{KeySpec}
 use Rattle.key_orders.specs.declared.columns.Value.{Value}
 use Rattle.key_orders.specs.declared.Tid.{Tid}

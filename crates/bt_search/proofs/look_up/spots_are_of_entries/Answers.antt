@@ -1,12 +1,12 @@
 use Rattle.std.proofs.Common.{◌≡◌, Bool, true, [], sym, subst}
 use Rattle.std.specs.Prelude.{Contains, cond, if◌then◌else◌, not, ◌&&◌}
 use Rattle.std.proofs.lemmas.Bool.{and_from, not_from_false}
-use Rattle.tree_search.specs.Search.{leaf_entries, tree_blocks}
-use Rattle.tree_search.proofs.Gather.{block_in}
-use Rattle.tree_search.proofs.Unique.{Contains-from_In}
+use Rattle.laws_search.specs.Search.{leaf_entries, tree_blocks}
+use Rattle.laws_search.proofs.Gather.{block_in}
+use Rattle.laws_search.proofs.Unique.{Contains-from_In}
 use Rattle.bt_meta.specs.Flags.{is_half_dead, is_leaf}
 use Rattle.bt_meta.specs.Pages.{is_idle, opaque_of}
-use Rattle.tree_image.specs.Image.{data_items, item_at, keys_in, page_keys}
+use Rattle.bt_image.specs.Image.{data_items, item_at, keys_in, page_keys}
 use Rattle.bt_levels.specs.Sound.{held_block, image_of, index_columns}
 use Rattle.bt_steps.specs.Entries.{keys_at}
 use Rattle.bt_steps.proofs.Members.{in-data_items, in-flat_map, in-place}

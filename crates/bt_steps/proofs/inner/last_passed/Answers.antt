@@ -1,6 +1,6 @@
 use Rattle.std.proofs.Common.{◌+◌, ◌-◌, ◌/◌, ◌∙◌, arith, sym}
 use Rattle.page_layout.specs.View.{page_bytes}
-use Rattle.tree_image.proofs.PageFields.{first_cases}
+use Rattle.bt_image.proofs.PageFields.{first_cases}
 use Rattle.bt_steps.proofs.inner.last_passed.Goals as goal
 
 pub loop-high-preserved-then-goes_right_of : goal.loop-high-preserved-then-goes_right_of

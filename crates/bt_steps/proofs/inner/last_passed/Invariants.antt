@@ -4,7 +4,7 @@ use Rattle.page_layout.specs.View.{page_bytes}
 use Rattle.key_attrs.specs.Columns.{tree_columns}
 use Rattle.bt_meta.specs.Flags.{is_half_dead}
 use Rattle.bt_meta.specs.Pages.{opaque_of}
-use Rattle.tree_image.specs.Image.{first_data}
+use Rattle.bt_image.specs.Image.{first_data}
 use Rattle.bt_steps.specs.Pages.{IsReadable}
 use Rattle.bt_steps.specs.Ways.{is_passed}
 use Rattle.bt_steps.proofs.inner.last_passed.Given as goal

@@ -3,12 +3,12 @@ use Rattle.std.specs.Prelude.{Some}
 use Rattle.std.proofs.lemmas.Bool.{or_parts}
 use Rattle.page_layout.specs.View.{page_bytes}
 use Rattle.key_attrs.specs.Columns.{tree_columns}
-use Rattle.tree_search.specs.Search.{right_of}
-use Rattle.tree_image.specs.Image.{page_image}
+use Rattle.laws_search.specs.Search.{right_of}
+use Rattle.bt_image.specs.Image.{page_image}
 use Rattle.bt_meta.specs.declared.records.Opaque.{Opaque}
 use Rattle.bt_meta.specs.Flags.{is_half_dead, is_leaf}
 use Rattle.bt_meta.specs.Pages.{opaque_of}
-use Rattle.tree_image.proofs.PageFields.{first_cases, has_item}
+use Rattle.bt_image.proofs.PageFields.{first_cases, has_item}
 use Rattle.bt_steps.specs.Ways.{Goes, is_left_behind}
 use Rattle.bt_steps.proofs.Visiting.{inner-other, leads-down, leads-right}
 use Rattle.bt_steps.proofs.inner.step_on.Goals as goal

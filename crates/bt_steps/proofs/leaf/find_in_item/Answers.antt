@@ -2,15 +2,15 @@ use Rattle.std.proofs.Common.{◌≡◌, ◌≤◌, ◌∙◌, ℕ, List, Bool, 
 use Rattle.std.specs.Prelude.{Option, None, Some, IfSome, slice_get}
 use Rattle.page_layout.specs.Page.{count_of}
 use Rattle.page_layout.specs.View.{page_bytes}
-use Rattle.tree_search.specs.Keys.{Entry}
+use Rattle.laws_search.specs.Keys.{Entry}
 use Rattle.key_orders.specs.declared.columns.Value.{Value}
 use Rattle.key_orders.specs.declared.Tid.{Tid}
 use Rattle.key_attrs.specs.Columns.{TreeColumns, tree_columns}
 use Rattle.bt_tuples.specs.declared.items.TreeItem.{TreeItem}
 use Rattle.bt_tuples.specs.Items.{Posting}
 use Rattle.bt_tuples.specs.Shown.{item_shown}
-use Rattle.tree_image.specs.Image.{first_data, keys_in}
-use Rattle.tree_image.proofs.Rises.{IsGood}
+use Rattle.bt_image.specs.Image.{first_data, keys_in}
+use Rattle.bt_image.proofs.Rises.{IsGood}
 use Rattle.bt_steps.specs.Entries.{IsRead, keys_at}
 use Rattle.bt_steps.specs.Sought.{HasSought}
 use Rattle.bt_steps.proofs.Items.{entry_with, item-good, item-reads, item-unread, keys-are, list-get}

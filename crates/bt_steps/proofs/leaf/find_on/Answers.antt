@@ -1,8 +1,8 @@
 use Rattle.std.proofs.Common.{refl}
 use Rattle.page_layout.specs.View.{page_bytes}
 use Rattle.key_attrs.specs.Columns.{tree_columns}
-use Rattle.tree_search.proofs.Gather.{In-from_Contains}
-use Rattle.tree_image.specs.Image.{page_keys}
+use Rattle.laws_search.proofs.Gather.{In-from_Contains}
+use Rattle.bt_image.specs.Image.{page_keys}
 use Rattle.bt_steps.specs.Entries.{keys_at}
 use Rattle.bt_steps.proofs.OnLeaf.{in-get, item-read, only-there}
 use Rattle.bt_steps.proofs.leaf.find_on.Goals as goal

@@ -1,7 +1,7 @@
 use Rattle.std.proofs.Common.{◌≡◌, ℕ, ◌+◌, ◌≤◌, length, drop, List, [], ◌++◌, sym, ap, ◌∙◌, arith, append-nil}
 use Rattle.std.proofs.lemmas.List.{drop_all}
 use Rattle.case_file.specs.declared.case.Column.{Column}
-use Rattle.heap_check.specs.RowValues.{cell_lent}
+use Rattle.heap_rows.specs.RowValues.{cell_lent}
 use Rattle.copy_out.specs.Fields.{cell_text, field_text}
 use Rattle.copy_out.specs.Lines.{fields_of}
 use Rattle.copy_out.proofs.Fitting.{field_is, fits_field}

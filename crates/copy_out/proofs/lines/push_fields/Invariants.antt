@@ -1,5 +1,5 @@
 use Rattle.std.proofs.Common.{◌≡◌, ◌++◌, drop}
-use Rattle.heap_check.specs.RowFits.{FitColumns}
+use Rattle.heap_rows.specs.RowFits.{FitColumns}
 use Rattle.copy_out.specs.Lines.{fields_of, joined}
 use Rattle.copy_out.proofs.Joining.{rest_of}
 use Rattle.copy_out.proofs.lines.push_fields.Given as goal

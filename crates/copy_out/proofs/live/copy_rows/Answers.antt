@@ -3,8 +3,8 @@ use Rattle.std.specs.Prelude.{All}
 use Rattle.rel_files.specs.Relation.{count_of}
 use Rattle.case_file.specs.Record.{CaseRecord}
 use Rattle.case_file.specs.declared.case.Column.{Column}
-use Rattle.heap_check.specs.RowCursor.{AreAsked, asked_at, rows_ahead}
-use Rattle.heap_check.specs.Rows.{rows_of}
+use Rattle.heap_rows.specs.RowCursor.{AreAsked, asked_at, rows_ahead}
+use Rattle.heap_rows.specs.Rows.{rows_of}
 use Rattle.copy_out.specs.Live.{cells_in, copied_text, numbers_from, unread_values}
 use Rattle.copy_out.specs.Lines.{text_of}
 use Rattle.copy_out.proofs.Asking.{numbers_inside}

@@ -2,9 +2,9 @@ use Rattle.std.proofs.Common.{◌≡◌, ◌++◌, ◌+◌, ◌<◌, ◌≤◌, 
 use Rattle.std.specs.List.{AllByRecursion}
 use Rattle.std.proofs.lemmas.List.{take_all, take_more}
 use Rattle.case_file.specs.declared.case.Column.{Column}
-use Rattle.heap_check.specs.RowFits.{FitColumns, FitsColumn}
-use Rattle.heap_check.specs.declared.row_cells.Cell.{Cell}
-use Rattle.heap_check.specs.declared.row_cells.Cell.TheVariants.{Packed}
+use Rattle.heap_rows.specs.RowFits.{FitColumns, FitsColumn}
+use Rattle.heap_rows.specs.declared.row_cells.Cell.{Cell}
+use Rattle.heap_rows.specs.declared.row_cells.Cell.TheVariants.{Packed}
 use Rattle.copy_out.specs.Fields.{HasBytes}
 use Rattle.copy_out.proofs.Breaks.{each-append}
 use Rattle.copy_out.proofs.Joining.{fit_length}

@@ -1,7 +1,7 @@
 use Rattle.std.proofs.Common.{◌≡◌, List, take, drop}
 use Rattle.std.specs.List.{AllByRecursion}
-use Rattle.heap_check.specs.RowFits.{FitColumns}
-use Rattle.heap_check.specs.declared.row_cells.Cell.{Cell}
+use Rattle.heap_rows.specs.RowFits.{FitColumns}
+use Rattle.heap_rows.specs.declared.row_cells.Cell.{Cell}
 use Rattle.copy_out.specs.Fields.{HasBytes}
 use Rattle.copy_out.specs.Lines.{IsRow, row_text}
 use Rattle.copy_out.proofs.read_lines.read_row.Given as goal

@@ -4,7 +4,7 @@ use Rattle.std.specs.List.{AllByRecursion}
 use Rattle.case_file.specs.declared.case.Column.{Column}
 use Rattle.copy_out.specs.Lines.{IsRow, row_text, text_of}
 use Rattle.copy_out.specs.Readings.{IsNoRow}
-use Rattle.heap_check.specs.declared.row_cells.Cell.{Cell}
+use Rattle.heap_rows.specs.declared.row_cells.Cell.{Cell}
 use Rattle.copy_out.proofs.Breaks.{each-append}
 use Rattle.copy_out.proofs.Refusals.{no_feed_no_line, no_row_no_line, row_read}
 use Rattle.copy_out.proofs.read_texts.read_rows.Goals as goal

@@ -3,7 +3,7 @@ use Rattle.reports.specs.Lists.{Lists}
 use Rattle.bt_levels.specs.Files.{number_of}
 use Rattle.bt_levels.specs.Sound.{file_of}
 use Rattle.bt_pages.specs.Broken.{AreEmpty}
-use Rattle.indexed_rules.specs.Lists.{duplicates_lists, indexed_lists}
+use Rattle.join_rules.specs.Lists.{duplicates_lists, indexed_lists}
 use Rattle.heap_indexed.proofs.Asked.{asked, joined-nothing, not-asked, nothing-there, some-of}
 use Rattle.heap_indexed.proofs.check.add_duplicates.Goals as goal
 

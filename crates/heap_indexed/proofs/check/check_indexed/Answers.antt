@@ -5,7 +5,7 @@ use Rattle.reports.specs.Added.{report_lists}
 use Rattle.reports.specs.Lists.{Lists}
 use Rattle.bt_levels.specs.Files.{number_of}
 use Rattle.bt_levels.specs.Sound.{file_of}
-use Rattle.indexed_rules.specs.Lists.{indexed_lists}
+use Rattle.join_rules.specs.Lists.{indexed_lists}
 use Rattle.heap_indexed.proofs.check.check_indexed.Goals as goal
 
 pub returns-in_err-own-clause-lists : goal.returns-in_err-own-clause-lists

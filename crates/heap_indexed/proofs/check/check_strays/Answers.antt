@@ -5,10 +5,10 @@ use Rattle.reports.specs.Added.{joined, report_lists}
 use Rattle.reports.specs.Lists.{Lists}
 use Rattle.bt_levels.specs.Files.{number_of}
 use Rattle.bt_levels.specs.Sound.{file_of}
-use Rattle.heap_files.specs.Case.{heap_blocks, heap_page}
-use Rattle.indexed_rules.specs.Lists.{entries_lists}
+use Rattle.heap_table_check.specs.Case.{heap_blocks, heap_page}
+use Rattle.join_rules.specs.Lists.{entries_lists}
 use Rattle.heap_indexed.proofs.Cases.{strays-are}
-use Rattle.row_keys.proofs.Pages.{set-says}
+use Rattle.join_row_keys.proofs.Pages.{set-says}
 use Rattle.heap_indexed.proofs.check.check_strays.Goals as goal
 
 pub check_entries-requires : goal.check_entries-requires

@@ -3,9 +3,9 @@ use Rattle.reports.specs.Added.{joined}
 use Rattle.reports.specs.Lists.{Lists}
 use Rattle.bt_levels.specs.Files.{number_of}
 use Rattle.bt_levels.specs.Sound.{file_of}
-use Rattle.indexed_rules.specs.Lists.{entries_lists, joined_lists, rows_lists}
+use Rattle.join_rules.specs.Lists.{entries_lists, joined_lists, rows_lists}
 use Rattle.heap_indexed.proofs.Cases.{both-are}
-use Rattle.row_probes.proofs.Owed.{settled-more}
+use Rattle.join_look_ups.proofs.Owed.{settled-more}
 use Rattle.heap_indexed.proofs.check.index_report.Goals as goal
 
 pub probe_rows-requires-clause-of : goal.probe_rows-requires-clause-of

@@ -1,5 +1,5 @@
 use Rattle.std.proofs.Common.{◌∙◌, ◌++◌, sym, arith}
-use Rattle.row_keys.specs.Rows.{columns_in}
+use Rattle.join_row_keys.specs.Rows.{columns_in}
 use Rattle.heap_indexed.proofs.Columns.{columns-next}
 use Rattle.heap_indexed.proofs.check_all.columns_of_all.Goals as goal
 

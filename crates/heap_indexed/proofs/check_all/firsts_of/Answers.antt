@@ -5,8 +5,8 @@ use Rattle.std.proofs.Math.ListN.{get_or-append}
 use Rattle.std.proofs.Math.Seq.{get_or-append_seam}
 use Rattle.bt_levels.specs.declared.sound.SoundTree.{SoundTree}
 use Rattle.bt_levels.specs.Sound.{index_columns}
-use Rattle.heap_check.specs.declared.row_values.AskedColumns.{AskedColumns}
-use Rattle.row_keys.specs.Rows.{AreAskedFrom, columns_in}
+use Rattle.heap_rows.specs.declared.row_values.AskedColumns.{AskedColumns}
+use Rattle.join_row_keys.specs.Rows.{AreAskedFrom, columns_in}
 use Rattle.heap_indexed.proofs.Columns.{asked-here, columns-count}
 use Rattle.heap_indexed.proofs.Each.{at-place}
 use Rattle.heap_indexed.proofs.check_all.firsts_of.Goals as goal

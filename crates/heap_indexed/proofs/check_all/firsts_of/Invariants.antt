@@ -2,10 +2,10 @@ use Rattle.std.proofs.Common.{◌≡◌, ℕ, ◌<◌, length}
 use Rattle.std.specs.Prelude.{slice_index_or, take}
 use Rattle.bt_levels.specs.declared.sound.SoundTree.{SoundTree}
 use Rattle.bt_levels.specs.Sound.{index_columns}
-use Rattle.heap_check.specs.declared.row_cursor.RowCursor.{RowCursor}
-use Rattle.heap_check.specs.RowCursor.{AreAsked, asked_at}
+use Rattle.heap_rows.specs.declared.row_cursor.RowCursor.{RowCursor}
+use Rattle.heap_rows.specs.RowCursor.{AreAsked, asked_at}
 use Rattle.heap_indexed.specs.Meetings.{columns_of_all}
-use Rattle.row_keys.specs.Rows.{AreAskedFrom, columns_in}
+use Rattle.join_row_keys.specs.Rows.{AreAskedFrom, columns_in}
 use Rattle.heap_indexed.proofs.check_all.firsts_of.Given as goal
 
 -- the columns of the indexes so far begin where they say

@@ -6,8 +6,8 @@ use Rattle.reports.specs.Lists.{Lists}
 use Rattle.bt_levels.specs.Files.{number_of}
 use Rattle.bt_levels.specs.Sound.{file_of}
 use Rattle.bt_levels.specs.declared.sound.SoundTree.{SoundTree}
-use Rattle.indexed_rules.specs.Lists.{indexed_lists, joined_lists}
-use Rattle.row_keys.specs.Joined.{HoldTogether}
+use Rattle.join_rules.specs.Lists.{indexed_lists, joined_lists}
+use Rattle.join_row_keys.specs.Joined.{HoldTogether}
 use Rattle.heap_indexed.proofs.Asked.{next-done, next-left, popped}
 use Rattle.heap_indexed.proofs.check_all.judge_keys.Goals as goal
 

@@ -3,7 +3,7 @@ use Rattle.std.specs.Prelude.{take}
 use Rattle.outside.specs.Outside.{IfTold, Passed}
 use Rattle.bt_levels.specs.Files.{number_of}
 use Rattle.bt_levels.specs.Sound.{file_of}
-use Rattle.indexed_rules.specs.Lists.{indexed_lists, joined_lists}
+use Rattle.join_rules.specs.Lists.{indexed_lists, joined_lists}
 use Rattle.heap_indexed.proofs.check_all.judge_keys.Given as goal
 
 -- the first indexes have their reports, and of the others what was found of rows and entries is left

@@ -5,21 +5,21 @@ use Rattle.reports.specs.Added.{joined, nothing}
 use Rattle.bt_levels.specs.Files.{number_of}
 use Rattle.bt_levels.specs.Sound.{file_of}
 use Rattle.bt_levels.specs.declared.sound.SoundTree.{SoundTree}
-use Rattle.heap_files.specs.Case.{heap_blocks, heap_page}
-use Rattle.heap_files.specs.Files.{heap_in, targets_in}
-use Rattle.heap_check.specs.RowCursor.{AreAsked, asked_at}
-use Rattle.heap_check.specs.Rows.{rows_of}
-use Rattle.apart_keys.specs.Apart.{AreApart}
-use Rattle.indexed_rules.specs.Lists.{joined_lists}
+use Rattle.heap_table_check.specs.Case.{heap_blocks, heap_page}
+use Rattle.heap_table_check.specs.Files.{heap_in, targets_in}
+use Rattle.heap_rows.specs.RowCursor.{AreAsked, asked_at}
+use Rattle.heap_rows.specs.Rows.{rows_of}
+use Rattle.join_distinct.specs.Apart.{AreApart}
+use Rattle.join_rules.specs.Lists.{joined_lists}
 use Rattle.heap_indexed.specs.declared.meeting.Meeting.{Meeting}
 use Rattle.heap_indexed.specs.Meetings.{AreFirsts, AreInWork, EachFor, columns_of_all}
-use Rattle.row_probes.specs.Rows.{rows_from}
-use Rattle.row_probes.proofs.Cases.{rows-are}
+use Rattle.join_look_ups.specs.Rows.{rows_from}
+use Rattle.join_look_ups.proofs.Cases.{rows-are}
 use Rattle.heap_indexed.proofs.Cases.{both-are, strays-are}
 use Rattle.heap_indexed.proofs.Columns.{all-there}
 use Rattle.heap_indexed.proofs.Each.{each-known, reports-are, written-back}
-use Rattle.row_probes.proofs.Owed.{rows-all}
-use Rattle.row_keys.proofs.Pages.{count-is, set-says}
+use Rattle.join_look_ups.proofs.Owed.{rows-all}
+use Rattle.join_row_keys.proofs.Pages.{count-is, set-says}
 use Rattle.heap_indexed.proofs.check_all.meet_all.Goals as goal
 
 pub new-requires-clause-asked : goal.new-requires-clause-asked

@@ -4,9 +4,9 @@ use Rattle.outside.proofs.Asking.{Passed-next}
 use Rattle.reports.specs.Lists.{Lists}
 use Rattle.bt_levels.specs.Files.{number_of}
 use Rattle.bt_levels.specs.Sound.{file_of}
-use Rattle.indexed_rules.specs.Lists.{indexed_lists}
+use Rattle.join_rules.specs.Lists.{indexed_lists}
 use Rattle.bt_levels.specs.declared.sound.SoundTree.{SoundTree}
-use Rattle.row_keys.specs.Joined.{HoldTogether}
+use Rattle.join_row_keys.specs.Joined.{HoldTogether}
 use Rattle.heap_indexed.proofs.check_all.probe_indexes.Goals as goal
 
 pub index_report-requires-clause-hold : goal.index_report-requires-clause-hold

@@ -3,7 +3,7 @@ use Rattle.std.specs.Prelude.{take}
 use Rattle.outside.specs.Outside.{IfTold, Passed}
 use Rattle.bt_levels.specs.Files.{number_of}
 use Rattle.bt_levels.specs.Sound.{file_of}
-use Rattle.indexed_rules.specs.Lists.{indexed_lists}
+use Rattle.join_rules.specs.Lists.{indexed_lists}
 use Rattle.heap_indexed.proofs.check_all.probe_indexes.Given as goal
 
 -- the reports of the indexes so far

@@ -4,10 +4,10 @@ use Rattle.std.proofs.Math.ListN.{drop_of_length-le}
 use Rattle.key_orders.specs.declared.columns.Value.{Value}
 use Rattle.key_orders.specs.Values.{value_shown}
 use Rattle.bt_levels.specs.Sound.{index_columns}
-use Rattle.row_slots.specs.declared.slots.BegunRow.{BegunRow}
-use Rattle.row_slots.specs.Slots.{IsBegunRow, keys_in, keys_with}
-use Rattle.row_keys.specs.Rows.{columns_in}
-use Rattle.row_keys.proofs.KeyLaws.{both-parts, so-far-all, so-far-next, so-far-none}
+use Rattle.join_slots.specs.declared.slots.BegunRow.{BegunRow}
+use Rattle.join_slots.specs.Slots.{IsBegunRow, keys_in, keys_with}
+use Rattle.join_row_keys.specs.Rows.{columns_in}
+use Rattle.join_row_keys.proofs.KeyLaws.{both-parts, so-far-all, so-far-next, so-far-none}
 use Rattle.heap_indexed.proofs.meeting.keep_row_at.Goals as goal
 
 pub loop-k-init : goal.loop-k-init

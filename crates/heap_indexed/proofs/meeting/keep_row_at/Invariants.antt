@@ -2,12 +2,12 @@ use Rattle.std.proofs.Common.{◌≡◌, ◌∷◌, List, length}
 use Rattle.outside.specs.Outside.{Names}
 use Rattle.key_orders.specs.declared.columns.Value.{Value}
 use Rattle.bt_levels.specs.Sound.{index_columns}
-use Rattle.heap_check.specs.declared.rows.LiveRow.{LiveRow}
-use Rattle.heap_check.specs.RowCursor.{IsCursorOf, rows_here}
-use Rattle.indexed_rules.specs.Rows.{values_at}
-use Rattle.row_slots.specs.Slots.{IsBegunRow, keys_in, met_in}
-use Rattle.row_keys.specs.Rows.{columns_in}
-use Rattle.row_keys.proofs.KeyLaws.{IsSoFar}
+use Rattle.heap_rows.specs.declared.rows.LiveRow.{LiveRow}
+use Rattle.heap_rows.specs.RowCursor.{IsCursorOf, rows_here}
+use Rattle.join_rules.specs.Rows.{values_at}
+use Rattle.join_slots.specs.Slots.{IsBegunRow, keys_in, met_in}
+use Rattle.join_row_keys.specs.Rows.{columns_in}
+use Rattle.join_row_keys.proofs.KeyLaws.{IsSoFar}
 use Rattle.heap_indexed.proofs.meeting.keep_row_at.Given as goal
 
 -- the values so far are written, and begin those of the row; no row was kept

@@ -5,7 +5,7 @@ use Rattle.key_orders.specs.declared.columns.ColType.{ColType}
 use Rattle.key_orders.specs.declared.columns.ColType.TheVariants.{Bool as BoolType}
 use Rattle.key_orders.specs.declared.columns.Value.{Value}
 use Rattle.key_orders.specs.Values.{value_shown}
-use Rattle.stored_keys.specs.Stored.{values_read}
+use Rattle.key_storage.specs.Stored.{values_read}
 use Rattle.key_attrs.specs.Columns.{all_types}
 use Rattle.varlena_attrs.specs.Forms.{Plain}
 use Rattle.key_attrs.specs.Keyed.{attribute_value, read_inline}

@@ -1,6 +1,6 @@
 use Rattle.std.proofs.Common.{◌≡◌, ◌-◌, ◌≤◌, length, drop, take}
 use Rattle.std.specs.Prelude.{None}
-use Rattle.stored_keys.specs.Stored.{values_read}
+use Rattle.key_storage.specs.Stored.{values_read}
 use Rattle.key_attrs.specs.Columns.{all_types}
 use Rattle.key_attrs.specs.Keyed.{key_values, read_inline}
 use Rattle.key_attrs.specs.KeyedShown.{told_after}

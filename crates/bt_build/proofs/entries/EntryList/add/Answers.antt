@@ -5,7 +5,7 @@ use Rattle.key_orders.specs.Values.{value_shown}
 use Rattle.key_orders.specs.declared.columns.ColType.{ColType}
 use Rattle.page_write.specs.Bodies.{IsShortEnough, index_body}
 use Rattle.page_write.specs.Fields.{IsTid}
-use Rattle.tree_image.specs.Image.{leaf_entry}
+use Rattle.bt_image.specs.Image.{leaf_entry}
 use Rattle.bt_build.specs.declared.entries.Place.{Place}
 use Rattle.bt_build.specs.Kept.{AreKept, listed_in, told_length}
 use Rattle.bt_build.specs.Listed.{AreValues, IsNewTid, Listed, with_entry}

@@ -1,8 +1,8 @@
 use Rattle.std.proofs.Common.{◌≡◌, ◌∙◌, ◌∷◌, List, drop, length, ap, sym, subst, arith}
 use Rattle.std.specs.Prelude.{Option}
-use Rattle.heap_check.specs.declared.row_cursor.RowPlace.{RowPlace}
-use Rattle.heap_check.specs.declared.rows.LiveRow.{LiveRow}
-use Rattle.heap_check.specs.RowCursor.{IsPlaceOfFirst, rows_ahead}
+use Rattle.heap_rows.specs.declared.row_cursor.RowPlace.{RowPlace}
+use Rattle.heap_rows.specs.declared.rows.LiveRow.{LiveRow}
+use Rattle.heap_rows.specs.RowCursor.{IsPlaceOfFirst, rows_ahead}
 use Rattle.copy_out.proofs.Asking.{same_over}
 use Rattle.copy_out.proofs.Copying.{left_next, row_there}
 use Rattle.copy_out.specs.Live.{AreLeft}

@@ -2,10 +2,10 @@ use Rattle.std.proofs.Common.{◌≡◌, ◌<◌, ◌∷◌, [], ◌++◌, ℕ, 
 use Rattle.std.specs.Prelude.{Some, slice_get}
 use Rattle.std.proofs.lemmas.Option.{slice_get-get_or}
 use Rattle.case_file.specs.declared.case.Column.{Column}
-use Rattle.heap_check.specs.RowFits.{FitsColumn}
-use Rattle.heap_check.specs.RowValues.{cell_lent}
-use Rattle.heap_check.specs.declared.rows.LiveRow.{LiveRow}
-use Rattle.heap_check.proofs.RowHeads.{first_is}
+use Rattle.heap_rows.specs.RowFits.{FitsColumn}
+use Rattle.heap_rows.specs.RowValues.{cell_lent}
+use Rattle.heap_rows.specs.declared.rows.LiveRow.{LiveRow}
+use Rattle.heap_rows.proofs.RowHeads.{first_is}
 use Rattle.copy_out.specs.Fields.{cell_text, field_text}
 use Rattle.copy_out.specs.Lines.{tab_before}
 use Rattle.copy_out.proofs.Asking.{asked_count, asked_number}

@@ -1,7 +1,7 @@
 use Rattle.std.proofs.Common.{◌≡◌, ◌≤◌, ◌∷◌, List, length}
 use Rattle.outside.specs.Outside.{Names}
-use Rattle.heap_check.specs.RowCursor.{IsCursorOf, rows_ahead}
-use Rattle.heap_check.specs.declared.rows.LiveRow.{LiveRow}
+use Rattle.heap_rows.specs.RowCursor.{IsCursorOf, rows_ahead}
+use Rattle.heap_rows.specs.declared.rows.LiveRow.{LiveRow}
 use Rattle.copy_out.proofs.Copying.{IsPart}
 use Rattle.copy_out.proofs.live.CopyWriter.add_row.Given as goal
 

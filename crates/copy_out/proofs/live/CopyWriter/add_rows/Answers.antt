@@ -1,7 +1,7 @@
 use Rattle.std.proofs.Common.{◌∙◌, List, refl, sym, subst, arith}
 use Rattle.outside.proofs.Asking.{Passed-next, Passed-none}
-use Rattle.heap_check.specs.declared.rows.LiveRow.{LiveRow}
-use Rattle.heap_check.specs.RowCursor.{rows_ahead}
+use Rattle.heap_rows.specs.declared.rows.LiveRow.{LiveRow}
+use Rattle.heap_rows.specs.RowCursor.{rows_ahead}
 use Rattle.copy_out.specs.Live.{AreLeft}
 use Rattle.copy_out.proofs.Asking.{same_over, same_then}
 use Rattle.copy_out.proofs.Copying.{none_there}

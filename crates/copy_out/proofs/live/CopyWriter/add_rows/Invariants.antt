@@ -1,7 +1,7 @@
 use Rattle.std.proofs.Common.{◌+◌, ◌≤◌, List, length}
 use Rattle.outside.specs.Outside.{IfTold, Passed}
-use Rattle.heap_check.specs.declared.rows.LiveRow.{LiveRow}
-use Rattle.heap_check.specs.RowCursor.{IsCursorOf, IsSameCursor, rows_ahead}
+use Rattle.heap_rows.specs.declared.rows.LiveRow.{LiveRow}
+use Rattle.heap_rows.specs.RowCursor.{IsCursorOf, IsSameCursor, rows_ahead}
 use Rattle.copy_out.specs.Live.{AreLeft}
 use Rattle.copy_out.proofs.live.CopyWriter.add_rows.Given as goal
 

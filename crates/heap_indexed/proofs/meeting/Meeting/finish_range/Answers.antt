@@ -5,14 +5,14 @@ use Rattle.std.specs.Prelude.{Bool, Option}
 use Rattle.reports.specs.Added.{joined, report_lists}
 use Rattle.reports.specs.Lists.{Lists}
 use Rattle.bt_levels.specs.Sound.{index_columns}
-use Rattle.heap_check.specs.RowCursor.{next_in}
-use Rattle.heap_check.specs.declared.rows.LiveRow.{LiveRow}
-use Rattle.index_targets.specs.Passes.{AreTargets, strays_of}
-use Rattle.row_probes.specs.declared.joined.LookUps.{LookUps}
+use Rattle.heap_rows.specs.RowCursor.{next_in}
+use Rattle.heap_rows.specs.declared.rows.LiveRow.{LiveRow}
+use Rattle.join_leaf_pass.specs.Passes.{AreTargets, strays_of}
+use Rattle.join_look_ups.specs.declared.joined.LookUps.{LookUps}
 use Rattle.heap_indexed.specs.declared.meeting.Meeting.{Meeting}
-use Rattle.row_probes.specs.Looking.{AreOf}
+use Rattle.join_look_ups.specs.Looking.{AreOf}
 use Rattle.heap_indexed.specs.Meetings.{IsKeptRow}
-use Rattle.row_probes.specs.Rows.{owed_for, rows_from}
+use Rattle.join_look_ups.specs.Rows.{owed_for, rows_from}
 use Rattle.heap_indexed.proofs.Cases.{no-strays}
 use Rattle.heap_indexed.proofs.KeptLaws.{kept-same, roots-named, rows-met}
 use Rattle.heap_indexed.proofs.MetLaws.{sound-of, tells-of}

@@ -1,8 +1,8 @@
 use Rattle.std.proofs.Common.{◌∙◌, ◌-◌, ap, sym, arith}
 use Rattle.std.proofs.lemmas.Result.{on_ok_weaker}
 use Rattle.reports.specs.Added.{joined, report_lists}
-use Rattle.heap_check.specs.RowCursor.{next_in}
-use Rattle.row_probes.specs.Rows.{rows_from}
+use Rattle.heap_rows.specs.RowCursor.{next_in}
+use Rattle.join_look_ups.specs.Rows.{rows_from}
 use Rattle.heap_indexed.proofs.KeptLaws.{rows-met}
 use Rattle.heap_indexed.proofs.meeting.Meeting.judge_rows.Goals as goal
 

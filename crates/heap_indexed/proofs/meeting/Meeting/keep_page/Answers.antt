@@ -2,10 +2,10 @@ use Rattle.std.proofs.Common.{◌∙◌, ℕ, List, length, ap, subst, sym}
 use Rattle.key_orders.specs.declared.columns.Value.{Value}
 use Rattle.bt_levels.specs.Sound.{index_columns}
 use Rattle.key_attrs.specs.Columns.{TreeColumns}
-use Rattle.heap_check.specs.declared.rows.LiveRow.{LiveRow}
-use Rattle.heap_check.specs.RowCursor.{asked_at, rows_here}
-use Rattle.heap_check.specs.PageRows.{ArePageRows, block_in}
-use Rattle.row_keys.specs.Rows.{columns_in}
+use Rattle.heap_rows.specs.declared.rows.LiveRow.{LiveRow}
+use Rattle.heap_rows.specs.RowCursor.{asked_at, rows_here}
+use Rattle.heap_rows.specs.PageRows.{ArePageRows, block_in}
+use Rattle.join_row_keys.specs.Rows.{columns_in}
 use Rattle.heap_indexed.proofs.KeptLaws.{kept-either, rooted-either}
 use Rattle.heap_indexed.proofs.meeting.Meeting.keep_page.Goals as goal
 

@@ -1,7 +1,7 @@
 use Rattle.std.proofs.Common.{◌≡◌, ◌≢◌, ◌∙◌, ◌∷◌, ◌++◌, [], Bool, true, ap, subst, sym}
 use Rattle.std.specs.Prelude.{All, None, cond}
 use Rattle.key_orders.specs.declared.Tid.{Tid}
-use Rattle.row_slots.specs.Slots.{keys_in}
+use Rattle.join_slots.specs.Slots.{keys_in}
 use Rattle.std.proofs.lemmas.Bool.{false≢true}
 use Rattle.bt_levels.specs.Sound.{index_columns}
 use Rattle.heap_indexed.specs.Meetings.{IsKeptRow, IsRootIn}

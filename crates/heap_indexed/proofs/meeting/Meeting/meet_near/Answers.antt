@@ -1,6 +1,6 @@
 use Rattle.bt_levels.specs.Sound.{block_count, held_block, index_columns}
-use Rattle.leaf_meets.specs.Meeting.{all_entries}
-use Rattle.leaf_meets.proofs.Some.{some-none}
+use Rattle.join_meet.specs.Meeting.{all_entries}
+use Rattle.join_meet.proofs.Some.{some-none}
 use Rattle.heap_indexed.proofs.meeting.Meeting.meet_near.Goals as goal
 
 pub returns-then-is_some-clause-met : goal.returns-then-is_some-clause-met

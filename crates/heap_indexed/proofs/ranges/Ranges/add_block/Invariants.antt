@@ -3,7 +3,7 @@ use Rattle.std.specs.Prelude.{slice_index_or}
 use Rattle.outside.specs.Outside.{Names}
 use Rattle.bt_levels.specs.declared.sound.SoundTree.{SoundTree}
 use Rattle.reports.specs.Lists.{Lists}
-use Rattle.heap_check.specs.declared.rows.LiveRow.{LiveRow}
+use Rattle.heap_rows.specs.declared.rows.LiveRow.{LiveRow}
 use Rattle.heap_indexed.specs.declared.meeting.Meeting.{Meeting}
 use Rattle.heap_indexed.specs.Meetings.{AreInWork, InWork}
 use Rattle.heap_indexed.proofs.ranges.Ranges.add_block.Given as goal

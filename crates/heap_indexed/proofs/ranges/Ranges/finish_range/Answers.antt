@@ -4,17 +4,17 @@ use Rattle.std.proofs.lemmas.List.{length-set}
 use Rattle.outside.proofs.Asking.{Passed-next, Passed-none}
 use Rattle.case_file.specs.Record.{CaseRecord}
 use Rattle.bt_levels.specs.declared.sound.SoundTree.{SoundTree}
-use Rattle.heap_files.specs.declared.files.SoundHeap.{SoundHeap}
+use Rattle.heap_table_check.specs.declared.files.SoundHeap.{SoundHeap}
 use Rattle.reports.specs.Added.{joined}
-use Rattle.heap_check.specs.RowCursor.{next_in, taken_in}
-use Rattle.heap_check.specs.declared.rows.LiveRow.{LiveRow}
-use Rattle.index_targets.specs.Passes.{strays_of}
+use Rattle.heap_rows.specs.RowCursor.{next_in, taken_in}
+use Rattle.heap_rows.specs.declared.rows.LiveRow.{LiveRow}
+use Rattle.join_leaf_pass.specs.Passes.{strays_of}
 use Rattle.heap_indexed.specs.declared.meeting.Meeting.{Meeting}
-use Rattle.row_keys.specs.Joined.{HoldTogether}
+use Rattle.join_row_keys.specs.Joined.{HoldTogether}
 use Rattle.heap_indexed.specs.Meetings.{HasRoots, InWork}
-use Rattle.row_probes.specs.Rows.{owed_for, rows_from}
+use Rattle.join_look_ups.specs.Rows.{owed_for, rows_from}
 use Rattle.heap_indexed.proofs.Each.{above-set, below-set, still-before}
-use Rattle.row_keys.proofs.Places.{same-then}
+use Rattle.join_row_keys.proofs.Places.{same-then}
 use Rattle.heap_indexed.proofs.Places.{index-at, same-table}
 use Rattle.heap_indexed.proofs.Taken.{at-most, for-one, for-some}
 use Rattle.heap_indexed.proofs.ranges.Ranges.finish_range.Goals as goal

@@ -5,12 +5,12 @@ use Rattle.outside.specs.Outside.{IfTold, Passed}
 use Rattle.bt_levels.specs.declared.sound.SoundTree.{SoundTree}
 use Rattle.reports.specs.Added.{joined}
 use Rattle.reports.specs.Lists.{Lists}
-use Rattle.heap_check.specs.RowCursor.{IsSameCursor, next_in, taken_in}
-use Rattle.index_targets.specs.Passes.{strays_of}
+use Rattle.heap_rows.specs.RowCursor.{IsSameCursor, next_in, taken_in}
+use Rattle.join_leaf_pass.specs.Passes.{strays_of}
 use Rattle.heap_indexed.specs.declared.meeting.Meeting.{Meeting}
-use Rattle.row_probes.specs.Judging.{IsBehind}
+use Rattle.join_look_ups.specs.Judging.{IsBehind}
 use Rattle.heap_indexed.specs.Meetings.{AreInWork, InWork}
-use Rattle.row_probes.specs.Rows.{owed_for, rows_from}
+use Rattle.join_look_ups.specs.Rows.{owed_for, rows_from}
 use Rattle.heap_indexed.proofs.ranges.Ranges.finish_range.Given as goal
 
 -- the range is finished for each index before this one, and for the others all is as it was

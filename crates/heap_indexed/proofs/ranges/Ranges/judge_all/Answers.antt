@@ -7,18 +7,18 @@ use Rattle.bt_levels.specs.declared.sound.SoundTree.{SoundTree}
 use Rattle.reports.specs.Added.{joined, nothing, report_lists}
 use Rattle.reports.specs.Lists.{Lists}
 use Rattle.rel_files.specs.Relation.{count_of}
-use Rattle.heap_files.specs.Files.{heap_in, targets_in}
-use Rattle.heap_check.specs.RowCursor.{next_in, taken_in}
-use Rattle.index_targets.specs.Passes.{strays_of}
+use Rattle.heap_table_check.specs.Files.{heap_in, targets_in}
+use Rattle.heap_rows.specs.RowCursor.{next_in, taken_in}
+use Rattle.join_leaf_pass.specs.Passes.{strays_of}
 use Rattle.heap_indexed.specs.declared.meeting.Meeting.{Meeting}
 use Rattle.heap_indexed.specs.Meetings.{AreInWork, EachFor, HasRoots, InWork, IsJudged}
-use Rattle.row_probes.specs.Rows.{owed_for, rows_from}
+use Rattle.join_look_ups.specs.Rows.{owed_for, rows_from}
 use Rattle.heap_indexed.proofs.Cases.{no-strays}
 use Rattle.heap_indexed.proofs.Each.{each-map}
-use Rattle.row_probes.proofs.Owed.{owed-upto}
-use Rattle.row_keys.proofs.Places.{same-then}
+use Rattle.join_look_ups.proofs.Owed.{owed-upto}
+use Rattle.join_row_keys.proofs.Places.{same-then}
 use Rattle.std.specs.Option.{option_copied}
-use Rattle.heap_check.specs.Rows.{rows_of}
+use Rattle.heap_rows.specs.Rows.{rows_of}
 use Rattle.heap_indexed.proofs.Places.{same-table}
 use Rattle.heap_indexed.proofs.RootLaws.{heap-roots}
 use Rattle.heap_indexed.proofs.Taken.{at-most, first-range, next-range, up-to}

@@ -2,12 +2,12 @@ use Rattle.std.proofs.Common.{◌≡◌, ◌+◌, ◌*◌, ◌≤◌, [], length
 use Rattle.std.specs.Prelude.{Some}
 use Rattle.outside.specs.Outside.{IfTold, Passed}
 use Rattle.rel_files.specs.Relation.{count_of}
-use Rattle.heap_files.specs.Files.{heap_in, targets_in}
-use Rattle.heap_check.specs.RowCursor.{IsSameCursor, next_in, taken_in}
-use Rattle.index_targets.specs.Passes.{strays_of}
-use Rattle.row_probes.specs.Judging.{IsBehind}
+use Rattle.heap_table_check.specs.Files.{heap_in, targets_in}
+use Rattle.heap_rows.specs.RowCursor.{IsSameCursor, next_in, taken_in}
+use Rattle.join_leaf_pass.specs.Passes.{strays_of}
+use Rattle.join_look_ups.specs.Judging.{IsBehind}
 use Rattle.heap_indexed.specs.Meetings.{AreInWork}
-use Rattle.row_probes.specs.Rows.{owed_for, rows_from}
+use Rattle.join_look_ups.specs.Rows.{owed_for, rows_from}
 use Rattle.heap_indexed.proofs.ranges.Ranges.judge_all.Given as goal
 
 -- the rows of the blocks before the cursor's next were judged, and so were the entries; each range has a block

@@ -2,16 +2,16 @@ use Rattle.std.proofs.Common.{◌≡◌, ◌∙◌, ◌+◌, ◌-◌, ◌*◌, �
 use Rattle.std.specs.Option.{option_copied}
 use Rattle.bt_levels.specs.declared.sound.SoundTree.{SoundTree}
 use Rattle.reports.specs.Added.{joined}
-use Rattle.heap_check.specs.RowCursor.{next_in, taken_in}
-use Rattle.index_targets.specs.Passes.{strays_of}
+use Rattle.heap_rows.specs.RowCursor.{next_in, taken_in}
+use Rattle.join_leaf_pass.specs.Passes.{strays_of}
 use Rattle.heap_indexed.specs.Meetings.{AreInWork}
-use Rattle.row_probes.specs.Rows.{owed_for, rows_from}
+use Rattle.join_look_ups.specs.Rows.{owed_for, rows_from}
 use Rattle.rel_files.specs.Relation.{count_of}
-use Rattle.heap_files.specs.Case.{heap_blocks}
-use Rattle.heap_files.specs.Files.{heap_in}
+use Rattle.heap_table_check.specs.Case.{heap_blocks}
+use Rattle.heap_table_check.specs.Files.{heap_in}
 use Rattle.heap_indexed.proofs.Places.{same-table}
 use Rattle.heap_indexed.proofs.Taken.{for-all}
-use Rattle.row_keys.proofs.Pages.{count-is}
+use Rattle.join_row_keys.proofs.Pages.{count-is}
 use Rattle.heap_indexed.proofs.RootLaws.{roots-part}
 use Rattle.heap_indexed.proofs.ranges.Ranges.judge_range.Goals as goal
 

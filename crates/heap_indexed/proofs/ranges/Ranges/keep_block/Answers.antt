@@ -1,12 +1,12 @@
 use Rattle.std.proofs.Common.{◌≡◌, ◌∙◌, ◌≤◌, ◌++◌, List, length, ap, sym, subst, arith}
 use Rattle.std.proofs.lemmas.Result.{on_ok_weaker}
 use Rattle.case_file.specs.Record.{CaseRecord}
-use Rattle.heap_check.specs.RowCursor.{case_at, next_in, rows_here}
-use Rattle.heap_check.specs.Rows.{block_rows}
-use Rattle.heap_check.specs.declared.rows.LiveRow.{LiveRow}
+use Rattle.heap_rows.specs.RowCursor.{case_at, next_in, rows_here}
+use Rattle.heap_rows.specs.Rows.{block_rows}
+use Rattle.heap_rows.specs.declared.rows.LiveRow.{LiveRow}
 use Rattle.heap_indexed.specs.Meetings.{AreInWork}
-use Rattle.row_keys.proofs.Pages.{block-few}
-use Rattle.row_probes.proofs.Taken.{once-more}
+use Rattle.join_row_keys.proofs.Pages.{block-few}
+use Rattle.join_look_ups.proofs.Taken.{once-more}
 use Rattle.heap_indexed.proofs.Places.{same-table}
 use Rattle.heap_indexed.proofs.ranges.Ranges.keep_block.Goals as goal
 

@@ -1,12 +1,12 @@
 use Rattle.std.proofs.Common.{◌≡◌, ◌∙◌, ◌+◌, ◌-◌, ◌++◌, ℕ, List, refl, ap, sym, subst, arith}
 use Rattle.outside.proofs.Asking.{Passed-next, Passed-none}
-use Rattle.heap_check.specs.RowCursor.{next_in}
-use Rattle.heap_check.specs.Rows.{block_rows}
-use Rattle.heap_check.specs.declared.rows.LiveRow.{LiveRow}
+use Rattle.heap_rows.specs.RowCursor.{next_in}
+use Rattle.heap_rows.specs.Rows.{block_rows}
+use Rattle.heap_rows.specs.declared.rows.LiveRow.{LiveRow}
 use Rattle.heap_indexed.specs.Meetings.{AreInWork}
-use Rattle.row_probes.specs.Rows.{rows_from}
-use Rattle.row_probes.proofs.Owed.{rows-next, rows-none}
-use Rattle.row_keys.proofs.Places.{same-then}
+use Rattle.join_look_ups.specs.Rows.{rows_from}
+use Rattle.join_look_ups.proofs.Owed.{rows-next, rows-none}
+use Rattle.join_row_keys.proofs.Places.{same-then}
 use Rattle.heap_indexed.proofs.Places.{same-table}
 use Rattle.heap_indexed.proofs.ranges.Ranges.keep_blocks.Goals as goal
 

@@ -2,10 +2,10 @@ use Rattle.std.proofs.Common.{◌≡◌, ◌+◌, ◌≤◌, [], length}
 use Rattle.outside.specs.Outside.{IfTold, Passed}
 use Rattle.bt_levels.specs.declared.sound.SoundTree.{SoundTree}
 use Rattle.reports.specs.Lists.{Lists}
-use Rattle.heap_check.specs.RowCursor.{IsSameCursor, next_in, taken_in}
-use Rattle.row_probes.specs.Judging.{IsBehind}
+use Rattle.heap_rows.specs.RowCursor.{IsSameCursor, next_in, taken_in}
+use Rattle.join_look_ups.specs.Judging.{IsBehind}
 use Rattle.heap_indexed.specs.Meetings.{AreInWork}
-use Rattle.row_probes.specs.Rows.{rows_from}
+use Rattle.join_look_ups.specs.Rows.{rows_from}
 use Rattle.heap_indexed.proofs.ranges.Ranges.keep_blocks.Given as goal
 
 -- the rows of so many blocks are kept

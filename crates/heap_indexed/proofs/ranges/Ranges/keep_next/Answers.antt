@@ -1,9 +1,9 @@
 use Rattle.std.proofs.Common.{◌≡◌, ◌∙◌, ◌∷◌, ◌++◌, [], List, append_assoc, drop, length, ap, sym, subst, arith}
 use Rattle.std.specs.Prelude.{Option}
-use Rattle.heap_check.specs.declared.row_cursor.RowPlace.{RowPlace}
-use Rattle.heap_check.specs.declared.rows.LiveRow.{LiveRow}
-use Rattle.heap_check.specs.RowCursor.{IsPlaceOfFirst, rows_here}
-use Rattle.row_probes.proofs.Owed.{found-row}
+use Rattle.heap_rows.specs.declared.row_cursor.RowPlace.{RowPlace}
+use Rattle.heap_rows.specs.declared.rows.LiveRow.{LiveRow}
+use Rattle.heap_rows.specs.RowCursor.{IsPlaceOfFirst, rows_here}
+use Rattle.join_look_ups.proofs.Owed.{found-row}
 use Rattle.heap_indexed.proofs.Places.{same-table}
 use Rattle.heap_indexed.proofs.ranges.Ranges.keep_next.Goals as goal
 

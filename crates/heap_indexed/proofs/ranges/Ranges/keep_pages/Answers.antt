@@ -1,7 +1,7 @@
 use Rattle.std.proofs.Common.{◌∙◌, ◌++◌, arith}
 use Rattle.std.proofs.lemmas.List.{length-set}
 use Rattle.bt_levels.specs.declared.sound.SoundTree.{SoundTree}
-use Rattle.heap_check.specs.RowCursor.{rows_here}
+use Rattle.heap_rows.specs.RowCursor.{rows_here}
 use Rattle.heap_indexed.specs.declared.meeting.Meeting.{Meeting}
 use Rattle.heap_indexed.specs.Meetings.{InWork, rows_kept}
 use Rattle.heap_indexed.proofs.Each.{above-set, below-all, below-set, still-before}

@@ -3,10 +3,10 @@ use Rattle.std.specs.Prelude.{slice_index_or}
 use Rattle.outside.specs.Outside.{Names}
 use Rattle.bt_levels.specs.declared.sound.SoundTree.{SoundTree}
 use Rattle.reports.specs.Lists.{Lists}
-use Rattle.heap_check.specs.declared.rows.LiveRow.{LiveRow}
+use Rattle.heap_rows.specs.declared.rows.LiveRow.{LiveRow}
 use Rattle.heap_indexed.specs.declared.meeting.Meeting.{Meeting}
 use Rattle.heap_indexed.specs.Meetings.{AreKeptOf, InWork, rows_kept}
-use Rattle.row_keys.specs.Rows.{IsFound}
+use Rattle.join_row_keys.specs.Rows.{IsFound}
 use Rattle.heap_indexed.proofs.ranges.Ranges.keep_row.Given as goal
 
 -- the row is kept for each index before this one, and for the others all is as it was

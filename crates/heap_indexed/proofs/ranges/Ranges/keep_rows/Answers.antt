@@ -4,13 +4,13 @@ use Rattle.outside.proofs.Asking.{Passed-next, Passed-none}
 use Rattle.outside.specs.Outside.{Names}
 use Rattle.bt_levels.specs.declared.sound.SoundTree.{SoundTree}
 use Rattle.reports.specs.Lists.{Lists}
-use Rattle.heap_check.specs.declared.rows.LiveRow.{LiveRow}
-use Rattle.heap_check.specs.RowCursor.{rows_here}
+use Rattle.heap_rows.specs.declared.rows.LiveRow.{LiveRow}
+use Rattle.heap_rows.specs.RowCursor.{rows_here}
 use Rattle.heap_indexed.specs.declared.meeting.Meeting.{Meeting}
 use Rattle.heap_indexed.specs.Meetings.{AreInWork, AreKeptOf, HaveKept, InWork, rows_kept}
 use Rattle.heap_indexed.proofs.Each.{each-map}
-use Rattle.row_probes.proofs.Owed.{none-left}
-use Rattle.row_keys.proofs.Places.{same-then}
+use Rattle.join_look_ups.proofs.Owed.{none-left}
+use Rattle.join_row_keys.proofs.Places.{same-then}
 use Rattle.heap_indexed.proofs.Places.{same-table}
 use Rattle.heap_indexed.proofs.ranges.Ranges.keep_rows.Goals as goal
 

@@ -2,8 +2,8 @@ use Rattle.std.proofs.Common.{◌≡◌, ◌+◌, ◌≤◌, ◌++◌, List, len
 use Rattle.outside.specs.Outside.{IfTold, Passed}
 use Rattle.bt_levels.specs.declared.sound.SoundTree.{SoundTree}
 use Rattle.reports.specs.Lists.{Lists}
-use Rattle.heap_check.specs.declared.rows.LiveRow.{LiveRow}
-use Rattle.heap_check.specs.RowCursor.{IsCursorOf, IsSameCursor, next_in, rows_here, taken_in}
+use Rattle.heap_rows.specs.declared.rows.LiveRow.{LiveRow}
+use Rattle.heap_rows.specs.RowCursor.{IsCursorOf, IsSameCursor, next_in, rows_here, taken_in}
 use Rattle.heap_indexed.specs.Meetings.{AreInWork, HaveKept}
 use Rattle.heap_indexed.proofs.ranges.Ranges.keep_rows.Given as goal
 

@@ -1,0 +1,15 @@
+use Rattle.std.proofs.Common.{◌≡◌}
+use Rattle.outside.specs.Outside.{IfTold, Passed}
+use Rattle.heap_rows.specs.RowCursor.{IsCursorOf, IsPageDone, IsSameCursor, rows_ahead}
+use Rattle.heap_rows.proofs.row_cursor.RowCursor.seek.Given as goal
+
+-- the blocks so far were read, and no row was left in them
+abbrev pub invariant-loop : goal.invariant-loop
+invariant-loop g l = record {
+  told : IfTold g.F.Files.seen l.initial.files (λ names. IsCursorOf names l.self);
+  left : IfTold g.F.Files.seen l.initial.files (λ names. rows_ahead names l.self ≡ rows_ahead names l.initial.self);
+  done : IfTold g.F.Files.seen l.initial.files (λ names. IsPageDone names l.self);
+  same : IsSameCursor l.initial.self l.self;
+  next : l.self.next ≡ l.counter;
+  asked : Passed g.F.Files.seen l.initial.files l.files;
+}

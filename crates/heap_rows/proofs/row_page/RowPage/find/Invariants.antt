@@ -1,0 +1,16 @@
+use Rattle.std.proofs.Common.{◌≡◌}
+use Rattle.std.specs.Option.{option_copied}
+use Rattle.outside.specs.Outside.{IfTold, Passed}
+use Rattle.case_file.specs.Record.{CaseRecord}
+use Rattle.heap_rows.specs.RowPages.{IsInHand, IsSamePage, rows_in_hand}
+use Rattle.heap_rows.specs.RowValues.{AreValuesOf}
+use Rattle.heap_rows.proofs.row_page.RowPage.find.Given as goal
+
+-- the items so far are done, and gave no row
+abbrev pub invariant-loop-k : goal.invariant-loop-k
+invariant-loop-k g l = record {
+  left : IfTold g.F.Files.seen l.initial.files (λ names. (case : CaseRecord) → IsInHand case names (option_copied l.from.toast) l.from.chunks.now l.initial.self → AreValuesOf case names l.from → rows_in_hand case names l.self ≡ rows_in_hand case names l.initial.self);
+  page : IsSamePage l.initial.self l.self;
+  done : l.self.done ≡ l.k;
+  asked : Passed g.F.Files.seen l.initial.files l.files;
+}

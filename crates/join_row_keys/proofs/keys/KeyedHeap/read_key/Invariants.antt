@@ -1,0 +1,16 @@
+use Rattle.std.proofs.Common.{◌≡◌, ◌∷◌, List, length}
+use Rattle.outside.specs.Outside.{Names}
+use Rattle.bt_levels.specs.Sound.{index_columns, specs_of}
+use Rattle.join_rules.specs.Rows.{key_numbers, values_at}
+use Rattle.heap_rows.specs.declared.rows.LiveRow.{LiveRow}
+use Rattle.heap_rows.specs.RowCursor.{IsCursorOf, rows_here}
+use Rattle.join_row_keys.proofs.KeyLaws.{FitSoFar, IsSoFar}
+use Rattle.join_row_keys.proofs.keys.KeyedHeap.read_key.Given as goal
+
+-- the values of the columns so far begin the key, and fit it
+abbrev pub invariant-loop-k : goal.invariant-loop-k
+invariant-loop-k l = record {
+  each : length l.key ≡ l.k;
+  values : (names : Names) (row : LiveRow) (rows : List LiveRow) → IsCursorOf names l.cursor → rows_here names l.cursor ≡ row ∷ rows → IsSoFar (values_at (key_numbers (index_columns l.self.at.tree.now)) row.cells) (key_numbers (index_columns l.self.at.tree.now)) row.cells l.k l.key;
+  fits : FitSoFar (specs_of l.self.at.tree.now) l.k l.key;
+}

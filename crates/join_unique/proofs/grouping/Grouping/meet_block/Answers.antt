@@ -1,0 +1,42 @@
+use Rattle.std.proofs.Common.{◌∙◌, ◌≡◌, ◌≤◌, ◌<◌, List, length, ap, sym, subst, arith}
+use Rattle.std.proofs.lemmas.Result.{on_ok_weaker}
+use Rattle.rel_files.specs.Relation.{count_of}
+use Rattle.heap_table_check.specs.Files.{heap_in}
+use Rattle.heap_rows.specs.RowCursor.{case_at, next_in, rows_here}
+use Rattle.heap_rows.specs.Rows.{block_rows}
+use Rattle.heap_rows.specs.declared.rows.LiveRow.{LiveRow}
+use Rattle.join_row_keys.proofs.Pages.{block-few}
+use Rattle.join_unique.proofs.Steps.{block-here, block-past}
+use Rattle.join_unique.proofs.grouping.Grouping.meet_block.Goals as goal
+
+pub returns-then-blocks-block-clause-met : goal.returns-then-blocks-block-clause-met
+returns-then-blocks-block-clause-met g c = λ names told.
+    let blocks = c.blocks-blocks.ensures ∙ ap count_of c.heap.ensures in
+    block-past names c.args.self c.args.group.now c.look.new.self c.look.ensures (omega (arith, blocks, c.block-block.ensures, c.if-blocks-block.true))
+
+pub take_block-requires-clause-told : goal.take_block-requires-clause-told
+take_block-requires-clause-told g c = λ names told. c.go_to.ensures.told names (c.requires.told names told)
+
+pub meet_rows-requires-clause-told : goal.meet_rows-requires-clause-told
+meet_rows-requires-clause-told g c = λ names told. c.take_block.ensures.told names (sym c.take_block.ensures.asked.same ∙ told)
+
+pub meet_rows-requires-clause-few : goal.meet_rows-requires-clause-few
+meet_rows-requires-clause-few g c = λ names told.
+    let before = sym c.take_block.ensures.asked.same ∙ told in
+    subst (λ (rs : List LiveRow). length rs ≤ 2042) (sym (c.in_ok-take_block.ensures.here names before))
+    (block-few (case_at c.go_to.new.self) names (next_in c.go_to.new.self))
+
+pub returns-clause-met : goal.returns-clause-met
+returns-clause-met g c =
+    let blocks = c.blocks-blocks.ensures ∙ ap count_of c.heap.ensures in
+    let inside : c.args.group.now.block < count_of (heap_in c.args.self.index.at.heap.now) = omega (arith, blocks, c.block-block.ensures, c.if-blocks-block.false) in
+    let at = c.go_to.ensures.next ∙ c.block-block.ensures in
+    let case = c.go_to.ensures.same.case ∙ c.requires.index.case in
+    on_ok_weaker c.meet_rows.result (λ met names told.
+    let rows : rows_here names c.take_block.new.self ≡ block_rows c.args.self.index.at.case.now names c.args.group.now.block =
+    c.in_ok-take_block.ensures.here names told ∙ (λ i. block_rows (case i) names (at i)) in
+    block-here names c.args.self c.args.group.now c.look.new.self c.meet_rows.new.group (rows_here names c.take_block.new.self) c.look.ensures inside rows (met names (c.take_block.ensures.asked.same ∙ told)))
+    c.meet_rows.ensures.met
+
+pub returns-clause-told : goal.returns-clause-told
+returns-clause-told g c = λ names told. c.meet_rows.ensures.told names (c.take_block.ensures.asked.same ∙ told)

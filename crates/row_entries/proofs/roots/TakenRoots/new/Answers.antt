@@ -1,6 +1,0 @@
-use Rattle.std.proofs.Common.{arith}
-use Rattle.row_entries.proofs.RootLaws.{fresh}
-use Rattle.row_entries.proofs.roots.TakenRoots.new.Goals as goal
-
-pub returns : goal.returns
-returns c = λ t. fresh 0 2048 t (omega arith)

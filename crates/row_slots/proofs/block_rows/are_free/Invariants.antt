@@ -1,5 +1,0 @@
-use Rattle.row_slots.specs.BlockRows.{AreFree}
-use Rattle.row_slots.proofs.block_rows.are_free.Given as goal
-
-abbrev pub invariant-loop-i : goal.invariant-loop-i
-invariant-loop-i l = AreFree l.records l.slot l.i
