@@ -10,7 +10,7 @@ use Rattle.key_orders.specs.declared.more.MoreSpec.{MoreSpec}
 use Rattle.key_orders.specs.declared.columns.ColType.{ColType}
 use Rattle.laws_search.specs.Keys.{compare_values}
 use Rattle.key_orders.specs.Keys.{columns_of, fits_columns}
-use Rattle.key_prefixes.specs.Prefixes.{IsPrefix}
+use Rattle.key_orders.specs.Prefixes.{IsPrefix}
 use Rattle.key_storage.specs.Stored.{IsStorable, key_read, stored_key}
 use Rattle.key_storage.specs.RowLists.{LiesAt}
 use Rattle.key_storage.proofs.RowLaws.{lies_last, lies_more, read_there}

@@ -8,7 +8,7 @@ use Rattle.key_orders.specs.declared.columns.Value.{Value}
 use Rattle.key_orders.specs.declared.more.MoreSpec.{MoreSpec}
 use Rattle.key_orders.specs.declared.Tid.{Tid}
 use Rattle.key_orders.specs.Keys.{columns_of, fits_columns}
-use Rattle.key_prefixes.specs.Prefixes.{IsPrefix}
+use Rattle.key_orders.specs.Prefixes.{IsPrefix}
 use Rattle.key_storage.specs.Stored.{key_read}
 use Rattle.key_storage.specs.RowLists.{LiesAt}
 use Rattle.page_write.specs.Bodies.{index_body}

@@ -19,22 +19,16 @@ use crate::levels::{Level, Levels, levels_over};
 use crate::order::sort_places;
 use crate::paging::{lay_above, lay_leaves};
 use crate::source::{Sorted, Source, large_tid};
-use bt_meta::Meta;
+use bt_meta::{BTREE_MAGIC, BTREE_VERSION, Meta};
 use key_orders::{Octets, key_orders_are_total, keys_are_searchable};
 use laws_built_index::index_trees_may_be_laid;
 use outside::NoMemory;
+use page_layout::PAGE_BYTES;
 use page_write::{meta_page, push_bytes};
 use std::alloc::Global;
 
 /// The most blocks that an index may have.
 pub const MAX_BLOCKS: u32 = 65536;
-
-// The words of a metapage (access/nbtree.h, BTREE_MAGIC and BTREE_VERSION).
-const BTREE_MAGIC: u32 = 0x0005_3162;
-
-const BTREE_VERSION: u32 = 4;
-
-const BLOCK_SIZE: usize = 8192;
 
 // Places lie at numbers of 32 bits, so that there are never more items.
 const MOST_ITEMS: usize = 0xFFFF_FFFF;
@@ -96,7 +90,7 @@ fn begin_file(alloc: Global, blocks: u32, levels: u32) -> Result<Vec<u8>, NoMemo
     ensures { IfOk result (λ bytes. bytes.items ≡ meta_page (meta_for blocks levels)) }
 {
     let mut bytes = Vec::new(alloc);
-    bytes.reserve(BLOCK_SIZE * blocks as usize)?;
+    bytes.reserve(PAGE_BYTES as usize * blocks as usize)?;
     push_bytes(&mut bytes, &metapage(blocks, levels))?;
     Ok(bytes)
 }

@@ -18,14 +18,9 @@ use crate::laying::{Buffers, put_item};
 use crate::levels::Level;
 use crate::separators::put_separator;
 use crate::source::Sorted;
-use bt_meta::Opaque;
+use bt_meta::{BTP_LEAF, BTP_ROOT, Opaque};
 use outside::NoMemory;
 use page_write::{PageWriter, push_bytes};
-
-// Flags of a tree page (access/nbtree.h).
-const BTP_LEAF: u16 = 1;
-
-const BTP_ROOT: u16 = 2;
 
 // A page with its high key, the separator before an entry, if it has one.
 fn begin_page<'a>(

@@ -21,7 +21,7 @@ use Rattle.bt_level_check.specs.declared.downlinks.Downlinks.{Downlinks}
 use Rattle.bt_level_check.specs.declared.judge.Judged.{Judged}
 use Rattle.bt_level_check.specs.declared.levels.Levels.{Levels}
 use Rattle.bt_level_check.specs.Counts.{half_dead_among}
-use Rattle.bt_level_pages.specs.Pages.{TreeDownlink}
+use Rattle.bt_level_step.specs.Pages.{TreeDownlink}
 use Rattle.bt_level_check.specs.Downlinks.{cursor_of}
 use Rattle.bt_level_check.specs.Reading.{IsOfLevel, IsReading}
 use Rattle.bt_level_check.specs.Sets.{is_in}

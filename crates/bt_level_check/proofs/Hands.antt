@@ -18,12 +18,12 @@ use Rattle.bt_pages.specs.Trees.{Tree}
 use Rattle.bt_level_check.specs.declared.downlinks.Downlinks.{Downlinks}
 use Rattle.bt_level_check.specs.declared.downlinks.Hand.{Hand}
 use Rattle.bt_level_check.specs.declared.downlinks.Hand.TheVariants.{Nothing, Root, Item}
-use Rattle.bt_level_pages.specs.Bounds.{Bound}
-use Rattle.bt_level_pages.specs.Pages.{TreeDownlink, downlinks_from}
+use Rattle.bt_level_step.specs.Bounds.{Bound}
+use Rattle.bt_level_step.specs.Pages.{TreeDownlink, downlinks_from}
 use Rattle.bt_level_check.specs.Downlinks.{HasAdvanced, IsInner, IsSoundHand, Reads, cursor_of, hand_after, hand_bound, hand_downlinks, in_hand, is_held, is_settled, settled_by}
 use Rattle.bt_level_check.specs.Reading.{IsOfLevel, IsReading}
 use Rattle.bt_level_check.specs.Trees.{KeepsPages, image_of}
-use Rattle.bt_level_pages.proofs.Pages.{Next, hand_end, hand_next}
+use Rattle.bt_level_step.proofs.Pages.{Next, hand_end, hand_next}
 use Rattle.bt_level_check.proofs.Reading.{advances, empty_at, fewer, none_ahead, nothing_left, turns}
 
 pub not_held : (hand : Hand) → is_held hand ≡ false → hand ≡ Nothing

@@ -28,7 +28,7 @@ use Rattle.bt_pages.specs.Trees.{Tree}
 use Rattle.bt_level_check.specs.declared.levels.Levels.{Levels}
 use Rattle.bt_level_check.specs.Budget.{pages_below}
 use Rattle.bt_level_check.specs.Counts.{half_dead_among}
-use Rattle.bt_level_pages.specs.Pages.{TreeDownlink}
+use Rattle.bt_level_step.specs.Pages.{TreeDownlink}
 use Rattle.bt_level_check.specs.Downlinks.{in_hand, is_held}
 use Rattle.bt_level_check.specs.Reading.{IsOfLevel, IsReading}
 use Rattle.bt_level_check.specs.Sets.{is_in}

@@ -18,9 +18,9 @@ use Rattle.bt_image.specs.Pages.{breaks_half_dead}
 use Rattle.bt_image.proofs.PageFields.{half_dead_leaf}
 use Rattle.bt_pages.specs.Trees.{Tree}
 use Rattle.bt_level_check.specs.declared.levels.Levels.{Levels}
-use Rattle.bt_level_pages.specs.Pages.{TreeDownlink}
+use Rattle.bt_level_step.specs.Pages.{TreeDownlink}
 use Rattle.bt_level_check.specs.Downlinks.{IsSoundHand, in_hand}
-use Rattle.bt_level_pages.specs.Pages.{HasPlainItems, is_low_page}
+use Rattle.bt_level_step.specs.Pages.{HasPlainItems, is_low_page}
 use Rattle.bt_level_check.specs.Reading.{IsOfLevel}
 use Rattle.bt_level_check.specs.Sets.{is_in}
 use Rattle.bt_level_check.specs.Trees.{KeepsPages, image_of, order_in, same_in}

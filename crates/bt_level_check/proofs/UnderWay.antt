@@ -7,7 +7,7 @@ use Rattle.bt_pages.specs.Trees.{Tree}
 use Rattle.bt_level_check.specs.declared.course.Course.{Course}
 use Rattle.bt_level_check.specs.declared.course.InHand.{InHand}
 use Rattle.bt_level_check.specs.declared.levels.Levels.{Levels}
-use Rattle.bt_level_pages.specs.Pages.{TreeDownlink}
+use Rattle.bt_level_step.specs.Pages.{TreeDownlink}
 use Rattle.bt_level_check.specs.UnderWay.{HasPassedAll, IsOnLevel, IsPast, IsSameCourse, IsUnderWay, pages_from}
 use Rattle.bt_level_check.specs.Trees.{image_of}
 use Rattle.bt_level_check.specs.Walked.{HasWalked, IsFirstPage, lefts_of}

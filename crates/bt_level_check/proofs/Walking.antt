@@ -23,7 +23,7 @@ use Rattle.bt_pages.specs.Trees.{Tree}
 use Rattle.bt_level_check.specs.declared.levels.Levels.{Levels}
 use Rattle.bt_level_check.specs.Budget.{pages_below}
 use Rattle.bt_level_check.specs.Counts.{half_dead_among, one_if}
-use Rattle.bt_level_pages.specs.Pages.{TreeDownlink}
+use Rattle.bt_level_step.specs.Pages.{TreeDownlink}
 use Rattle.bt_level_check.specs.Downlinks.{IsSettled, Reads, cursor_of}
 use Rattle.bt_level_check.specs.Reading.{IsOfLevel}
 use Rattle.bt_level_check.specs.Sets.{is_in}

@@ -17,8 +17,8 @@ use Rattle.bt_pages.specs.Trees.{Tree}
 use Rattle.bt_level_check.specs.declared.downlinks.Downlinks.{Downlinks}
 use Rattle.bt_level_check.specs.declared.downlinks.Hand.{Hand}
 use Rattle.bt_level_check.specs.declared.downlinks.Hand.TheVariants.{Nothing, Root, Item}
-use Rattle.bt_level_pages.specs.Bounds.{Bound, IsBound}
-use Rattle.bt_level_pages.specs.Pages.{HasPlainItems, TreeDownlink, downlinks_from}
+use Rattle.bt_level_step.specs.Bounds.{Bound, IsBound}
+use Rattle.bt_level_step.specs.Pages.{HasPlainItems, TreeDownlink, downlinks_from}
 use Rattle.bt_level_check.specs.Reading.{IsReading}
 use Rattle.bt_level_check.specs.Trees.{image_of}
 

@@ -25,7 +25,7 @@ use Rattle.bt_level_check.specs.declared.levels.Levels.{Levels}
 use Rattle.bt_meta.specs.Pages.{meta_of}
 use Rattle.bt_level_check.specs.Budget.{pages_below}
 use Rattle.bt_level_check.specs.Counts.{half_dead_among}
-use Rattle.bt_level_pages.specs.Pages.{TreeDownlink}
+use Rattle.bt_level_step.specs.Pages.{TreeDownlink}
 use Rattle.bt_level_check.specs.Reading.{IsOfLevel}
 use Rattle.bt_level_check.specs.Sets.{is_in}
 use Rattle.bt_level_check.specs.Trees.{image_of, order_in, same_in}

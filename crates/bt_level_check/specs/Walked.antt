@@ -24,10 +24,10 @@ use Rattle.bt_pages.specs.declared.tree.TreeRules.{TreeRules}
 use Rattle.bt_level_check.specs.declared.downlinks.Downlinks.{Downlinks}
 use Rattle.bt_level_check.specs.declared.judge.Judged.{Judged}
 use Rattle.bt_level_check.specs.declared.levels.Levels.{Levels}
-use Rattle.bt_level_pages.specs.Bounds.{Bound, IsBound}
+use Rattle.bt_level_step.specs.Bounds.{Bound, IsBound}
 use Rattle.bt_level_check.specs.Budget.{pages_below}
 use Rattle.bt_level_check.specs.Counts.{half_dead_among, half_dead_in, one_if, right_halves_in}
-use Rattle.bt_level_pages.specs.Pages.{TreeDownlink}
+use Rattle.bt_level_step.specs.Pages.{TreeDownlink}
 use Rattle.bt_level_check.specs.Downlinks.{AreReadableDownlinks, IsSettled, Reads}
 use Rattle.bt_level_check.specs.Reading.{IsOfLevel}
 use Rattle.bt_level_check.specs.Sets.{is_in}

@@ -11,7 +11,7 @@ ghost use Rattle.bt_pages.specs.Trees.{tree_seen};
 ghost use Rattle.bt_level_check.specs.Budget.{TakesReads};
 ghost use Rattle.bt_level_check.specs.Sets.{is_in};
 ghost use Rattle.bt_level_check.specs.Trees.{HoldsPages, image_of};
-ghost use Rattle.bt_level_pages.specs.Pages.{TreeDownlink};
+ghost use Rattle.bt_level_step.specs.Pages.{TreeDownlink};
 ghost use Rattle.bt_level_check.specs.Downlinks.{turns_of};
 ghost use Rattle.bt_level_check.specs.Reading.{IsReading};
 ghost use Rattle.bt_level_check.specs.Walked.{ChangesDownlinks, HasEnough, IsReady, IsUnwalked, StandsBefore};

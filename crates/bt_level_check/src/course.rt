@@ -6,7 +6,7 @@ ghost use Rattle.outside.specs.Outside.{Asked, IfTold, Tells};
 ghost use Rattle.rel_files.specs.Relation.{IsAttached};
 ghost use Rattle.bt_pages.specs.Trees.{tree_seen};
 ghost use Rattle.bt_level_check.specs.Budget.{TakesReads};
-ghost use Rattle.bt_level_pages.specs.Pages.{TreeDownlink};
+ghost use Rattle.bt_level_step.specs.Pages.{TreeDownlink};
 ghost use Rattle.bt_level_check.specs.Trees.{HoldsPages};
 ghost use Rattle.bt_level_check.specs.UnderWay.{IsHeld, IsPast, IsSameCourse, IsUnderWay};
 ghost use Rattle.bt_level_check.specs.Walked.{IsReady, IsSameIndex, budget_of, steps_of, tree_of, walks_of};
@@ -16,7 +16,7 @@ use bt_level_step::LevelWalk;
 use bt_meta::opaque;
 use outside::Files;
 use page_layout::PageView;
-use reports::PageFault;
+use rel_files::PageFault;
 use std::alloc::Global;
 
 /// Where a walk along a level stands.

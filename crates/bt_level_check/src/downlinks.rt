@@ -18,10 +18,10 @@ ghost use Rattle.bt_meta.specs.Pages.{opaque_of};
 ghost use Rattle.bt_image.specs.Image.{downlink_in, first_data, item_at};
 ghost use Rattle.bt_image.specs.Pages.{IsPlainItem};
 ghost use Rattle.bt_pages.specs.Trees.{tree_seen};
-ghost use Rattle.bt_level_pages.specs.Bounds.{IsBound};
+ghost use Rattle.bt_level_step.specs.Bounds.{IsBound};
 ghost use Rattle.bt_level_check.specs.Budget.{TakesReads};
 ghost use Rattle.bt_level_check.specs.Downlinks.{AreReadableDownlinks, HasAdvanced, IsSafeHand, IsSettled, IsSoundHand};
-ghost use Rattle.bt_level_pages.specs.Pages.{TreeDownlink};
+ghost use Rattle.bt_level_step.specs.Pages.{TreeDownlink};
 ghost use Rattle.bt_level_check.specs.Downlinks.{Reads, bound_of, cursor_of, hand_after, hand_of, in_hand};
 ghost use Rattle.bt_level_check.specs.Downlinks.{is_held};
 ghost use Rattle.bt_level_check.specs.Downlinks.{is_settled, next_of, page_of, turns_of};
@@ -30,14 +30,13 @@ ghost use Rattle.bt_level_check.specs.Trees.{HoldsPages};
 
 use crate::block_set::BlockSet;
 use bt_image::first_data;
-use bt_level_pages::{high_key_of, is_bound_of_item, is_same_bound};
+use bt_level_step::{high_key_of, is_bound_of_item, is_same_bound};
 use bt_meta::{HeadKind, opaque, tree_head};
 use bt_pages::TreeRules;
 use key_orders::Separator;
 use outside::{Files, NoMemory};
 use page_layout::{PageKind, PageView};
-use rel_files::ReadFault;
-use reports::PageFault;
+use rel_files::{PageFault, ReadFault};
 use std::alloc::Global;
 
 // What is in hand of the downlinks to a level.

@@ -6,7 +6,7 @@ ghost use Rattle.rel_files.specs.Relation.{IsAttached};
 ghost use Rattle.laws_search.specs.Levels.{entry_page};
 ghost use Rattle.bt_pages.specs.Trees.{Tree, tree_seen};
 ghost use Rattle.bt_level_check.specs.Budget.{TakesReads};
-ghost use Rattle.bt_level_pages.specs.Pages.{TreeDownlink};
+ghost use Rattle.bt_level_step.specs.Pages.{TreeDownlink};
 ghost use Rattle.bt_level_check.specs.Reading.{IsOfLevel};
 ghost use Rattle.bt_level_check.specs.Trees.{HoldsPages, KeepsPages, image_of};
 ghost use Rattle.bt_level_check.specs.UnderWay.{HasPassedAll, IsEntered};
@@ -20,8 +20,7 @@ use bt_image::kept_rules_make_a_sound_image;
 use bt_level_step::LevelWalk;
 use outside::Files;
 use page_layout::Rule;
-use rel_files::ReadFault;
-use reports::PageFault;
+use rel_files::{PageFault, ReadFault};
 use std::alloc::Global;
 
 /// What was found on a level, and the first page of its chain.

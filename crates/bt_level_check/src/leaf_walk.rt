@@ -23,7 +23,7 @@ use bt_meta::Meta;
 use bt_pages::TreeRules;
 use outside::Files;
 use page_layout::Rule;
-use reports::PageFault;
+use rel_files::PageFault;
 use std::alloc::Global;
 
 /// How far the levels of an index are judged.

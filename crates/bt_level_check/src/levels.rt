@@ -17,9 +17,9 @@ ghost use Rattle.bt_meta.specs.Pages.{opaque_of};
 ghost use Rattle.bt_image.specs.Image.{page_image};
 ghost use Rattle.bt_pages.specs.Trees.{tree_seen};
 ghost use Rattle.bt_level_check.specs.Budget.{TakesReads};
-ghost use Rattle.bt_level_pages.specs.Pages.{TreeDownlink};
+ghost use Rattle.bt_level_step.specs.Pages.{TreeDownlink};
 ghost use Rattle.bt_level_check.specs.Downlinks.{IsSoundHand, hand_of, in_hand, page_of};
-ghost use Rattle.bt_level_pages.specs.Pages.{HasPlainItems, is_low_page};
+ghost use Rattle.bt_level_step.specs.Pages.{HasPlainItems, is_low_page};
 ghost use Rattle.bt_level_check.specs.Reading.{IsOfLevel};
 ghost use Rattle.bt_level_check.specs.Trees.{HoldsPages, image_of, order_in, same_in};
 ghost use Rattle.bt_level_check.specs.UnderWay.{IsHeld};
@@ -31,14 +31,12 @@ ghost use Rattle.bt_level_check.specs.Walked.{lower_of, page_in, tree_of, upper_
 use crate::block_set::BlockSet;
 use crate::course::InHand;
 use crate::downlinks::Downlinks;
-use bt_level_pages::{high_key_of, is_low_page, marks_of};
-use bt_level_step::{LevelWalk, PageRole, PageSeen};
+use bt_level_step::{LevelWalk, PageRole, PageSeen, high_key_of, is_low_page, marks_of};
 use bt_pages::TreeRules;
 use key_orders::Separator;
 use outside::{Files, NoMemory};
 use page_layout::{PageKind, PageView};
-use rel_files::ReadFault;
-use reports::PageFault;
+use rel_files::{PageFault, ReadFault};
 use std::alloc::Global;
 
 /// What is kept while the levels of an index are walked from the top down: two pages, a lower bound for

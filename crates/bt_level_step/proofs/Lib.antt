@@ -1,1 +1,4 @@
 pub mod Carried
+pub mod Keys
+pub mod Items
+pub mod Pages

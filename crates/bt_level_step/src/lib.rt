@@ -1,14 +1,17 @@
-//! What a walk along one level of a B-tree carries from page to page, and which of the rules L3 to L8
-//! it finds there.
+//! A step of a walk along one level of a B-tree: what the walk carries from page to page and which of the rules L3 to
+//! L8 it finds (`level`, `roles`), and what it asks of one page (`bounds`, `marks`).
 //!
-//! No page is read here and no key is compared. A caller says of each page what it has seen
-//! (`PageSeen`), from the first page of the level's chain to its last, and asks for the verdict at
-//! the end. What it carries besides are the lower bound and the downlinks that weren't met yet.
+//! The step reads no page and compares no key. A caller says of each page what it has seen (`PageSeen`), from the first
+//! page of the level's chain to its last, and asks for the verdict at the end. What the caller carries besides are the
+//! lower bound and the downlinks that weren't met yet. How a page's keys stand to its lower bound, what is kept as the
+//! bound of the next page, and the marks that tell a page's role are read from the page.
 //!
-//! Source: the README of PostgreSQL's `access/nbtree`.
+//! Sources: PostgreSQL's `access/nbtree.h` and the README of its `access/nbtree`.
 #![tactic(auto)]
 
+mod bounds;
 mod level;
+mod marks;
 mod roles;
 
 ghost use Rattle.std.specs.Prelude.{◌≡◌, ℕ, Bool, List};
@@ -23,7 +26,9 @@ ghost use Rattle.bt_level_step.specs.Level.{after_page, at_start, is_after_split
 ghost use Rattle.bt_level_step.specs.Roles.{marked_role};
 ghost use Rattle.bt_level_step.specs.Shows.{Carries, Sees, ShowsMarks};
 
+pub use bounds::{high_key_of, is_bound_of_item, is_low_page, is_same_bound};
 pub use level::{LevelWalk, PageSeen};
+pub use marks::marks_of;
 pub use roles::{PageMarks, PageRole};
 
 /// The walk is that of `laws_levels` along a level of an index, over whatever separators (S) and

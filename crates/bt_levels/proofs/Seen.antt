@@ -4,7 +4,7 @@ use Rattle.outside.specs.Outside.{Names}
 use Rattle.rel_files.specs.Blocks.{block_of}
 use Rattle.rel_files.specs.Relation.{IsRelationOf, long_of}
 use Rattle.case_file.specs.Record.{CaseRecord}
-use Rattle.attach_files.specs.Refusals.{IsNamed, index_limit}
+use Rattle.rel_files.specs.Refusals.{IsNamed, index_limit}
 use Rattle.bt_pages.specs.Trees.{tree_seen}
 use Rattle.bt_pages.specs.declared.tree.TreeRules.{TreeRules}
 use Rattle.bt_levels.specs.Index.{index_of, tree_lists, tree_of}

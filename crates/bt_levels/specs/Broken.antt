@@ -11,7 +11,7 @@ use Rattle.laws_levels.specs.Rules.{BreaksLevelRule, KeepsLevelRules}
 use Rattle.bt_meta.specs.Pages.{has_bad_root, is_no_metapage, meta_of}
 use Rattle.rel_files.specs.Blocks.{long_segment_of}
 use Rattle.case_file.specs.Record.{CaseRecord}
-use Rattle.attach_files.specs.Refusals.{index_limit}
+use Rattle.rel_files.specs.Refusals.{index_limit}
 use Rattle.reports.specs.Lists.{Lists}
 use Rattle.reports.specs.declared.places.Finding.{Finding}
 use Rattle.reports.specs.declared.places.Place.{Place}

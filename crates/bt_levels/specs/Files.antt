@@ -4,9 +4,9 @@ use Rattle.outside.specs.Outside.{Names}
 use Rattle.rel_files.specs.Relation.{IsRelationOf}
 use Rattle.rel_files.specs.declared.relation.Relation.{Relation}
 use Rattle.case_file.specs.Record.{CaseRecord}
-use Rattle.attach_files.specs.Refusals.{IsNamed, file_refusal, index_limit}
-use Rattle.reports.specs.declared.fault.CheckFault.{CheckFault}
-use Rattle.reports.specs.declared.fault.Which.TheVariants.{Index}
+use Rattle.rel_files.specs.Refusals.{IsNamed, file_refusal, index_limit}
+use Rattle.rel_files.specs.declared.check_fault.CheckFault.{CheckFault}
+use Rattle.rel_files.specs.declared.check_fault.Which.TheVariants.{Index}
 use Rattle.bt_levels.specs.declared.files.TreeFile.{TreeFile}
 use Rattle.bt_levels.specs.Index.{index_of}
 

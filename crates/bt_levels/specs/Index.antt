@@ -5,7 +5,7 @@ use Rattle.rel_files.specs.Blocks.{block_of, blocks_of, long_segment_of}
 use Rattle.case_file.specs.declared.case.Unique.TheVariants.{No}
 use Rattle.case_file.specs.Record.{CaseRecord, IndexRecord}
 use Rattle.key_attrs.specs.Columns.{TreeColumns}
-use Rattle.attach_files.specs.Refusals.{index_limit}
+use Rattle.rel_files.specs.Refusals.{index_limit}
 use Rattle.reports.specs.Lists.{Lists}
 use Rattle.bt_pages.specs.Trees.{Tree}
 use Rattle.bt_levels.specs.Lists.{index_lists}

@@ -1,5 +1,5 @@
 //! Judges an index of a case.
-ghost use Rattle.std.specs.Prelude.{◌≡◌, ◌≤◌, ◌↔◌, ◌⊎◌, ◌*◌, IfErr, IfOk, IfSome, IsSome, length};
+ghost use Rattle.std.specs.Prelude.{◌≡◌, ◌≤◌, ◌↔◌, ◌*◌, IfOk, IfSome, IsSome, length};
 ghost use Rattle.outside.specs.Adds.{AddsIn};
 ghost use Rattle.outside.specs.Outside.{AskedAtMost, IfTold, Tells};
 ghost use Rattle.rel_files.specs.Relation.{count_of};
@@ -21,7 +21,8 @@ use case_file::Case;
 use key_attrs::IndexColumns;
 use key_orders::{KeySpec, MoreSpec, key_orders_are_total};
 use outside::{Files, NoMemory};
-use reports::{CheckFault, PageFault, Report};
+use rel_files::PageFault;
+use reports::Report;
 use std::alloc::Global;
 
 // The columns of index `n` of a case.
@@ -96,7 +97,7 @@ fn included_of(alloc: Global, more: &[MoreSpec]) -> Result<Vec<MoreSpec>, NoMemo
 /// rules on levels that is broken (L1 to L9).
 ///
 /// The answer is `None` exactly where something was added. `ReadFault` comes only where the count of the
-/// files' faults rose, and `NoFile` and `TooLarge` never. After an error the report has a first part of
+/// files' faults rose. After an error the report has a first part of
 /// what it would have got. Whatever the files hold, there are at most 4096 reads for each block of the index.
 pub fn check_tree<F: Files>(
     alloc: Global,
@@ -104,7 +105,7 @@ pub fn check_tree<F: Files>(
     case: &Case,
     at: TreeFile,
     report: &mut Report,
-) -> Result<Option<SoundTree>, CheckFault>
+) -> Result<Option<SoundTree>, PageFault>
     requires told { IfTold F.seen files.old (λ names. IsFileOf case.now names at) }
     requires belong { BelongsTo case.now at }
     ensures lists { IfTold F.seen files.old (λ names. AddsIn report_lists result report.old report.new
@@ -116,9 +117,8 @@ pub fn check_tree<F: Files>(
         IsFileOf case.now names (file_of sound)))) }
     ensures holds { IfOk result (λ answer. IfSome answer (λ sound. IfTold F.seen files.old (λ names.
         HoldsTree names sound))) }
-    ensures only { IfErr result (λ e. e ≡ CheckFault.ReadFault ⊎ e ≡ CheckFault.NoMemory) }
     ensures asked { AskedAtMost (4096 * count_of (relation_of at)) F.seen files.old files.new result
-        CheckFault.ReadFault }
+        PageFault.ReadFault }
 {
     indexes_are_judged();
     key_orders_are_total();

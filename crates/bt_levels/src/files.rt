@@ -1,13 +1,11 @@
 //! The file of an index.
 ghost use Rattle.std.specs.Prelude.{◌≡◌, ◌≤◌, IfOk, length};
 ghost use Rattle.outside.specs.Outside.{Asked, IfTold, Tells};
-ghost use Rattle.attach_files.specs.Refusals.{TellsRefusal};
+ghost use Rattle.rel_files.specs.Refusals.{TellsRefusal};
 
-use attach_files::attach_file;
 use case_file::Case;
 use outside::Files;
-use rel_files::Relation;
-use reports::{CheckFault, Which};
+use rel_files::{CheckFault, Relation, Which, attach_file};
 use std::alloc::Global;
 
 /// The file of an index of a case, whose name and length are known. It stores none of its bytes: it is
@@ -24,7 +22,7 @@ impl TreeFile {
     /// Attaches the file of an index, which counts from 1 in the order of the case.
     ///
     /// `NoFile` comes exactly where its first segment isn't there, `TooLarge` exactly where it has more
-    /// than 16384 blocks, with the count at the first segment where it does, and `ReadFault` only where
+    /// than 1048576 blocks, with the count at the first segment where it does, and `ReadFault` only where
     /// the count of the files' faults rose.
     pub fn attach<F: Files>(
         alloc: Global,

@@ -22,7 +22,8 @@ use bt_level_check::{LeafWalk, TreeShape};
 use bt_pages::{SeenTree, TreeRules, add_found};
 use outside::{Files, NoMemory};
 use page_layout::{PageView, Rule};
-use reports::{PageFault, Place, Rel, Report};
+use rel_files::PageFault;
+use reports::{Place, Rel, Report};
 use std::alloc::Global;
 
 // Adds the finding of a segment that is too long.

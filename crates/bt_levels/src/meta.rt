@@ -3,12 +3,9 @@ ghost use Rattle.std.specs.Prelude.{◌≡◌, ◌<◌};
 ghost use Rattle.page_layout.specs.View.{page_bytes};
 ghost use Rattle.bt_levels.specs.Lists.{first_doubt, first_rule};
 
-use bt_meta::{meta, meta_rule};
+use bt_meta::{BTREE_VERSION, meta, meta_rule};
 use page_layout::{PageKind, PageView, Rule};
 use reports::Reason;
-
-// Of `access/nbtree.h` (BTREE_VERSION): the version whose pages are judged.
-const BTREE_VERSION: u32 = 4;
 
 /// The first of P1 to P4, M1 and M2 that block 0 of an index of so many blocks breaks.
 #[tactic(auto, unfolding(crate::specs::Lists::first_rule))]

@@ -14,8 +14,8 @@ use bt_level_check::InHand;
 use bt_pages::{SeenTree, judge_page};
 use outside::Files;
 use page_layout::PageView;
-use rel_files::ReadFault;
-use reports::{PageFault, Report};
+use rel_files::{PageFault, ReadFault};
+use reports::Report;
 
 // Reads a block, and keeps what it shows.
 fn read_block<F: Files>(

@@ -1,10 +1,5 @@
-//! The bits and places of a B-tree's pages and tuples, named as in the server's headers.
-
-// Where a page's fields stand, in bytes from its start (storage/bufpage.h): the end of its line
-// pointers, and the first of them.
-pub(crate) const PD_LOWER: usize = 12;
-
-pub(crate) const SIZE_OF_PAGE_HEADER: u16 = 24;
+//! The bits and places of a B-tree's pages and tuples, named as in the server's headers. What other crates read or write
+//! is public.
 
 // Where the fields of a page's special space stand (access/nbtree.h, BTPageOpaqueData).
 pub(crate) const BTPO_PREV: usize = 8176;
@@ -17,9 +12,16 @@ pub(crate) const BTPO_FLAGS: usize = 8188;
 
 pub(crate) const BTPO_CYCLEID: usize = 8190;
 
-// Bits of its flags.
-pub(crate) const BTP_LEAF: u16 = 0x0001;
+/// Where the special space of a tree page begins, in bytes from the page's start; it goes to the page's end.
+pub const TREE_SPECIAL: u16 = 8176;
 
+/// A flag of a page: it is a leaf (access/nbtree.h).
+pub const BTP_LEAF: u16 = 0x0001;
+
+/// A flag of a page: it is the root (access/nbtree.h).
+pub const BTP_ROOT: u16 = 0x0002;
+
+// Further flags of a page.
 pub(crate) const BTP_DELETED: u16 = 0x0004;
 
 pub(crate) const BTP_META: u16 = 0x0008;
@@ -41,13 +43,14 @@ pub(crate) const BTM_FASTROOT: usize = 40;
 
 pub(crate) const BTM_FASTLEVEL: usize = 44;
 
-// The magic number of a B-tree, and the oldest and the newest version of its format. Pages of the
-// newest alone are judged.
-pub(crate) const BTREE_MAGIC: u32 = 0x0005_3162;
+/// The magic number of a B-tree (access/nbtree.h).
+pub const BTREE_MAGIC: u32 = 0x0005_3162;
 
+// The oldest version of its format.
 pub(crate) const BTREE_MIN_VERSION: u32 = 2;
 
-pub(crate) const BTREE_VERSION: u32 = 4;
+/// The newest version of its format, whose pages alone are judged (access/nbtree.h).
+pub const BTREE_VERSION: u32 = 4;
 
 // Where the fields of an index tuple's head stand, in bytes from the tuple's start (access/itup.h,
 // IndexTupleData): the block and the item of its TID, and its info word.
@@ -57,8 +60,26 @@ pub(crate) const TID_ITEM: usize = 4;
 
 pub(crate) const T_INFO: usize = 6;
 
-// A bit of the info word: the TID is none, and its item number has flags (access/nbtree.h).
-pub(crate) const INDEX_ALT_TID_MASK: u16 = 0x2000;
+/// How many bytes a TID has (access/itemptr.h, ItemPointerData).
+pub const TID_LEN: usize = 6;
 
-// A bit of such an item number: the tuple has a list of TIDs.
-pub(crate) const BT_IS_POSTING: u16 = 0x2000;
+/// The size of an index tuple is in the bits of its info word below this one (access/itup.h, INDEX_SIZE_MASK).
+pub const INDEX_SIZE_LIMIT: u16 = 0x2000;
+
+/// A bit of the info word: the TID is none, and its item number has flags (access/nbtree.h).
+pub const INDEX_ALT_TID_MASK: u16 = 0x2000;
+
+/// A bit of the info word: a value has variable width (access/itup.h).
+pub const INDEX_VAR_MASK: u16 = 0x4000;
+
+/// A bit of the info word: a value is null, and null bits stand behind the head (access/itup.h).
+pub const INDEX_NULL_MASK: u16 = 0x8000;
+
+/// A number is in the bits of the item number of such a TID below this one (access/nbtree.h, BT_OFFSET_MASK).
+pub const BT_OFFSET_LIMIT: u16 = 0x1000;
+
+/// A bit of such an item number: the tuple is a pivot that keeps a TID (access/nbtree.h).
+pub const BT_PIVOT_HEAP_TID_ATTR: u16 = 0x1000;
+
+/// A bit of such an item number: the tuple has a list of TIDs (access/nbtree.h).
+pub const BT_IS_POSTING: u16 = 0x2000;

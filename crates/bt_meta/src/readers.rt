@@ -8,10 +8,10 @@ ghost use Rattle.bt_meta.specs.Pages.{meta_rule_of, opaque_of};
 use crate::layout::{
     BT_IS_POSTING, BTM_FASTLEVEL, BTM_FASTROOT, BTM_LEVEL, BTM_MAGIC, BTM_ROOT, BTM_VERSION,
     BTPO_CYCLEID, BTPO_FLAGS, BTPO_LEVEL, BTPO_NEXT, BTPO_PREV, BTREE_MAGIC, BTREE_MIN_VERSION,
-    BTREE_VERSION, INDEX_ALT_TID_MASK, PD_LOWER, SIZE_OF_PAGE_HEADER, T_INFO, TID_BLOCK, TID_ITEM,
+    BTREE_VERSION, INDEX_ALT_TID_MASK, T_INFO, TID_BLOCK, TID_ITEM,
 };
 use crate::records::{HeadKind, Meta, Opaque, TreeHead};
-use page_layout::{PageView, Rule, block_at, has_bit, u16_at};
+use page_layout::{PD_LOWER, PageView, Rule, SIZE_OF_PAGE_HEADER, block_at, has_bit, u16_at};
 
 /// The special space of a tree page.
 #[inline]

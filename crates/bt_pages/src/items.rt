@@ -13,7 +13,7 @@ ghost use Rattle.bt_pages.specs.Questions.{are_plain, is_without_fault, own_doub
 use crate::disorder::order_rule;
 use crate::pass::Pass;
 use bt_image::spot_of;
-use bt_meta::tree_head;
+use bt_meta::{INDEX_SIZE_LIMIT, tree_head};
 use bt_tuples::{ItemFault, tree_item};
 use key_attrs::IndexColumns;
 use page_layout::{PageKind, PageView, Rule};
@@ -27,10 +27,6 @@ pub struct ItemFound {
     /// Why it can't be judged wholly.
     pub doubt: Option<Reason>,
 }
-
-// Of the info word of an index tuple: the size is in the bits below this one (access/itup.h,
-// INDEX_SIZE_MASK).
-const SIZE_LIMIT: u16 = 0x2000;
 
 // The first of B5 and B6 that an item breaks.
 #[tactic(auto, unfolding(crate::specs::Questions::own_rule))]
@@ -46,7 +42,7 @@ fn form_rule(page: PageView<'_>, i: u16) -> Option<Rule>
         return Some(Rule::B5);
     }
     let head = tree_head(page.piece(item.off, item.len));
-    if head.info % SIZE_LIMIT != item.len {
+    if head.info % INDEX_SIZE_LIMIT != item.len {
         return Some(Rule::B6);
     }
     None

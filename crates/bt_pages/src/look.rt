@@ -8,20 +8,13 @@ ghost use Rattle.rel_files.specs.Relation.{IsAttached, base_of, count_of, size_o
 ghost use Rattle.bt_pages.specs.Trees.{glance_of, is_idle_by};
 
 use crate::glance::Glance;
-use bt_meta::Opaque;
+use bt_meta::{Opaque, TREE_SPECIAL};
 use outside::Files;
-use page_layout::{u16_at, u32_at};
+use page_layout::{PD_LOWER, PD_UPPER, SIZE_OF_PAGE_HEADER, u16_at, u32_at};
 use rel_files::{ReadFault, Relation};
 
-// The bytes of a page's header (storage/bufpage.h), and where its places stand in it.
+// The bytes of a page's header (storage/bufpage.h), and of its special space (access/nbtree.h, BTPageOpaqueData).
 const HEADER_LEN: usize = 24;
-
-const PD_LOWER: usize = 12;
-
-const PD_UPPER: usize = 14;
-
-// Where the special space begins, and its bytes (access/nbtree.h, BTPageOpaqueData).
-const SPECIAL: u16 = 8176;
 
 const SPECIAL_LEN: usize = 16;
 
@@ -45,7 +38,7 @@ fn is_idle_by(lower: u16, upper: u16, special: Opaque) -> bool
 {
     upper == 0
         || special.is_deleted()
-        || special.flags == 0 && special.level == 0 && lower == HEADER_LEN as u16
+        || special.flags == 0 && special.level == 0 && lower == SIZE_OF_PAGE_HEADER
 }
 
 /// Looks at a block of an index: at its header and its special space alone, 40 bytes by two reads.
@@ -64,7 +57,7 @@ pub fn glance_at<F: Files>(
     let mut header = [0u8; HEADER_LEN];
     relation.read_part(files, block, 0, &mut header)?;
     let mut special = [0u8; SPECIAL_LEN];
-    relation.read_part(files, block, SPECIAL, &mut special)?;
+    relation.read_part(files, block, TREE_SPECIAL, &mut special)?;
     let special = special_in(&special);
     Ok(Glance {
         idle: is_idle_by(

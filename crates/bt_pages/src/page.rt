@@ -24,8 +24,8 @@ use bt_meta::{is_idle, opaque};
 use key_orders::Tid;
 use outside::{Files, NoMemory};
 use page_layout::{PageKind, PageView, Rule};
-use rel_files::ReadFault;
-use reports::{PageFault, Place, Reason, Rel, Report};
+use rel_files::{PageFault, ReadFault};
+use reports::{Place, Reason, Rel, Report};
 
 /// Adds what is found at a place: the rule that is broken there, and why it can't be judged. After
 /// `NoMemory` the report has a first part of that.

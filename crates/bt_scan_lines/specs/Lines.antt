@@ -5,8 +5,8 @@ use Rattle.laws_search.specs.Keys.{Entry}
 use Rattle.key_orders.specs.declared.columns.Value.{Value}
 use Rattle.key_orders.specs.declared.Tid.{Tid}
 use Rattle.back_scan.specs.Texts.{entry_text}
-use Rattle.bt_scan_lines.specs.declared.lines.ScanDirection.{ScanDirection}
-use Rattle.bt_scan_lines.specs.declared.lines.ScanDirection.TheVariants.{Forward, Backward}
+use Rattle.key_orders.specs.declared.scans.ScanDirection.{ScanDirection}
+use Rattle.key_orders.specs.declared.scans.ScanDirection.TheVariants.{Forward, Backward}
 use Rattle.bt_scan_lines.specs.declared.lines.LineWriter.{LineWriter}
 use Rattle.bt_scan_lines.specs.declared.lines.ScanLines.{ScanLines}
 

@@ -16,7 +16,7 @@ use bt_tuples::ItemKeys;
 use key_orders::{Scan, keys_are_searchable};
 use outside::{Files, NoMemory};
 use page_layout::PageView;
-use reports::PageFault;
+use rel_files::PageFault;
 
 // Adds the lines of the entries that a scan has left on a leaf, and gives the block to which it goes on, if it does.
 fn add_leaf(

@@ -5,4 +5,4 @@ mod backward;
 mod forward;
 mod lines;
 
-pub use lines::{ScanDirection, ScanLines, scan_lines};
+pub use lines::{ScanLines, scan_lines};

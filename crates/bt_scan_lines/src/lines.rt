@@ -11,20 +11,11 @@ use crate::backward::add_backward;
 use crate::forward::add_forward;
 use back_scan::push_entry_line;
 use bt_levels::SoundTree;
-use key_orders::{KeyRefs, Octets, Scan, Tid};
+use key_orders::{KeyRefs, Octets, Scan, ScanDirection, Tid};
 use outside::{Files, NoMemory};
-use reports::PageFault;
+use rel_files::PageFault;
 use std::alloc::Global;
 use text_writer::TextWriter;
-
-/// Which way a scan goes along an index.
-#[derive(Clone, Copy, Debug, PartialEq, Eq)]
-pub enum ScanDirection {
-    /// From the low bound up.
-    Forward,
-    /// From the high bound down.
-    Backward,
-}
 
 /// The lines of entries, and how many there are.
 #[derive(Drop)]

@@ -18,16 +18,10 @@ ghost use Rattle.bt_search.specs.Spots.{scan_on};
 
 use crate::descent::Search;
 use crate::spot::Spot;
-use bt_meta::{HeadKind, TreeHead, tree_head};
+use bt_meta::{BT_OFFSET_LIMIT, HeadKind, TID_LEN, TreeHead, tree_head};
 use bt_tuples::{ItemKeys, Spot3};
 use key_orders::{KeyRefs, KeySpec, Scan, Tid, before_low, matches, past_high};
 use page_layout::{LineFlag, PageKind, PageView, block_at, u16_at};
-
-// A number is in the bits of the item field below this one (access/nbtree.h, BT_OFFSET_MASK).
-const NUMBER_LIMIT: u16 = 0x1000;
-
-// The bytes of a TID (ItemPointerData).
-const TID_LEN: usize = 6;
 
 // The TID of no tuple.
 const NO_TID: Tid = Tid { block: 0, item: 0 };
@@ -98,7 +92,7 @@ fn entries_by(head: TreeHead) -> u16
     match head.kind {
         HeadKind::Pivot => 0,
         HeadKind::Plain => 1,
-        HeadKind::Posting => head.item % NUMBER_LIMIT,
+        HeadKind::Posting => head.item % BT_OFFSET_LIMIT,
     }
 }
 

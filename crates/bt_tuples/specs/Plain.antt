@@ -7,7 +7,7 @@ use Rattle.key_orders.specs.declared.columns.Value.{Value}
 use Rattle.key_orders.specs.declared.more.MoreSpec.{MoreSpec}
 use Rattle.key_orders.specs.declared.Tid.{Tid}
 use Rattle.key_orders.specs.Keys.{columns_of, fits_columns}
-use Rattle.key_prefixes.specs.Prefixes.{IsPrefix}
+use Rattle.key_orders.specs.Prefixes.{IsPrefix}
 use Rattle.key_attrs.specs.Keyed.{key_types, key_values, more_types}
 use Rattle.bt_meta.specs.declared.records.HeadKind.TheVariants as kinds
 use Rattle.bt_meta.specs.declared.records.TreeHead.{TreeHead}

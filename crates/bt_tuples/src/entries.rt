@@ -10,8 +10,7 @@ use crate::heads::body_of;
 use crate::items::{Spot3, plain_tid};
 use crate::tuples::plain_head;
 use key_attrs::{IndexColumns, plain_first_value};
-use key_orders::Tid;
-use key_prefixes::key_prefix;
+use key_orders::{Tid, key_prefix};
 use page_layout::{LineFlag, PageKind, PageView};
 
 /// One entry of a leaf, as its bytes lie: a plain tuple without null bits.
@@ -69,7 +68,7 @@ fn plain_prefix(tuple: &[u8], columns: &IndexColumns<'_>) -> Option<u64>
 }
 
 /// The number of the key of item i of a leaf, counted from 1, by its first value
-/// ([`key_prefix`](key_prefixes::key_prefix)), where the item is one entry and that is told by its bytes as they lie:
+/// ([`key_prefix`](key_orders::key_prefix)), where the item is one entry and that is told by its bytes as they lie:
 /// it is no list of TIDs, has no nulls, and each value, an included one too, is of a fixed length or a varlena with a
 /// header of one byte. `None` says nothing.
 #[inline(always)]

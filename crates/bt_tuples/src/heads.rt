@@ -5,37 +5,26 @@ ghost use Rattle.bt_meta.specs.Heads.{tree_head_of};
 ghost use Rattle.bt_tuples.specs.Tuples.{body_begin, body_end, body_in, has_null_bits, keeps_tid, null_bits_in};
 ghost use Rattle.bt_tuples.specs.Tuples.{number_of, size_of};
 
-use bt_meta::{HeadKind, TreeHead};
+use bt_meta::{
+    BT_OFFSET_LIMIT, BT_PIVOT_HEAP_TID_ATTR, HeadKind, INDEX_NULL_MASK, INDEX_SIZE_LIMIT, TID_LEN,
+    TreeHead,
+};
 use page_layout::has_bit;
 
-// Of `access/itup.h`: the size is in the bits of the info word below this one (INDEX_SIZE_MASK), and
-// another bit says that there are null bits.
-const SIZE_LIMIT: u16 = 0x2000;
-
-const INDEX_NULL_MASK: u16 = 0x8000;
-
-// Of `access/nbtree.h`: a number is in the bits of the item field below this one (BT_OFFSET_MASK), and
-// another bit says that a pivot keeps a TID.
-const NUMBER_LIMIT: u16 = 0x1000;
-
-const BT_PIVOT_HEAP_TID_ATTR: u16 = 0x1000;
-
-// The bytes of a head (IndexTupleData), of null bits (IndexAttributeBitMapData), of both with the
-// padding after them, and of a TID (ItemPointerData).
+// The bytes of a head (IndexTupleData), of null bits (IndexAttributeBitMapData), and of both with the
+// padding after them.
 const HEAD_LEN: usize = 8;
 
 const NULL_BITS_LEN: usize = 4;
 
 const PADDED_LEN: usize = 16;
 
-pub(crate) const TID_LEN: usize = 6;
-
 // The size that the tuple states.
 #[inline]
 pub(crate) fn size_of(head: TreeHead) -> u16
     ensures { result ≡ size_of head }
 {
-    head.info % SIZE_LIMIT
+    head.info % INDEX_SIZE_LIMIT
 }
 
 // Whether there are null bits.
@@ -52,7 +41,7 @@ pub(crate) fn has_null_bits(head: TreeHead) -> bool
 pub(crate) fn number_of(head: TreeHead) -> u16
     ensures { result ≡ number_of head }
 {
-    head.item % NUMBER_LIMIT
+    head.item % BT_OFFSET_LIMIT
 }
 
 // Whether a pivot keeps a TID.

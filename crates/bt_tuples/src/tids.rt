@@ -4,7 +4,7 @@ ghost use Rattle.bt_tuples.specs.Keys.{first_or, last_tid, no_tid};
 ghost use Rattle.bt_tuples.specs.Rules.{are_not_rising, is_not_above, is_wrong};
 ghost use Rattle.bt_tuples.specs.Tuples.{tid_at, tids_at};
 
-use crate::heads::TID_LEN;
+use bt_meta::TID_LEN;
 use key_orders::Tid;
 use page_layout::{block_at, u16_at};
 use std::marker::Model;

@@ -13,12 +13,11 @@ ghost use Rattle.bt_tuples.specs.Tuples.{body_begin, body_end, keeps_tid, kept_t
 
 use crate::forms::{breaks_form, is_plain};
 use crate::heads::{
-    TID_LEN, body_begin, body_end, body_of, has_null_bits, keeps_tid, null_bits_of, number_of,
-    size_of,
+    body_begin, body_end, body_of, has_null_bits, keeps_tid, null_bits_of, number_of, size_of,
 };
 use crate::items::{ItemFault, Spot3};
 use crate::tids::{are_not_rising, tid_at};
-use bt_meta::{HeadKind, TreeHead, tree_head};
+use bt_meta::{HeadKind, TID_LEN, TreeHead, tree_head};
 use key_attrs::{IndexColumns, KeyFault, read_entry_attributes, read_key_attributes};
 use key_orders::{KeyRefs, MoreRefs, Tid};
 use page_layout::Rule;

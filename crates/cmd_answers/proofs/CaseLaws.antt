@@ -11,7 +11,7 @@ use Rattle.case_rules.specs.Spots.{Spot, spots}
 use Rattle.case_rules.specs.declared.fault.CaseRule.{CaseRule}
 use Rattle.case_file.proofs.Soundness.{sound_record}
 use Rattle.reports.specs.Lists.{Lists}
-use Rattle.reports.specs.declared.fault.CheckFault.{CheckFault}
+use Rattle.rel_files.specs.declared.check_fault.CheckFault.{CheckFault}
 use Rattle.cmd_answers.specs.Cases.{CaseRead, case_by, case_in, case_read, case_unless, of_read, text_limit, unless_refused}
 use Rattle.cmd_answers.specs.Outcome.{Judged}
 

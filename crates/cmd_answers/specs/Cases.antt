@@ -4,10 +4,10 @@ use Rattle.outside.specs.Outside.{Names}
 use Rattle.outside.specs.declared.files.Part.TheVariants.{Segment}
 use Rattle.case_file.specs.Case.{Meaning, case_of}
 use Rattle.case_file.specs.Record.{CaseRecord}
-use Rattle.reports.specs.declared.fault.CheckFault.{CheckFault}
-use Rattle.reports.specs.declared.fault.CheckFault.TheVariants as check
-use Rattle.reports.specs.declared.fault.Which.{Which}
-use Rattle.reports.specs.declared.fault.Which.TheVariants as which
+use Rattle.rel_files.specs.declared.check_fault.CheckFault.{CheckFault}
+use Rattle.rel_files.specs.declared.check_fault.CheckFault.TheVariants as check
+use Rattle.rel_files.specs.declared.check_fault.Which.{Which}
+use Rattle.rel_files.specs.declared.check_fault.Which.TheVariants as which
 use Rattle.reports.specs.Lists.{Lists}
 use Rattle.bt_levels.specs.Index.{index_of}
 use Rattle.cmd_answers.specs.Outcome.{Judged, Outcome, case_refused, no_file, too_large, usage}

@@ -1,5 +1,6 @@
 pub mod Answers
 pub mod Cases
+pub mod Faults
 pub mod Files
 pub mod Outcome
 pub mod Pages

@@ -12,7 +12,7 @@ use crate::output::{Output, Unit, case_refused_output, no_file_output, too_large
 use crate::text::read_text;
 use case_file::{Case, CaseFault, read_case};
 use outside::{FileName, Files, Part};
-use reports::{CheckFault, Which};
+use rel_files::{CheckFault, Which};
 use std::alloc::Global;
 
 // How many bytes a case file may have.

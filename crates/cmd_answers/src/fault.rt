@@ -1,8 +1,10 @@
 //! Why a run gives up.
 ghost use Rattle.std.specs.Prelude.{◌≡◌};
+ghost use Rattle.cmd_answers.specs.Faults.{run_fault_of};
 ghost use Rattle.cmd_answers.specs.declared.fault.RunFault.TheVariants as fault;
 
 use outside::{Failed, NoMemory};
+use rel_files::PageFault;
 use thiserror::Error;
 
 /// Why a run ends without an outcome.
@@ -29,5 +31,16 @@ impl From<NoMemory> for RunFault {
 
     fn from(_: NoMemory) -> Self {
         RunFault::NoMemory
+    }
+}
+
+impl From<PageFault> for RunFault {
+    ghost from_gives = { λ fault e. e ≡ run_fault_of fault };
+
+    fn from(fault: PageFault) -> Self {
+        match fault {
+            PageFault::ReadFault => RunFault::ReadFault,
+            PageFault::NoMemory => RunFault::NoMemory,
+        }
     }
 }

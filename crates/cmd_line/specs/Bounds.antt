@@ -11,8 +11,8 @@ use Rattle.laws_search.specs.Keys.{Bound}
 use Rattle.key_orders.specs.Scans.{Bounds}
 use Rattle.key_orders.specs.declared.columns.Value.{Value}
 use Rattle.key_orders.specs.declared.columns.Value.TheVariants.{Null, Bool as bool_value, Int, Bytes}
-use Rattle.bt_scan_lines.specs.declared.lines.ScanDirection.{ScanDirection}
-use Rattle.bt_scan_lines.specs.declared.lines.ScanDirection.TheVariants.{Forward, Backward}
+use Rattle.key_orders.specs.declared.scans.ScanDirection.{ScanDirection}
+use Rattle.key_orders.specs.declared.scans.ScanDirection.TheVariants.{Forward, Backward}
 use Rattle.cmd_line.specs.Numbers.{number_written}
 use Rattle.cmd_line.specs.declared.bounds.Side.{Side}
 use Rattle.cmd_line.specs.declared.bounds.Side.TheVariants.{Low, High}

@@ -5,7 +5,7 @@ use Rattle.std.specs.Str.{bytes_eq}
 use Rattle.laws_search.specs.Keys.{Bound}
 use Rattle.key_orders.specs.Scans.{Bounds}
 use Rattle.key_orders.specs.declared.columns.Value.{Value}
-use Rattle.bt_scan_lines.specs.declared.lines.ScanDirection.{ScanDirection}
+use Rattle.key_orders.specs.declared.scans.ScanDirection.{ScanDirection}
 use Rattle.cmd_line.specs.Bounds.{bound_written, direction_written}
 use Rattle.cmd_line.specs.Numbers.{u32_written, u64_written}
 use Rattle.cmd_line.specs.declared.bounds.Side.TheVariants.{Low, High}

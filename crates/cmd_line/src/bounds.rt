@@ -13,9 +13,8 @@ ghost use Rattle.cmd_line.specs.Words.{scan_by};
 ghost use Rattle.cmd_line.specs.declared.bounds.Side.TheVariants.{Low, High};
 
 use crate::numbers::u64_written;
-use bt_scan_lines::ScanDirection;
 use hex::FromHexError;
-use key_orders::{Octets, Value};
+use key_orders::{Octets, ScanDirection, Value};
 use outside::NoMemory;
 use std::alloc::Global;
 

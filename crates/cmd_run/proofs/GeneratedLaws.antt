@@ -9,8 +9,8 @@ use Rattle.outside.specs.declared.files.Part.TheVariants.{Segment}
 use Rattle.memory_files.specs.declared.sure.SureFiles.{SureFiles}
 use Rattle.page_layout.specs.declared.rules.Rule.{Rule}
 use Rattle.rel_files.specs.Blocks.{blocks_of, segment_length}
-use Rattle.attach_files.specs.Refusals.{file_refusal, large_by, limit_of}
-use Rattle.attach_files.proofs.Refusals.{one_segment}
+use Rattle.rel_files.specs.Refusals.{file_refusal, large_by, limit_of}
+use Rattle.rel_files.proofs.Refusals.{one_segment}
 use Rattle.case_file.specs.Generated.{generated_case, index_on, rising_key}
 use Rattle.case_file.specs.Record.{CaseRecord}
 use Rattle.case_file.specs.Sound.{IsPath, IsSound as IsSoundCase, IsSoundIndex, IsSoundKey}
@@ -18,9 +18,9 @@ use Rattle.key_orders.specs.declared.columns.ColType.{ColType}
 use Rattle.key_orders.specs.declared.columns.ColType.TheVariants.{Int4, Int8}
 use Rattle.reports.specs.Added.{IsListed}
 use Rattle.reports.specs.Lists.{Lists}
-use Rattle.reports.specs.declared.fault.CheckFault.{CheckFault}
-use Rattle.reports.specs.declared.fault.Which.{Which}
-use Rattle.reports.specs.declared.fault.Which.TheVariants.{Heap, Index}
+use Rattle.rel_files.specs.declared.check_fault.CheckFault.{CheckFault}
+use Rattle.rel_files.specs.declared.check_fault.Which.{Which}
+use Rattle.rel_files.specs.declared.check_fault.Which.TheVariants.{Heap, Index}
 use Rattle.reports.specs.declared.places.Place.{Place}
 use Rattle.reports.specs.declared.places.Reason.{Reason}
 use Rattle.heap_table_check.specs.Files.{refusal_of as table_refusal}

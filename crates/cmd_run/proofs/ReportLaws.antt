@@ -6,8 +6,8 @@ use Rattle.std.proofs.lemmas.Bool.{both_ways, cond-false, cond-true}
 use Rattle.outside.specs.Outside.{Names}
 use Rattle.case_file.specs.Record.{CaseRecord}
 use Rattle.reports.specs.Lists.{Lists}
-use Rattle.reports.specs.declared.fault.CheckFault.{CheckFault}
-use Rattle.reports.specs.declared.fault.CheckFault.TheVariants.{NoFile, TooLarge, ReadFault, NoMemory}
+use Rattle.rel_files.specs.declared.check_fault.CheckFault.{CheckFault}
+use Rattle.rel_files.specs.declared.check_fault.CheckFault.TheVariants.{NoFile, TooLarge, ReadFault, NoMemory}
 use Rattle.bt_levels.specs.Lists.{is_quiet}
 use Rattle.bt_levels.proofs.LevelLaws.{empty_quiet}
 use Rattle.heap_table_check.specs.Files.{BelongTo, IsSoundHeapOf, files_of, refusal_of}

@@ -23,7 +23,7 @@ use Rattle.bt_levels.specs.declared.files.TreeFile.{TreeFile}
 use Rattle.bt_levels.specs.Sound.{IsSoundIndexOf, block_count, file_of, held_block, more_of, specs_of}
 use Rattle.bt_steps.specs.Pages.{is_killed}
 use Rattle.bt_scan_lines.specs.Lines.{in_direction}
-use Rattle.bt_scan_lines.specs.declared.lines.ScanDirection.{ScanDirection}
+use Rattle.key_orders.specs.declared.scans.ScanDirection.{ScanDirection}
 use Rattle.bt_scan_lines.specs.Wanted.{wanted_entries, wanted_on}
 use Rattle.cmd_answers.specs.Outcome.{bad_bound, reported}
 use Rattle.cmd_run.specs.Scan.{are_fitting, bounded_scanned, entries_shown, keys_of, tree_scanned, wanted_in}

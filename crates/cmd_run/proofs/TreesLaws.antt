@@ -5,12 +5,12 @@ use Rattle.std.specs.Option.{option_or, option_to_list}
 use Rattle.std.proofs.lemmas.Bool.{cases_lt}
 use Rattle.std.proofs.lemmas.List.Elements.{All-nil, All-push}
 use Rattle.outside.specs.Outside.{Names}
-use Rattle.attach_files.specs.Refusals.{TellsRefusal}
+use Rattle.rel_files.specs.Refusals.{TellsRefusal}
 use Rattle.case_file.specs.Record.{CaseRecord}
 use Rattle.reports.specs.Added.{each_upto, joined, nothing, report_lists}
 use Rattle.reports.specs.Lists.{Lists}
-use Rattle.reports.specs.declared.fault.CheckFault.{CheckFault}
-use Rattle.reports.specs.declared.fault.CheckFault.TheVariants.{NoFile, NoMemory, ReadFault, TooLarge}
+use Rattle.rel_files.specs.declared.check_fault.CheckFault.{CheckFault}
+use Rattle.rel_files.specs.declared.check_fault.CheckFault.TheVariants.{NoFile, NoMemory, ReadFault, TooLarge}
 use Rattle.heap_table_check.specs.Found.{case_found}
 use Rattle.bt_levels.specs.Files.{BelongsTo, number_of}
 use Rattle.bt_levels.specs.declared.files.TreeFile.{TreeFile}

@@ -7,7 +7,7 @@ use Rattle.case_file.specs.Record.{CaseRecord, index_named}
 use Rattle.case_rules.specs.declared.fault.CaseRule.TheVariants.{C5}
 use Rattle.reports.specs.Added.{joined}
 use Rattle.reports.specs.Lists.{Lists}
-use Rattle.reports.specs.declared.fault.CheckFault.{CheckFault}
+use Rattle.rel_files.specs.declared.check_fault.CheckFault.{CheckFault}
 use Rattle.reports.specs.declared.places.Place.{Place}
 use Rattle.reports.specs.declared.places.Reason.{Reason}
 use Rattle.heap_table_check.specs.Broken.{Breaks as BreaksTable, Doubts as DoubtsTable}

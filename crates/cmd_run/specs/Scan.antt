@@ -9,13 +9,13 @@ use Rattle.key_orders.specs.declared.columns.KeySpec.{KeySpec}
 use Rattle.key_orders.specs.declared.columns.Value.{Value}
 use Rattle.key_orders.specs.declared.Tid.{Tid}
 use Rattle.case_file.specs.Record.{CaseRecord, index_named}
-use Rattle.reports.specs.declared.fault.CheckFault.{CheckFault}
+use Rattle.rel_files.specs.declared.check_fault.CheckFault.{CheckFault}
 use Rattle.bt_levels.specs.Files.{refusal_of}
 use Rattle.bt_levels.specs.Index.{index_of, tree_lists}
 use Rattle.bt_steps.specs.Pages.{is_killed}
 use Rattle.bt_scan_lines.specs.Lines.{in_direction, lines_of}
 use Rattle.bt_scan_lines.specs.Wanted.{wanted_entries}
-use Rattle.bt_scan_lines.specs.declared.lines.ScanDirection.{ScanDirection}
+use Rattle.key_orders.specs.declared.scans.ScanDirection.{ScanDirection}
 use Rattle.cmd_answers.specs.Answers.{answer_code}
 use Rattle.cmd_answers.specs.Cases.{CaseRead, case_in, files_refused}
 use Rattle.cmd_run.specs.Headline.{pages_of}

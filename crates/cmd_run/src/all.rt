@@ -1,6 +1,6 @@
 //! The command `all`: judges the heap of a case, and each of its indexes by itself and beside the heap.
 ghost use Rattle.std.specs.Prelude.{◌≡◌, ◌++◌, ◌∷◌, [], All, IfOk, OnOk, length};
-ghost use Rattle.attach_files.specs.Refusals.{TellsRefusal};
+ghost use Rattle.rel_files.specs.Refusals.{TellsRefusal};
 ghost use Rattle.outside.specs.Outside.{Asked, IfTold, Tells};
 ghost use Rattle.reports.specs.Added.{joined};
 ghost use Rattle.heap_table_check.specs.Files.{AreFilesOf, BelongTo};
@@ -19,7 +19,8 @@ use case_file::Case;
 use cmd_answers::{CaseOpening, Output, RunFault, open_case, refuse_files, report_output};
 use heap_table_check::HeapFiles;
 use outside::{Files, NoMemory};
-use reports::{CheckFault, Report};
+use rel_files::CheckFault;
+use reports::Report;
 use std::alloc::Global;
 use std::collections::VecDeque;
 

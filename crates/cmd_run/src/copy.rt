@@ -16,7 +16,7 @@ use cmd_answers::{Answer, CaseOpening, Output, RunFault, open_case, refuse_files
 use copy_out::{CopyText, copy_rows};
 use heap_table_check::{HeapFiles, SoundHeap};
 use outside::Files;
-use reports::{PageFault, Report};
+use reports::Report;
 use std::alloc::Global;
 
 // The answer where so many values aren't read.
@@ -44,11 +44,7 @@ fn copied<F: Files>(
     ensures unread { Tells F.seen files.old result (λ copy names. copy.unread ≡ unread_values case.now names) }
     ensures asked { Asked F.seen files.old files.new result RunFault.ReadFault }
 {
-    match copy_rows(alloc, files, case, heap) {
-        Ok(copy) => Ok(copy),
-        Err(PageFault::ReadFault) => Err(RunFault::ReadFault),
-        Err(PageFault::NoMemory) => Err(RunFault::NoMemory),
-    }
+    Ok(copy_rows(alloc, files, case, heap)?)
 }
 
 // The rows of a heap in which nothing was found.

@@ -13,7 +13,7 @@ use case_file::Case;
 use cmd_answers::{CaseOpening, Output, RunFault, open_case, refuse_files, report_output};
 use heap_table_check::{HeapFiles, SoundHeap, check_heap};
 use outside::Files;
-use reports::{CheckFault, Report};
+use reports::Report;
 use std::alloc::Global;
 
 /// Judges the files of a case's table, and adds what is found of them to the report. The heap comes back
@@ -33,11 +33,7 @@ pub fn judge_heap<F: Files>(
     ensures belong { IfOk result (λ heap. IsHeapIn case.now heap) }
     ensures asked { Asked F.seen files.old files.new result RunFault.ReadFault }
 {
-    match check_heap(alloc, files, case, at, report) {
-        Ok(heap) => Ok(heap),
-        Err(CheckFault::ReadFault) => Err(RunFault::ReadFault),
-        Err(_) => Err(RunFault::NoMemory),
-    }
+    Ok(check_heap(alloc, files, case, at, report)?)
 }
 
 // The report on the files of a case.

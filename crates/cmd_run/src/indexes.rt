@@ -12,7 +12,7 @@ use case_file::Case;
 use cmd_answers::RunFault;
 use heap_table_check::SoundHeap;
 use outside::Files;
-use reports::{CheckFault, Report};
+use reports::Report;
 use std::alloc::Global;
 
 /// A case whose table was judged, and its heap, where nothing was found of that.
@@ -51,9 +51,5 @@ pub fn judge_alone<F: Files>(
     ensures belong { IfOk result (λ tree. IfSome tree (IsSoundIndexOf case.now (number_of at))) }
     ensures asked { Asked F.seen files.old files.new result RunFault.ReadFault }
 {
-    match check_tree(alloc, files, case, at, report) {
-        Ok(tree) => Ok(tree),
-        Err(CheckFault::ReadFault) => Err(RunFault::ReadFault),
-        Err(_) => Err(RunFault::NoMemory),
-    }
+    Ok(check_tree(alloc, files, case, at, report)?)
 }

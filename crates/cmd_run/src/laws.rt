@@ -4,7 +4,7 @@ ghost use Rattle.outside.specs.Outside.{Names};
 ghost use Rattle.case_file.specs.Record.{CaseRecord};
 ghost use Rattle.bt_levels.specs.Lists.{is_quiet};
 ghost use Rattle.join_rules.specs.Unique.{AreUnique};
-ghost use Rattle.laws_remade_clean.specs.Remade.{IsRemade};
+ghost use Rattle.laws_built_clean.specs.Remade.{IsRemade};
 ghost use Rattle.cmd_run.specs.Index.{index_found};
 ghost use Rattle.cmd_run.specs.Laws.{AreLaws};
 
@@ -12,7 +12,7 @@ use bt_levels::indexes_are_judged;
 use heap_rows::rows_are_live_tuples;
 use join_rules::heaps_and_indexes_are_judged;
 use key_orders::{key_orders_are_total, keys_are_searchable};
-use laws_remade_clean::remade_indexes_are_clean;
+use laws_built_clean::remade_indexes_are_clean;
 
 /// The laws of the crates below that say what a report of an index is worth: see `AreLaws`. It does nothing.
 pub fn reports_have_worth()

@@ -24,7 +24,7 @@ use cmd_answers::{
 use heap_table_check::{HeapFiles, SoundHeap};
 use join_row_entries::{RowEntries, row_entries};
 use outside::{Files, NoMemory};
-use reports::{PageFault, Report};
+use reports::Report;
 use std::alloc::Global;
 
 // The index of these entries, or why there is none; the file is the index's.
@@ -62,11 +62,7 @@ fn entries_of<F: Files>(
     ensures entries { Tells F.seen files.old result (λ found names. AreEntries case.now names index found) }
     ensures asked { Asked F.seen files.old files.new result RunFault.ReadFault }
 {
-    match row_entries(alloc, files, case, heap, index) {
-        Ok(found) => Ok(found),
-        Err(PageFault::ReadFault) => Err(RunFault::ReadFault),
-        Err(PageFault::NoMemory) => Err(RunFault::NoMemory),
-    }
+    Ok(row_entries(alloc, files, case, heap, index)?)
 }
 
 // The index of a heap in which nothing was found, or the report on the rows that are in doubt.

@@ -14,15 +14,15 @@ ghost use Rattle.cmd_answers.specs.Seen.{outcome_seen};
 use crate::index::unknown_index;
 use crate::indexes::judge_alone;
 use bt_levels::{SoundTree, TreeFile};
-use bt_scan_lines::{ScanDirection, ScanLines, scan_lines};
+use bt_scan_lines::{ScanLines, scan_lines};
 use case_file::Case;
 use cmd_answers::{
     Answer, CaseOpening, Output, RunFault, bad_bound_output, open_case, refuse_files, report_output,
 };
 use cmd_line::{ScanWords, Side, read_bound};
-use key_orders::{Scan, ScanFault};
+use key_orders::{Scan, ScanDirection, ScanFault};
 use outside::{Files, NoMemory};
-use reports::{PageFault, Report};
+use reports::Report;
 use std::alloc::Global;
 
 // The entries that are shown: their lines, and how many they are.
@@ -53,11 +53,8 @@ fn entries_output<F: Files>(
         outcome_seen o ≡ entries_shown (in_direction direction (wanted_on names tree.now scan.now))) }
     ensures asked { Asked F.seen files.old files.new result RunFault.ReadFault }
 {
-    match scan_lines(alloc, files, tree, scan, direction) {
-        Ok(lines) => Ok(shown_output(lines)?),
-        Err(PageFault::ReadFault) => Err(RunFault::ReadFault),
-        Err(PageFault::NoMemory) => Err(RunFault::NoMemory),
-    }
+    let lines = scan_lines(alloc, files, tree, scan, direction)?;
+    Ok(shown_output(lines)?)
 }
 
 // The entries of an index in this file, or the report on it where something is found.

@@ -21,7 +21,7 @@ use cmd_answers::RunFault;
 use heap_indexed::check_indexes;
 use join_row_keys::IndexedTable;
 use outside::{Files, NoMemory};
-use reports::{CheckFault, Report};
+use reports::Report;
 use std::alloc::Global;
 use std::collections::VecDeque;
 
@@ -175,11 +175,8 @@ fn join_all<F: Files>(
         return Ok(VecDeque::new(alloc));
     };
     let case = table.case;
-    match check_indexes(alloc, files, IndexedTable { case, heap, trees }) {
-        Ok(reports) => Ok(reports),
-        Err(CheckFault::ReadFault) => Err(RunFault::ReadFault),
-        Err(_) => Err(RunFault::NoMemory),
-    }
+    let reports = check_indexes(alloc, files, IndexedTable { case, heap, trees })?;
+    Ok(reports)
 }
 
 // Whether nothing was found of the heap.

@@ -15,11 +15,12 @@ ghost use Rattle.copy_out.specs.Live.{AreLeft, IsAdded, IsOver, copied_text, num
 use crate::fields::{push_field, push_tab};
 use crate::forms::{Form, form_of};
 use case_file::{Case, Column};
-use heap_rows::{CellRef, RowCursor, SoundHeap};
+use heap_rows::{CellRef, RowCursor};
+use heap_table_check::SoundHeap;
 use key_orders::Octets;
 use outside::{Files, NoMemory};
 use page_layout::MAX_ITEMS;
-use reports::PageFault;
+use rel_files::PageFault;
 use std::alloc::Global;
 use text_writer::TextWriter;
 

@@ -1,5 +1,5 @@
 //! The check of a heap against an index of it by look-ups.
-ghost use Rattle.std.specs.Prelude.{◌≡◌, ◌⊎◌, ◌↔◌, IfErr, OnOk, length, true};
+ghost use Rattle.std.specs.Prelude.{◌≡◌, ◌↔◌, OnOk, length, true};
 ghost use Rattle.outside.specs.Adds.{AddsIn};
 ghost use Rattle.outside.specs.Outside.{Asked, IfTold, Tells};
 ghost use Rattle.reports.specs.Added.{report_lists};
@@ -17,7 +17,8 @@ use join_rules::heaps_and_indexes_are_judged;
 use join_slots::RowSlots;
 use join_unique::check_duplicates;
 use outside::Files;
-use reports::{CheckFault, PageFault, Report};
+use rel_files::PageFault;
+use reports::Report;
 use std::alloc::Global;
 
 // Adds each entry of an index that names what no entry may name.
@@ -85,13 +86,12 @@ pub(crate) fn index_report<F: Files>(
     alloc: Global,
     files: &mut F,
     at: IndexedHeap<'_>,
-) -> Result<Report, CheckFault>
+) -> Result<Report, PageFault>
     requires belong { BelongTogether at.case.now at.heap.now at.tree.now }
     requires hold { IfTold F.seen files.old (λ names. HoldTogether names at.case.now at.heap.now at.tree.now) }
     ensures report { Tells F.seen files.old result (λ report names.
         report ≡ indexed_lists at.entry.case.now names (number_of (file_of at.entry.tree.now))) }
-    ensures only { IfErr result (λ e. e ≡ CheckFault.ReadFault ⊎ e ≡ CheckFault.NoMemory) }
-    ensures asked { Asked F.seen files.old files.new result CheckFault.ReadFault }
+    ensures asked { Asked F.seen files.old files.new result PageFault.ReadFault }
 {
     let mut look_ups = LookUps::new(alloc)?;
     let mut report = Report::new(alloc);
@@ -106,20 +106,19 @@ pub(crate) fn index_report<F: Files>(
 /// names what no entry may name (X2), by block, item and place in the item; and where there is none of these and the
 /// index is unique, each live row whose key one with a lower TID has too (X3), by rising TID.
 ///
-/// `ReadFault` comes only where the count of the files' faults rose, and `NoFile` and `TooLarge` never. After an error
+/// `ReadFault` comes only where the count of the files' faults rose. After an error
 /// the report has a first part of what it would have got.
 pub fn check_indexed<F: Files>(
     alloc: Global,
     files: &mut F,
     at: IndexedHeap<'_>,
     report: &mut Report,
-) -> Result<(), CheckFault>
+) -> Result<(), PageFault>
     requires belong { BelongTogether at.case.now at.heap.now at.tree.now }
     requires hold { IfTold F.seen files.old (λ names. HoldTogether names at.case.now at.heap.now at.tree.now) }
     ensures lists { IfTold F.seen files.old (λ names. AddsIn report_lists result report.old report.new
         (indexed_lists at.entry.case.now names (number_of (file_of at.entry.tree.now)))) }
-    ensures only { IfErr result (λ e. e ≡ CheckFault.ReadFault ⊎ e ≡ CheckFault.NoMemory) }
-    ensures asked { Asked F.seen files.old files.new result CheckFault.ReadFault }
+    ensures asked { Asked F.seen files.old files.new result PageFault.ReadFault }
 {
     let own = index_report(alloc, files, at)?;
     report.append(own)?;

@@ -1,5 +1,5 @@
 //! The check of a heap against all its indexes.
-ghost use Rattle.std.specs.Prelude.{◌≡◌, ◌⊎◌, ◌+◌, ◌*◌, ◌≤◌, ◌++◌, ◌∷◌, [], IfErr, IfOk, List, OnOk, length, map};
+ghost use Rattle.std.specs.Prelude.{◌≡◌, ◌+◌, ◌*◌, ◌≤◌, ◌++◌, ◌∷◌, [], IfOk, List, OnOk, length, map};
 ghost use Rattle.outside.specs.Outside.{Asked, IfTold, Names, Tells};
 ghost use Rattle.rel_files.specs.Relation.{count_of};
 ghost use Rattle.reports.specs.Added.{joined, nothing};
@@ -24,7 +24,8 @@ use heap_targets::set_tells_of_pages;
 use join_row_keys::{IndexedHeap, IndexedTable, columns_of};
 use key_attrs::IndexColumns;
 use outside::{Files, NoMemory};
-use reports::{CheckFault, PageFault, Report};
+use rel_files::PageFault;
+use reports::Report;
 use std::alloc::Global;
 use std::collections::VecDeque;
 
@@ -217,20 +218,19 @@ fn judge_keys<F: Files>(
 /// taken in hand once, and once more for each index at most; `blocks` says how many times. What equal keys (X3) are
 /// looked for in is not counted there.
 ///
-/// `ReadFault` comes only where the count of the files' faults rose, and `NoFile` and `TooLarge` never.
+/// `ReadFault` comes only where the count of the files' faults rose.
 pub fn meet_indexes<F: Files>(
     alloc: Global,
     files: &mut F,
     at: IndexedTable<'_>,
-) -> Result<IndexesMet, CheckFault>
+) -> Result<IndexesMet, PageFault>
     requires belong { BelongToIt at }
     requires hold { IfTold F.seen files.old (λ names. HoldIt names at) }
     ensures reports { Tells F.seen files.old result (λ met names. met.reports.items
         ≡ map (λ tree. indexed_lists at.entry.case.now names (number_of (file_of tree))) at.entry.trees.now) }
     ensures blocks { IfOk result (λ met. met.blocks
         ≤ count_of (heap_in at.entry.heap.now) * (1 + length at.entry.trees.now)) }
-    ensures only { IfErr result (λ e. e ≡ CheckFault.ReadFault ⊎ e ≡ CheckFault.NoMemory) }
-    ensures asked { Asked F.seen files.old files.new result CheckFault.ReadFault }
+    ensures asked { Asked F.seen files.old files.new result PageFault.ReadFault }
 {
     let Met {
         reports: joined,
@@ -246,13 +246,12 @@ fn probe_indexes<F: Files>(
     alloc: Global,
     files: &mut F,
     at: IndexedTable<'_>,
-) -> Result<VecDeque<Report>, CheckFault>
+) -> Result<VecDeque<Report>, PageFault>
     requires belong { BelongToIt at }
     requires hold { IfTold F.seen files.old (λ names. HoldIt names at) }
     ensures reports { Tells F.seen files.old result (λ reports names. reports.items
         ≡ map (λ tree. indexed_lists at.entry.case.now names (number_of (file_of tree))) at.entry.trees.now) }
-    ensures only { IfErr result (λ e. e ≡ CheckFault.ReadFault ⊎ e ≡ CheckFault.NoMemory) }
-    ensures asked { Asked F.seen files.old files.new result CheckFault.ReadFault }
+    ensures asked { Asked F.seen files.old files.new result PageFault.ReadFault }
 {
     let IndexedTable { case, heap, trees } = at;
     let mut reports = VecDeque::new(alloc);
@@ -268,18 +267,17 @@ fn probe_indexes<F: Files>(
 /// each, in their order: that which [`check_indexed`](crate::check_indexed) adds. The rows of a heap of fewer than 64
 /// blocks are looked up, and those of a larger one are met ([`meet_indexes`]).
 ///
-/// `ReadFault` comes only where the count of the files' faults rose, and `NoFile` and `TooLarge` never.
+/// `ReadFault` comes only where the count of the files' faults rose.
 pub fn check_indexes<F: Files>(
     alloc: Global,
     files: &mut F,
     at: IndexedTable<'_>,
-) -> Result<VecDeque<Report>, CheckFault>
+) -> Result<VecDeque<Report>, PageFault>
     requires belong { BelongToIt at }
     requires hold { IfTold F.seen files.old (λ names. HoldIt names at) }
     ensures reports { Tells F.seen files.old result (λ reports names. reports.items
         ≡ map (λ tree. indexed_lists at.entry.case.now names (number_of (file_of tree))) at.entry.trees.now) }
-    ensures only { IfErr result (λ e. e ≡ CheckFault.ReadFault ⊎ e ≡ CheckFault.NoMemory) }
-    ensures asked { Asked F.seen files.old files.new result CheckFault.ReadFault }
+    ensures asked { Asked F.seen files.old files.new result PageFault.ReadFault }
 {
     if at.heap.heap().blocks() < MEET_BLOCKS {
         probe_indexes(alloc, files, at)

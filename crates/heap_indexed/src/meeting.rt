@@ -32,7 +32,8 @@ use join_unique::is_unique;
 use key_orders::Tid;
 use key_storage::StoredRows;
 use outside::{Files, NoMemory};
-use reports::{PageFault, Report};
+use rel_files::PageFault;
+use reports::Report;
 use std::alloc::Global;
 
 /// What is in work for one index while the rows of its heap are gone through.

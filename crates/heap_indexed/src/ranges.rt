@@ -27,7 +27,7 @@ use heap_targets::RootSet;
 use join_row_keys::{IndexedHeap, IndexedTable, KeyedHeap};
 use outside::{Files, NoMemory};
 use page_layout::MAX_ITEMS;
-use reports::PageFault;
+use rel_files::PageFault;
 
 // The bytes that the rows of a range may use for all indexes together before the range ends with a block: 100 MiB, or
 // 256 for each block of the heap, a 32nd of its bytes, where that is more. So the number of ranges is bounded.

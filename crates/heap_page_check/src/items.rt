@@ -23,7 +23,8 @@ use key_orders::Tid;
 use liveness::{ItemState, Transactions};
 use outside::NoMemory;
 use page_layout::{LineFlag, Rule};
-use reports::{PageFault, Place};
+use rel_files::PageFault;
+use reports::Place;
 
 // Judges a normal item: where it lies, and then its tuple. The state of one that passes is added.
 #[tactic(auto, using(crate::proofs::Left::nothing_left), unfolding(crate::specs::Verdicts::normal_verdict))]

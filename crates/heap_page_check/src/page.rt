@@ -15,7 +15,8 @@ use crate::table::TableRules;
 use crate::work::Work;
 use liveness::Transactions;
 use page_layout::{PageKind, PageView, has_bit};
-use reports::{PageFault, Place};
+use rel_files::PageFault;
+use reports::Place;
 use vis_map::MapBits;
 
 // The flag of a page that says that all its tuples are visible to everyone (`PD_ALL_VISIBLE`).

@@ -17,17 +17,13 @@ ghost use Rattle.heap_page_check.specs.Storage.{AreAbove};
 ghost use Rattle.heap_page_check.specs.Table.{AreReadable, chunks_seen, table_seen};
 
 use crate::page::PageInHand;
-use crate::storage::PAGE_BYTES;
 use crate::table::{TableKind, TableRules};
 use heap_tuples::are_inline;
 use hot_chains::pages_without_chains;
-use page_layout::{LineFlag, LinePtr, PageView};
+use page_layout::{FIRST_NORMAL_XID, LineFlag, LinePtr, PAGE_BYTES, PageView};
 use rel_files::{Cluster, xid_in_range};
 use tuple_head::{HeapHead, heap_head, kept_rules_place_attributes};
 use vis_map::map_rule;
-
-// The first transaction that is given out.
-const FIRST_NORMAL_XID: u32 = 3;
 
 // Whether hint bits tell that a tuple is live: a seen inserter, which was given out, committed, and xmax doesn't count
 // or only locks; index entries name it; and where its block is called all-frozen, a freeze would change nothing of it.

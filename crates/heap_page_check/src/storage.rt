@@ -7,15 +7,12 @@ ghost use Rattle.heap_page_check.specs.Storage.{AreCells, AreFree, AreMarked, Is
 ghost use Rattle.heap_page_check.specs.Storage.{has_storage, meets_item_below, taken_with};
 
 use outside::NoMemory;
-use page_layout::{LinePtr, PageView};
+use page_layout::{LinePtr, PAGE_BYTES, PageView};
 use std::alloc::Global;
 use std::marker::Model;
 
 // How many cells a page of 8192 bytes has.
 const CELLS: usize = 1024;
-
-/// How many bytes a page has.
-pub(crate) const PAGE_BYTES: u16 = 8192;
 
 /// The items of a page that were added, kept so that it can be asked whether another item's storage
 /// meets theirs. Made once, and cleared for each page.

@@ -16,7 +16,8 @@ use crate::work::Work;
 use key_orders::Tid;
 use liveness::{ItemState, Judged, Life, Transactions, life_in};
 use outside::NoMemory;
-use reports::{PageFault, Reason};
+use rel_files::PageFault;
+use reports::Reason;
 use tuple_head::{HeapHead, heap_head, kept_rules_place_attributes};
 
 /// The tuple in hand: where it stands, its bytes, and its header.

@@ -16,3 +16,4 @@ pub mod RowFinds
 pub mod RowHeads
 pub mod PageRows
 pub mod RowCopies
+pub mod StateLaws

@@ -36,8 +36,8 @@ use Rattle.heap_rows.specs.declared.rows.LiveRow.{LiveRow}
 use Rattle.heap_rows.specs.RowCursor.{case_at, rows_ahead, rows_here}
 use Rattle.heap_rows.specs.PageRows.{ArePageRows, HasValue, HasValues, IsPageRow, value_there}
 use Rattle.heap_rows.specs.RowPages.{HasAttributes, IsKnown, is_live_by, is_live_in, rows_in_hand}
-use Rattle.heap_item_states.specs.Roots.{AreChainsWhere, AreRoots, root_item}
-use Rattle.heap_item_states.specs.declared.roots.Roots.{Roots}
+use Rattle.heap_rows.specs.Roots.{AreChainsWhere, AreRoots, root_item}
+use Rattle.heap_rows.specs.declared.roots.Roots.{Roots}
 use Rattle.heap_rows.specs.RowValues.{FitTypes, column_asked}
 use Rattle.heap_rows.specs.Rows.{block_rows, cell_of, cells_of, each_from, item_rows, row_at, toast_bytes}
 use Rattle.heap_rows.proofs.Lists.{each_upto-next, each_upto-none}

@@ -23,7 +23,7 @@ use Rattle.hot_chains.specs.Chains.{is_live_tuple, item_at}
 use Rattle.toast_chunks.specs.Chunks.{is_whole}
 use Rattle.toast_chunks.specs.declared.map.Chunk.{Chunk}
 use Rattle.toast_chunks.proofs.Finding.{is_whole-from}
-use Rattle.attach_files.specs.Refusals.{heap_limit}
+use Rattle.rel_files.specs.Refusals.{heap_limit}
 use Rattle.reports.specs.Added.{each_upto}
 use Rattle.heap_page_check.specs.declared.verdict.ItemVerdict.TheVariants.{Passes}
 use Rattle.heap_page_check.specs.Broken.{AllPass, HasExternal}
@@ -37,7 +37,7 @@ use Rattle.heap_page_check.proofs.StateLaws.{passes_there, states_are_there}
 use Rattle.heap_table_check.specs.Case.{case_bits, heap_blocks, oid_in, table_of}
 use Rattle.heap_table_check.specs.Found.{IsQuiet, chunks_of}
 use Rattle.rel_files.specs.Blocks.{block_of}
-use Rattle.attach_files.specs.Refusals.{IsNamed}
+use Rattle.rel_files.specs.Refusals.{IsNamed}
 use Rattle.heap_table_check.specs.Files.{IsToastNamed, heap_in}
 use Rattle.heap_table_check.specs.TableFiles.{pages_in}
 use Rattle.heap_rows.specs.declared.row_page.RowPage.{RowPage}

@@ -54,7 +54,7 @@ use Rattle.heap_rows.specs.declared.row_cells.Cell.{Cell}
 use Rattle.heap_rows.specs.declared.rows.LiveRow.{LiveRow}
 use Rattle.heap_rows.specs.RowLaws.{AreAttributesOf, AreCellsOf, AreLiveTuples, IsBefore, IsCellOf, IsLiveAt, IsRowOfTuple, IsWholeRow, RowsAreLive, TidsRise, in_lower_block, in_place, in_same_block, in_toast_table, no_columns, of_missing, of_null, one_more, packed_in_place, packed_in_toast_table, states_at}
 use Rattle.heap_rows.specs.RowValues.{FitTypes}
-use Rattle.heap_item_states.specs.Roots.{root_item}
+use Rattle.heap_rows.specs.Roots.{root_item}
 use Rattle.heap_rows.specs.Rows.{block_rows, cell_of, cells_of, external_cell, heap_page, item_rows, page_rows, row_at, row_by, rows_by_rule, rows_of, toast_bytes}
 use Rattle.heap_rows.proofs.FromFiles.{heap_has_nothing, values_are_whole}
 use Rattle.heap_rows.proofs.RowCells.{cells_of-next, cells_of-none}

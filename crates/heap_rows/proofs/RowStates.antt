@@ -18,8 +18,8 @@ use Rattle.heap_page_check.proofs.QuietLaws.{plain_unchained}
 use Rattle.heap_page_check.specs.Quiet.{IsPlain}
 use Rattle.heap_rows.specs.declared.row_page.RowPage.{RowPage}
 use Rattle.heap_rows.specs.RowPages.{TellsOf, is_live_by}
-use Rattle.heap_item_states.specs.Roots.{AreRoots}
-use Rattle.heap_item_states.specs.Places.{AreInPlace}
+use Rattle.heap_rows.specs.Roots.{AreRoots}
+use Rattle.heap_rows.specs.Places.{AreInPlace}
 
 -- A page on which each item passes
 

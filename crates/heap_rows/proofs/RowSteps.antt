@@ -16,8 +16,8 @@ use Rattle.heap_page_check.specs.Verdicts.{item_verdict}
 use Rattle.heap_page_check.specs.declared.verdict.ItemVerdict.TheVariants.{Passes}
 use Rattle.heap_table_check.specs.Case.{heap_blocks, table_of}
 use Rattle.heap_rows.specs.RowCursor.{rows_ahead, rows_unread}
-use Rattle.heap_item_states.specs.declared.roots.Roots.{Roots}
-use Rattle.heap_item_states.specs.Roots.{AreRoots}
+use Rattle.heap_rows.specs.declared.roots.Roots.{Roots}
+use Rattle.heap_rows.specs.Roots.{AreRoots}
 use Rattle.heap_rows.specs.RowPages.{HasAttributes, IsInHand, IsSamePage, TellsOf, is_live_by, is_live_in, rows_in_hand}
 use Rattle.heap_rows.specs.RowValues.{IsThere}
 use Rattle.heap_rows.proofs.Lists.{each_below-next, each_below-none, each_upto-next, each_upto-none}

@@ -28,7 +28,7 @@ use Rattle.toast_chunks.specs.declared.map.Chunk.{Chunk}
 use Rattle.toast_chunks.specs.declared.rows.ChunkRow.{ChunkRow}
 use Rattle.vis_map.specs.Bits.{no_bits}
 use Rattle.reports.proofs.Parts.{All-upto}
-use Rattle.attach_files.specs.Refusals.{IsNamed, toast_limit}
+use Rattle.rel_files.specs.Refusals.{IsNamed, toast_limit}
 use Rattle.heap_page_check.specs.declared.table.TableKind.{TableKind}
 use Rattle.heap_page_check.specs.declared.table.TableKind.TheVariants as kind
 use Rattle.heap_page_check.specs.declared.verdict.ItemVerdict.{ItemVerdict}

@@ -6,3 +6,5 @@ pub mod RowCursor
 pub mod PageRows
 pub mod LiveRows
 pub mod RowLaws
+pub mod Places
+pub mod Roots

@@ -28,7 +28,7 @@ use Rattle.heap_rows.specs.declared.row_page.RowPage.{RowPage}
 use Rattle.heap_rows.specs.declared.row_values.AskedColumns.{AskedColumns}
 use Rattle.heap_rows.specs.declared.rows.LiveRow.{LiveRow}
 use Rattle.heap_rows.specs.RowFits.{FitColumns}
-use Rattle.heap_item_states.specs.Roots.{AreRoots}
+use Rattle.heap_rows.specs.Roots.{AreRoots}
 use Rattle.heap_rows.specs.RowValues.{FitAsked, IsThere, asked_cell, column_asked, count_asked}
 use Rattle.heap_rows.specs.Rows.{each_from, item_rows, row_at}
 

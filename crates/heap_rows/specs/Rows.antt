@@ -14,7 +14,7 @@ use Rattle.case_file.specs.declared.case.Column.{Column}
 use Rattle.varlena_attrs.specs.Forms.{Attribute, Null, Missing, Plain, Packed, External}
 use Rattle.varlena_attrs.specs.declared.places.ToastPointer.{ToastPointer}
 use Rattle.hot_chains.specs.Chains.{is_live_tuple}
-use Rattle.heap_item_states.specs.Roots.{root_item}
+use Rattle.heap_rows.specs.Roots.{root_item}
 use Rattle.toast_chunks.specs.Pointer.{is_compressed}
 use Rattle.toast_chunks.specs.Value.{joined_bytes}
 use Rattle.toast_chunks.specs.declared.map.Chunk.{Chunk}

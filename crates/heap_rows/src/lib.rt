@@ -2,16 +2,15 @@
 #![tactic(auto)]
 
 mod page_rows;
+mod roots;
 mod row_cells;
 mod row_cursor;
 mod row_laws;
 mod row_page;
 mod row_values;
 mod rows;
+mod states;
 
-pub use heap_page_check::{judge_page, lone_pages_are_judged};
-pub use heap_table_check::{HeapFiles, SoundHeap, check_heap};
-pub use reports::{CheckFault, PageFault, Which};
 pub use row_cells::{Cell, CellRef, Cells};
 pub use row_cursor::{RowCursor, RowPlace};
 pub use row_laws::rows_are_live_tuples;

@@ -19,7 +19,7 @@ ghost use Rattle.heap_rows.specs.RowValues.{AreStarts};
 use crate::row_cursor::RowCursor;
 use crate::row_page::tuple_attributes;
 use crate::row_values::{AskedColumns, start_at};
-use heap_item_states::line_pointer;
+use crate::states::line_pointer;
 use key_orders::{ColType, KeyRefs, MAX_KEY_COLUMNS, ValueRef, value_of};
 use key_storage::{RowValues, StoredRows};
 use outside::NoMemory;

@@ -25,7 +25,7 @@ use case_file::{Case, Column};
 use heap_table_check::{CaseLogs, SoundHeap, heap_rules, toast_table};
 use key_orders::{Tid, ValueRef, value_of};
 use outside::{Files, NoMemory};
-use reports::PageFault;
+use rel_files::PageFault;
 use std::alloc::Global;
 use varlena_attrs::ColumnLayout;
 

@@ -18,8 +18,9 @@ ghost use Rattle.heap_rows.specs.RowPages.{HasAttributes, IsBodyOf};
 ghost use Rattle.heap_rows.specs.RowValues.{AreValuesOf, IsReadableValue};
 ghost use Rattle.heap_rows.specs.Rows.{item_rows};
 
+use crate::roots::Roots;
 use crate::row_values::{RowTuple, RowValues, ValueSources};
-use heap_item_states::{Roots, find_states, line_pointer};
+use crate::states::{find_states, line_pointer};
 use heap_page_check::TableRules;
 use heap_table_check::SoundHeap;
 use heap_tuples::{tuple_columns, tuple_in};
@@ -27,7 +28,7 @@ use key_orders::ColType;
 use liveness::{ItemState, Life};
 use outside::Files;
 use page_layout::{LinePtr, MAX_ITEMS, PageKind, PageView};
-use reports::PageFault;
+use rel_files::PageFault;
 use std::alloc::Global;
 use varlena_attrs::TupleColumns;
 

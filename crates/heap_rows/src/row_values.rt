@@ -22,8 +22,7 @@ ghost use Rattle.heap_rows.specs.RowValues.{cell_shown, column_asked, count_aske
 use case_file::Column;
 use key_orders::ColType;
 use outside::{Files, NoMemory};
-use rel_files::Relation;
-use reports::PageFault;
+use rel_files::{PageFault, Relation};
 use std::alloc::Global;
 use toast_chunks::{ChunkReader, ToastFault, ToastMap, is_compressed, push_value};
 use varlena_attrs::{AttrPlace, ToastPointer, TupleColumns, column_start, pointer_at};

@@ -17,7 +17,7 @@ use case_file::Case;
 use heap_table_check::SoundHeap;
 use key_orders::Tid;
 use outside::{Files, NoMemory};
-use reports::PageFault;
+use rel_files::PageFault;
 use std::alloc::Global;
 
 /// A live tuple of a heap.

@@ -3,8 +3,8 @@ use Rattle.std.proofs.Common.{◌≡◌, ℕ, ◌-◌, ◌/◌, ◌≤◌, Bool,
 use Rattle.std.specs.Prelude.{Option, Some, None, IfSome, map, nat_lt, if◌then◌else◌}
 use Rattle.std.proofs.lemmas.Grind.{common_steps}
 use Rattle.std.proofs.Common.{arith}
-use Rattle.attach_files.proofs.Refusals.{first_is_last, no_blocks}
-use Rattle.attach_files.specs.Refusals.{IsNamed, heap_limit, toast_limit}
+use Rattle.rel_files.proofs.Refusals.{first_is_last, no_blocks}
+use Rattle.rel_files.specs.Refusals.{IsNamed, heap_limit, toast_limit}
 use Rattle.outside.specs.Adds.{each_below}
 use Rattle.outside.specs.Outside.{Names}
 use Rattle.outside.specs.declared.files.Part.TheVariants.{Segment}

@@ -11,7 +11,7 @@ use Rattle.page_layout.specs.declared.rules.Rule.{Rule}
 use Rattle.rel_files.specs.Blocks.{block_of}
 use Rattle.rel_files.specs.Relation.{IsRelationOf, count_of}
 use Rattle.rel_files.specs.declared.relation.Relation.{Relation}
-use Rattle.attach_files.specs.Refusals.{IsNamed, heap_limit}
+use Rattle.rel_files.specs.Refusals.{IsNamed, heap_limit}
 use Rattle.case_file.specs.Record.{CaseRecord}
 use Rattle.heap_targets.specs.Targets.{GrowsByPage, targets_of, targets_on}
 use Rattle.heap_page_check.proofs.PageLaws.{page_is_quiet}

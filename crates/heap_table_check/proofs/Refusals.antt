@@ -1,12 +1,12 @@
 -- A refusal to attach a file is the refusal of the case: the heap's, or else the TOAST table's.
 use Rattle.std.proofs.Common.{◌≡◌, ℕ, List, subst}
 use Rattle.std.specs.Prelude.{Option, None, Err}
-use Rattle.attach_files.proofs.Refusals.{first_tells, second_tells}
-use Rattle.attach_files.specs.Refusals.{TellsRefusal, file_refusal}
+use Rattle.rel_files.proofs.Refusals.{first_tells, second_tells}
+use Rattle.rel_files.specs.Refusals.{TellsRefusal, file_refusal}
 use Rattle.outside.specs.Outside.{Names}
 use Rattle.rel_files.specs.declared.relation.Relation.{Relation}
-use Rattle.reports.specs.declared.fault.CheckFault.{CheckFault}
-use Rattle.reports.specs.declared.fault.Which.TheVariants.{Heap}
+use Rattle.rel_files.specs.declared.check_fault.CheckFault.{CheckFault}
+use Rattle.rel_files.specs.declared.check_fault.Which.TheVariants.{Heap}
 use Rattle.case_file.specs.Record.{CaseRecord}
 use Rattle.heap_table_check.specs.Files.{refusal_of, toast_refusal}
 use Rattle.heap_table_check.specs.declared.files.HeapFiles.{HeapFiles}

@@ -2,7 +2,7 @@
 -- and pages, as the names hold them.
 use Rattle.std.specs.Prelude.{ℕ, List, map, Option, None}
 use Rattle.std.specs.Option.{option_map}
-use Rattle.attach_files.specs.Refusals.{heap_limit, toast_limit}
+use Rattle.rel_files.specs.Refusals.{heap_limit, toast_limit}
 use Rattle.outside.specs.Outside.{Names}
 use Rattle.rel_files.specs.Blocks.{block_of, blocks_of, front_blocks_of, front_long_segment_of, long_segment_of}
 use Rattle.case_file.specs.Record.{CaseRecord}

@@ -1,7 +1,7 @@
 -- Which files of a case are judged, and which case is refused for its files.
 use Rattle.std.specs.Prelude.{◌≡◌, ℕ, Bool, true, false, List, get_or, Option, Some, None, IfSome}
 use Rattle.std.specs.Option.{option_or}
-use Rattle.attach_files.specs.Refusals.{IsNamed, file_refusal, heap_limit, toast_limit}
+use Rattle.rel_files.specs.Refusals.{IsNamed, file_refusal, heap_limit, toast_limit}
 use Rattle.outside.specs.Outside.{Names}
 use Rattle.rel_files.specs.Relation.{FindsFront, IsRelationOf}
 use Rattle.rel_files.specs.declared.relation.Relation.{Relation}
@@ -9,8 +9,8 @@ use Rattle.case_file.specs.Record.{CaseRecord}
 use Rattle.heap_targets.specs.Targets.{targets_of}
 use Rattle.vis_map.specs.Bits.{map_pages_for}
 use Rattle.toast_chunks.specs.declared.map.Chunk.{Chunk}
-use Rattle.reports.specs.declared.fault.CheckFault.{CheckFault}
-use Rattle.reports.specs.declared.fault.Which.TheVariants.{Heap, Toast}
+use Rattle.rel_files.specs.declared.check_fault.CheckFault.{CheckFault}
+use Rattle.rel_files.specs.declared.check_fault.Which.TheVariants.{Heap, Toast}
 use Rattle.heap_page_check.specs.Quiet.{IsPlain}
 use Rattle.heap_table_check.specs.declared.files.HeapFiles.{HeapFiles}
 use Rattle.heap_table_check.specs.declared.files.SoundHeap.{SoundHeap}

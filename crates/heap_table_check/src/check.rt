@@ -1,5 +1,5 @@
 //! Judges a whole case but for its indexes: its visibility map, its heap and its TOAST table.
-ghost use Rattle.std.specs.Prelude.{◌≡◌, ◌↔◌, ◌⊎◌, ℕ, List, None, IfErr, IfOk, IfSome, IsSome, IsTrue, OnOk};
+ghost use Rattle.std.specs.Prelude.{◌≡◌, ◌↔◌, ℕ, List, None, IfOk, IfSome, IsSome, IsTrue, OnOk};
 ghost use Rattle.outside.specs.Adds.{AddsIn};
 ghost use Rattle.outside.specs.Outside.{Asked, IfTold, Names, Tells};
 ghost use Rattle.rel_files.specs.Ahead.{IsAheadOf};
@@ -27,7 +27,8 @@ use heap_page_check::{Found, TableKind, TableRules, ToastTable};
 use liveness::{Memory, Remembering, Transactions};
 use outside::{Files, NoMemory};
 use page_layout::Rule;
-use reports::{CheckFault, PageFault, Place, Rel, Report};
+use rel_files::PageFault;
+use reports::{Place, Rel, Report};
 use std::alloc::Global;
 use toast_chunks::{TOAST_COLUMNS, ToastMap};
 use varlena_attrs::ColumnLayout;
@@ -316,7 +317,7 @@ fn add_found(report: &mut Report, found: Found) -> Result<Option<ToastMap>, NoMe
 /// where nothing was found of all these, the values that stand in the TOAST table (H21).
 ///
 /// The answer is `None` exactly where something was added. `ReadFault` comes only where the count of
-/// the files' faults rose, and `NoFile` and `TooLarge` never. After an error the report has a first
+/// the files' faults rose. After an error the report has a first
 /// part of what it would have got.
 pub fn check_heap<F: Files>(
     alloc: Global,
@@ -324,7 +325,7 @@ pub fn check_heap<F: Files>(
     case: &Case,
     at: HeapFiles,
     report: &mut Report,
-) -> Result<Option<SoundHeap>, CheckFault>
+) -> Result<Option<SoundHeap>, PageFault>
     requires told { IfTold F.seen files.old (λ names. AreFilesOf case.now names at) }
     requires belong { BelongTo case.now at }
     ensures found { IfTold F.seen files.old (λ names.
@@ -334,8 +335,7 @@ pub fn check_heap<F: Files>(
     ensures sound { IfOk result (λ answer. IfSome answer (λ sound.
         IfTold F.seen files.old (λ names. IsSoundHeapOf case.now names sound))) }
     ensures belong { IfOk result (λ answer. IfSome answer (λ sound. BelongTo case.now (files_of sound))) }
-    ensures only { IfErr result (λ e. e ≡ CheckFault.ReadFault ⊎ e ≡ CheckFault.NoMemory) }
-    ensures asked { Asked F.seen files.old files.new result CheckFault.ReadFault }
+    ensures asked { Asked F.seen files.old files.new result PageFault.ReadFault }
 {
     let JudgedFile { found, known } = judge_files(alloc, files, case, &at)?;
     match add_found(report, found)? {

@@ -1,19 +1,17 @@
 //! The files of a table that are judged.
-ghost use Rattle.std.specs.Prelude.{◌≡◌, ◌≤◌, ◌⊎◌, IfErr, IfOk, IfSome, string_bytes};
+ghost use Rattle.std.specs.Prelude.{◌≡◌, ◌≤◌, IfOk, IfSome, string_bytes};
 ghost use Rattle.outside.specs.Outside.{Asked, IfTold, Tells};
 ghost use Rattle.rel_files.specs.Relation.{FindsFront};
 ghost use Rattle.vis_map.specs.Bits.{map_pages_for};
-ghost use Rattle.attach_files.specs.Refusals.{IsNamed, TellsRefusal};
+ghost use Rattle.rel_files.specs.Refusals.{IsNamed, TellsRefusal};
 ghost use Rattle.heap_table_check.specs.Map.{map_name};
 ghost use Rattle.heap_table_check.specs.Files.{IsToastIn, IsToastNamed, toast_refusal};
 
 use crate::known::KnownBlocks;
-use attach_files::attach_file;
 use case_file::Case;
 use heap_targets::RootSet;
 use outside::{Files, NoMemory};
-use rel_files::{AttachFault, Relation};
-use reports::{CheckFault, Which};
+use rel_files::{CheckFault, PageFault, Relation, Which, attach_file};
 use std::alloc::Global;
 use toast_chunks::ToastMap;
 use vis_map::map_pages_for;
@@ -94,22 +92,18 @@ fn attach_map<F: Files>(
     heap: &str,
     segment_blocks: u32,
     blocks: u32,
-) -> Result<Option<Relation>, CheckFault>
+) -> Result<Option<Relation>, PageFault>
     requires some { 1 ≤ segment_blocks }
     requires small { segment_blocks ≤ 131072 }
     ensures named { IfOk result (λ map. IfSome map (IsNamed (map_name heap.now) segment_blocks)) }
     ensures told { Tells F.seen files.old result (λ map names.
         FindsFront names (map_name heap.now) segment_blocks (map_pages_for blocks) map) }
-    ensures only { IfErr result (λ e. e ≡ CheckFault.ReadFault ⊎ e ≡ CheckFault.NoMemory) }
-    ensures asked { Asked F.seen files.old files.new result CheckFault.ReadFault }
+    ensures asked { Asked F.seen files.old files.new result PageFault.ReadFault }
 {
     let name = map_name(alloc, heap)?;
     let limit = map_pages_for(blocks);
-    match Relation::attach_front(alloc, files, name.as_str(), segment_blocks, limit) {
-        Ok(map) => Ok(map),
-        Err(AttachFault::ReadFault) => Err(CheckFault::ReadFault),
-        Err(_) => Err(CheckFault::NoMemory),
-    }
+    let map = Relation::attach_front(alloc, files, name.as_str(), segment_blocks, limit)?;
+    Ok(map)
 }
 
 // Attaches the TOAST table of a case, if it has one.
@@ -139,16 +133,16 @@ fn attach_toast<F: Files>(
 }
 
 impl HeapFiles {
-    ghost use Rattle.attach_files.specs.Refusals.{TellsRefusal};
+    ghost use Rattle.rel_files.specs.Refusals.{TellsRefusal};
     ghost use Rattle.heap_table_check.specs.Files.{AreFilesOf, BelongTo, refusal_of};
 
     /// Attaches the files of a case's table: its heap, its visibility map (the heap's name with `_vm`
     /// added), and its TOAST table, in this order.
     ///
     /// `NoFile` comes exactly where the first segment of the heap, or else of the TOAST table, isn't
-    /// there, and `TooLarge` exactly where it has more than 16384 blocks, with the count at the first
-    /// segment where it does. The map gives neither: where it isn't there it says nothing.
-    /// `ReadFault` comes only where the count of the files' faults rose.
+    /// there, and `TooLarge` exactly where the heap has more than 4194304 blocks or the TOAST table more
+    /// than 1048576, with the count at the first segment where it does. The map gives neither: where it
+    /// isn't there it says nothing. `ReadFault` comes only where the count of the files' faults rose.
     pub fn attach<F: Files>(
         alloc: Global,
         files: &mut F,

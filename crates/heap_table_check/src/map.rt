@@ -11,8 +11,8 @@ ghost use Rattle.heap_table_check.specs.Map.{bits_seen, map_block_found, map_blo
 
 use outside::{Files, NoMemory};
 use page_layout::{PageKind, PageView, Rule};
-use rel_files::{ReadFault, Relation};
-use reports::{PageFault, Place, Rel, Report};
+use rel_files::{PageFault, ReadFault, Relation};
+use reports::{Place, Rel, Report};
 use vis_map::{MapBits, bits_in, map_page_of};
 
 /// The page of the map that is in hand, so that none is read twice in a row.

@@ -17,8 +17,8 @@ use heap_page_check::{Found, PageInHand, TableKind, TableRules, Work, judge_tabl
 use liveness::Transactions;
 use outside::NoMemory;
 use page_layout::{PageView, Rule};
-use rel_files::{Ahead, Relation};
-use reports::{PageFault, Place};
+use rel_files::{Ahead, PageFault, Relation};
+use reports::Place;
 use std::alloc::Global;
 
 /// The file of a table, with the visibility map of its blocks, where it has one.

@@ -9,7 +9,8 @@ use Rattle.std.proofs.lemmas.Nat.Bits.{bit_at-zero}
 use Rattle.std.proofs.Math.Seq.{get_or-append_seam}
 use Rattle.key_orders.specs.declared.Tid.{Tid}
 use Rattle.page_layout.specs.Page.{count_of}
-use Rattle.heap_targets.specs.Packed.{AreSameStarts, IsPacked, blocks_of, count_in, end_of, is_set, values_between, values_in}
+use Rattle.page_layout.specs.Bits.{is_set}
+use Rattle.heap_targets.specs.Packed.{AreSameStarts, IsPacked, blocks_of, count_in, end_of, values_between, values_in}
 use Rattle.heap_targets.specs.Targets.{is_in, is_target, targets_on, values_of}
 
 -- lists by functions that agree place by place

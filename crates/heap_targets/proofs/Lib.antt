@@ -1,4 +1,3 @@
-pub mod OneBit
 pub mod Tuples
 pub mod Blocks
 pub mod Filled

@@ -1,13 +1,9 @@
 -- How a set is kept: the truth values of all items side by side as bits, block after block, and where those of each
--- block begin. Places of bits count from 0, in each byte from the lowest bit up.
+-- block begin.
 use Rattle.std.specs.Prelude.{◌≡◌, ℕ, ◌+◌, ◌-◌, ◌*◌, ◌/◌, ◌%◌, ◌^◌, ◌<◌, ◌≤◌, Bool, false, ◌==◌}
 use Rattle.std.specs.Prelude.{List, get_or, length, map}
-use Rattle.std.specs.Int.{bit_at}
 use Rattle.std.specs.List.{range_with_len}
-
--- the bit at a place; past the bytes' end none is set
-unfoldable pub is_set : List ℕ → ℕ → Bool
-is_set bits place = bit_at (get_or bits (place / 8) 0) (place % 8) == 1
+use Rattle.page_layout.specs.Bits.{is_set}
 
 -- the bits from one place to before another
 abbrev pub values_between : List ℕ → ℕ → ℕ → List Bool

@@ -6,7 +6,6 @@
 //! Layout", and the server's `src/backend/access/heap/README.HOT`.
 #![tactic(auto)]
 
-mod bits;
 mod items;
 mod laws;
 mod set;

@@ -6,10 +6,10 @@ ghost use Rattle.page_layout.specs.View.{page_bytes};
 ghost use Rattle.heap_targets.specs.Packed.{AreSameStarts, IsPacked, blocks_of, count_in, end_of};
 ghost use Rattle.heap_targets.specs.Targets.{is_in, targets_on};
 
-use crate::bits::{is_set, make_room, set_targets};
+use crate::items::set_targets;
 use key_orders::Tid;
 use outside::NoMemory;
-use page_layout::PageView;
+use page_layout::{PageView, is_set, make_room};
 use std::alloc::Global;
 use std::marker::Model;
 

@@ -7,10 +7,10 @@ ghost use Rattle.bt_image.specs.Image.{first_data};
 ghost use Rattle.join_distinct.specs.Items.{RisesTo};
 
 use key_attrs::{IndexColumns, plain_first_value};
-use key_prefixes::key_prefix;
+use key_orders::key_prefix;
 
 /// How the keys of a leaf stand to each other so far, item by item, as the numbers of their first values tell it
-/// ([`key_prefix`](key_prefixes::key_prefix)): where a number is greater than another, the keys differ.
+/// ([`key_prefix`](key_orders::key_prefix)): where a number is greater than another, the keys differ.
 #[derive(Clone, Copy)]
 pub enum Rise {
     /// No data item was taken yet.

@@ -23,8 +23,8 @@ use join_distinct::Rise;
 use join_meet::meet_page;
 use join_slots::RowSlots;
 use outside::{Files, NoMemory};
-use rel_files::Ahead;
-use reports::{PageFault, Report};
+use rel_files::{Ahead, PageFault};
+use reports::Report;
 
 // What is in hand while leaves are gone over: blocks that were read together, and what was seen of entries.
 #[derive(Drop)]

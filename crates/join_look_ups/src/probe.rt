@@ -1,5 +1,5 @@
 //! The rows of a heap looked up in an index of it, one after another.
-ghost use Rattle.std.specs.Prelude.{◌≡◌, ◌⊎◌, ◌≤◌, ◌+◌, ◌*◌, IfErr, OnOk, length};
+ghost use Rattle.std.specs.Prelude.{◌≡◌, ◌≤◌, ◌+◌, ◌*◌, OnOk, length};
 ghost use Rattle.outside.specs.Adds.{AddsIn};
 ghost use Rattle.outside.specs.Outside.{Asked, IfTold};
 ghost use Rattle.reports.specs.Added.{report_lists};
@@ -18,7 +18,8 @@ use heap_rows::RowCursor;
 use join_row_keys::{IndexedHeap, KeyedHeap, columns_of};
 use join_slots::RowSlots;
 use outside::Files;
-use reports::{CheckFault, PageFault, Report};
+use rel_files::PageFault;
+use reports::Report;
 use std::alloc::Global;
 
 // Looks up the rows of a heap one after another.
@@ -66,7 +67,7 @@ fn probe_in_turn<F: Files>(
 /// `right_halves` + `half_dead` of the index; and where the index includes columns, one more for the values that it
 /// includes.
 ///
-/// `ReadFault` comes only where the count of the files' faults rose, and `NoFile` and `TooLarge` never. After an error
+/// `ReadFault` comes only where the count of the files' faults rose. After an error
 /// the report has a first part of what it would have got.
 pub fn probe_rows<F: Files>(
     alloc: Global,
@@ -74,7 +75,7 @@ pub fn probe_rows<F: Files>(
     at: IndexedHeap<'_>,
     look_ups: &mut LookUps,
     report: &mut Report,
-) -> Result<(), CheckFault>
+) -> Result<(), PageFault>
     requires belong { BelongTogether at.case.now at.heap.now at.tree.now }
     requires hold { IfTold F.seen files.old (λ names. HoldTogether names at.case.now at.heap.now at.tree.now) }
     requires of { IfTold F.seen files.old (λ names. AreOf names at.tree.now look_ups.old) }
@@ -87,8 +88,7 @@ pub fn probe_rows<F: Files>(
         ≤ look_ups.old.visits.count
         + length (rows_of at.entry.case.now names) * most_visits at.entry.tree.now)) }
     ensures of { IfTold F.seen files.old (λ names. AreOf names at.entry.tree.now look_ups.new) }
-    ensures only { IfErr result (λ e. e ≡ CheckFault.ReadFault ⊎ e ≡ CheckFault.NoMemory) }
-    ensures asked { Asked F.seen files.old files.new result CheckFault.ReadFault }
+    ensures asked { Asked F.seen files.old files.new result PageFault.ReadFault }
 {
     ways_are_short();
     probe_in_turn(alloc, files, at, look_ups, report)?;

@@ -28,8 +28,8 @@ use key_orders::{KeyRefs, MoreRefs, Tid};
 use key_storage::RowValues;
 use outside::{Files, NoMemory};
 use page_layout::{MAX_ITEMS, Rule};
-use rel_files::ReadFault;
-use reports::{PageFault, Place, Reason, Report};
+use rel_files::{PageFault, ReadFault};
+use reports::{Place, Reason, Report};
 
 /// An index for which rows are judged, and rows that are kept for it, of which it is known whether an entry met them.
 #[derive(Clone, Copy)]

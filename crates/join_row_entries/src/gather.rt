@@ -20,13 +20,15 @@ use crate::reader::RowReader;
 use crate::roots::TakenRoots;
 use bt_build::EntryList;
 use case_file::Case;
-use heap_rows::{RowCursor, RowPlace, SoundHeap, rows_are_live_tuples};
+use heap_rows::{RowCursor, RowPlace, rows_are_live_tuples};
+use heap_table_check::SoundHeap;
 use join_row_keys::columns_of;
 use key_orders::{KeyRefs, MoreRefs, Tid};
 use key_storage::RowValues;
 use outside::{Files, NoMemory};
 use page_layout::MAX_ITEMS;
-use reports::{PageFault, Place, Reason, Report};
+use rel_files::PageFault;
+use reports::{Place, Reason, Report};
 use std::alloc::Global;
 
 /// The entries of a heap's live rows in an index, or what is in doubt of them.

@@ -5,7 +5,7 @@ use Rattle.std.proofs.lemmas.Bool.{cases_lt, le-leb, leb-true, eq-eqb, eqb-true,
 use Rattle.std.proofs.lemmas.List.{get_or-replicate, get_or_append_left, get_or-append-add, get_or_past, length-append, length-replicate}
 use Rattle.std.proofs.Math.Seq.{get_or-append_seam}
 use Rattle.key_orders.specs.declared.Tid.{Tid}
-use Rattle.heap_targets.specs.Packed.{is_set}
+use Rattle.page_layout.specs.Bits.{is_set}
 use Rattle.join_slots.specs.Slots.{AddsBlock, AreBits, AreKept, AreStarts, HasBlock, Tables, is_item_of, is_within, key_of, keys_of, mets_of, slot_of}
 use Rattle.join_slots.proofs.SlotLaws.{Within, both, is_within_tells, within_is}
 

@@ -4,7 +4,7 @@ use Rattle.std.specs.Prelude.{cond, ◌&&◌, ◌||◌, ◌==◌, nat_le, nat_lt
 use Rattle.std.proofs.lemmas.Bool.{and_left, and_right, cases_lt, cases_eq, le-leb, le-ltb, lt-leb, lt-ltb, leb-true, eq-eqb, eqb-true, ne_eqb}
 use Rattle.key_orders.specs.declared.Tid.{Tid}
 use Rattle.key_orders.specs.declared.columns.Value.{Value}
-use Rattle.heap_targets.specs.Packed.{is_set}
+use Rattle.page_layout.specs.Bits.{is_set}
 use Rattle.join_slots.specs.Met.{Keys, Mets, keyed, is_key, meets, met_by, same_tid}
 use Rattle.join_slots.specs.Slots.{AreBits, AreStarts, start_of, next_of, is_within, slot_of, found_slot, key_of, keys_of, mets_of}
 

@@ -4,7 +4,7 @@ use Rattle.std.specs.Prelude.{cond, ◌==◌, nat_le, None, slice_set}
 use Rattle.std.proofs.lemmas.Bool.{and_left, and_right, le-ltb}
 use Rattle.std.proofs.lemmas.Nat.Bits.{bit_at-zero}
 use Rattle.key_orders.specs.declared.Tid.{Tid}
-use Rattle.heap_targets.specs.Packed.{is_set}
+use Rattle.page_layout.specs.Bits.{is_set}
 use Rattle.join_slots.specs.Slots.{AreBits, AreKept, AreStarts, IsBegun, is_within, key_of, keys_of, mets_of, slot_of}
 use Rattle.join_slots.proofs.BlockLaws.{tables}
 

@@ -4,7 +4,7 @@ use Rattle.std.specs.Prelude.{cond, ◌&&◌, ◌≢◌, Option, Some, None, ◌
 use Rattle.std.proofs.lemmas.Bool.{eq-eqb, ne_eqb}
 use Rattle.key_orders.specs.declared.Tid.{Tid}
 use Rattle.key_orders.specs.declared.columns.Value.{Value}
-use Rattle.heap_targets.specs.Packed.{is_set}
+use Rattle.page_layout.specs.Bits.{is_set}
 use Rattle.key_storage.specs.Stored.{key_read, values_read}
 use Rattle.key_storage.proofs.SameLaws.{keys_decide}
 use Rattle.join_slots.specs.Met.{is_key}

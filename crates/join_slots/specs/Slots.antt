@@ -9,7 +9,7 @@ use Rattle.key_orders.specs.declared.Tid.{Tid}
 use Rattle.key_orders.specs.declared.columns.Value.{Value}
 use Rattle.key_storage.specs.RowLists.{LiesAt, NUMBERS, number_bytes}
 use Rattle.key_storage.specs.Stored.{IsStorable, key_read, stored_value}
-use Rattle.heap_targets.specs.Packed.{is_set}
+use Rattle.page_layout.specs.Bits.{is_set}
 use Rattle.join_slots.specs.declared.slots.BegunRow.{BegunRow}
 use Rattle.join_slots.specs.Met.{Keys, Mets, same_tid}
 

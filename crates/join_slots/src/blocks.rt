@@ -2,11 +2,11 @@
 ghost use Rattle.std.specs.Prelude.{◌≡◌, ◌+◌, ◌-◌, ◌∷◌, ◌++◌, ◌<◌, ◌||◌, [], ℕ, List, length};
 ghost use Rattle.std.specs.Prelude.{OnErr, OnOk, vec_capacity, vec_len};
 ghost use Rattle.key_orders.specs.declared.Tid.{Tid as Place};
-ghost use Rattle.heap_targets.specs.Packed.{is_set};
+ghost use Rattle.page_layout.specs.Bits.{is_set};
 ghost use Rattle.join_slots.specs.Slots.{AddsBlock, AreBits, AreStarts};
 
-use crate::bits::make_room;
 use outside::NoMemory;
+use page_layout::make_room;
 
 // Adds an item where there is room, which takes no memory.
 fn push_in_room(items: &mut Vec<u32>, item: u32)

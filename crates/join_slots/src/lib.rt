@@ -2,7 +2,6 @@
 //! these come.
 #![tactic(auto)]
 
-mod bits;
 mod block_rows;
 mod blocks;
 mod laws;

@@ -1,5 +1,5 @@
 //! The slots of a range of heap blocks.
-ghost use Rattle.std.specs.Prelude.{◌≡◌, ◌≢◌, ◌∷◌, ◌++◌, ◌-◌, ◌&&◌, [], ℕ, List, None, Some, false, length};
+ghost use Rattle.std.specs.Prelude.{◌≡◌, ◌≢◌, ◌∷◌, ◌++◌, ◌-◌, ◌*◌, ◌≤◌, ◌&&◌, [], ℕ, List, None, Some, false, length};
 ghost use Rattle.std.specs.Prelude.{nat_le, nat_lt, true};
 ghost use Rattle.std.specs.Prelude.{IfOk, IfSome, OnErr, OnOk};
 ghost use Rattle.std.specs.Bool.{OnFalse, OnTrue};
@@ -12,11 +12,10 @@ ghost use Rattle.key_storage.specs.Stored.{shown_bytes};
 ghost use Rattle.key_attrs.specs.Columns.{tree_columns};
 ghost use Rattle.join_slots.specs.Met.{keyed, met_by};
 ghost use Rattle.join_slots.specs.declared.slots.BegunRow.{BegunRow as Row};
-ghost use Rattle.join_slots.specs.Slots.{AreAllMet, HasBlock, IsBegun, IsBegunRow, IsWrittenRow, SameRange};
+ghost use Rattle.join_slots.specs.Slots.{AreAllMet, AreAllSet, HasBlock, IsBegun, IsBegunRow, IsWrittenRow, SameRange};
 ghost use Rattle.join_slots.specs.Slots.{blocks_in, has_in, is_item_of, keys_in, keys_with, keys_with_rows, met_in};
 ghost use Rattle.join_slots.specs.Told.{TellsKey};
 
-use crate::bits::are_all_set;
 use crate::block_rows::{are_free, block_slots, keep_in};
 use crate::blocks::add_block_in;
 use crate::slots::{
@@ -27,7 +26,22 @@ use key_attrs::IndexColumns;
 use key_orders::{Tid, ValueRef};
 use key_storage::{LONGEST_VALUE, RowValues, StoredRows, push_value};
 use outside::NoMemory;
+use page_layout::is_set;
 use std::alloc::Global;
+
+// Whether the bits of all places that have a number are set.
+fn are_all_set(numbers: &[u32], bits: &[u8]) -> bool
+    requires { length numbers.now ≤ 8 * length bits.now }
+    ensures { OnTrue result (AreAllSet numbers.now bits.now (length numbers.now)) }
+{
+    for k in 0..numbers.len() {
+        if numbers[k] != 0 && !is_set(bits, k) {
+            return false;
+        }
+    }
+    true
+}
+
 use std::marker::Model;
 
 /// The rows of a range of heap blocks, each by the line pointer at which it is rooted, with its key and with whether an

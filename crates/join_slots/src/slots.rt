@@ -11,11 +11,11 @@ ghost use Rattle.join_slots.specs.Met.{is_key, keyed, met_by};
 ghost use Rattle.join_slots.specs.Slots.{AreBits, AreStarts, found_slot, key_of, keys_of, mets_of};
 ghost use Rattle.join_slots.specs.Told.{TellsKey};
 
-use crate::bits::{is_set, set_bit};
 use key_attrs::{IndexColumns, has_stored_key};
 use key_orders::Tid;
 use key_storage::{NUMBERS, RowValues, is_number, is_stored};
 use outside::NoMemory;
+use page_layout::{is_set, set_bit};
 
 /// Which rows are kept, and their keys.
 #[derive(Clone, Copy)]

@@ -10,7 +10,7 @@ use Rattle.key_orders.specs.declared.columns.Value.{Value}
 use Rattle.key_orders.specs.declared.Tid.{Tid}
 use Rattle.key_storage.specs.Same.{same_key}
 use Rattle.key_storage.specs.Stored.{key_read}
-use Rattle.heap_targets.specs.Packed.{is_set}
+use Rattle.page_layout.specs.Bits.{is_set}
 use Rattle.bt_levels.specs.Sound.{index_columns}
 use Rattle.rel_files.specs.Relation.{count_of}
 use Rattle.laws_search.specs.Keys.{Entry}

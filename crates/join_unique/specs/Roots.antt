@@ -1,7 +1,7 @@
 -- Which line pointers of a heap may be the root of a live row: a bit for each, 320 a block.
 use Rattle.std.specs.Prelude.{ℕ, ◌+◌, ◌*◌, ◌/◌, ◌%◌, Bool, ◌||◌, nat_le, List, length}
 use Rattle.key_orders.specs.declared.Tid.{Tid}
-use Rattle.heap_targets.specs.Packed.{is_set}
+use Rattle.page_layout.specs.Bits.{is_set}
 use Rattle.join_unique.specs.declared.roots.Roots.{Roots}
 
 -- the place of a line pointer's bit. Those of a page with more than 320 share bits

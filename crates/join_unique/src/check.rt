@@ -28,7 +28,8 @@ use join_row_keys::{IndexedHeap, KeyedHeap, columns_of};
 use key_orders::{Scan, Tid, key_orders_are_total};
 use outside::{Files, NoMemory};
 use page_layout::Rule;
-use reports::{PageFault, Place, Report};
+use rel_files::PageFault;
+use reports::{Place, Report};
 use std::alloc::Global;
 
 // Whether an index of a case is unique, and how it takes nulls.

@@ -25,7 +25,7 @@ use join_row_keys::KeyedHeap;
 use key_orders::{KeyRefs, Scan, Tid, ValueRef};
 use outside::{Files, NoMemory};
 use page_layout::{MAX_ITEMS, PageView};
-use reports::PageFault;
+use rel_files::PageFault;
 
 /// A unique index and its heap, which line pointers of that may be the root of a live row, and the scan that goes over
 /// the index.

@@ -2,7 +2,6 @@
 //! stand side by side, and where two of them may be of live rows, the rows are looked at.
 #![tactic(auto)]
 
-mod bits;
 mod check;
 mod group;
 mod grouping;

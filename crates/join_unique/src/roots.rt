@@ -3,9 +3,9 @@ ghost use Rattle.std.specs.Prelude.{◌≡◌, ◌+◌, ◌*◌, ◌%◌, ◌==�
 ghost use Rattle.key_orders.specs.declared.Tid.{Tid as Place};
 ghost use Rattle.join_unique.specs.Roots.{may_be, place_of};
 
-use crate::bits::{is_set, set_bit};
 use key_orders::Tid;
 use outside::NoMemory;
+use page_layout::{is_set, set_bit};
 use std::alloc::Global;
 
 // How many bits, and bytes, a block has. A server makes at most 291 line pointers on a heap page.

@@ -1,13 +1,15 @@
-//! Values of columns, and the orders of index keys.
+//! Values of columns, the orders of index keys, and a number for a key's first value that mostly decides.
 #![tactic(auto)]
 
 mod bytewise;
 mod columns;
 mod compare;
+mod eight;
 mod laws;
 mod more;
 mod octets;
 mod orders;
+mod prefixes;
 mod refs;
 mod scans;
 mod separators;
@@ -22,8 +24,11 @@ pub use laws::{
 pub use more::{MAX_MORE_COLUMNS, MoreRefs, MoreSpec};
 pub use octets::Octets;
 pub use orders::{BoolOrder, BytesOrder, IntOrder, KeyOrder, NullPlace, Reversed};
+pub use prefixes::key_prefix;
 pub use refs::{KeyRefs, MAX_KEY_COLUMNS};
-pub use scans::{Scan, ScanFault, before_low, goes_right, matches, past_high, within};
+pub use scans::{
+    Scan, ScanDirection, ScanFault, before_low, goes_right, matches, past_high, within,
+};
 pub use separators::{SepRef, Separator};
 pub use types::{ValueKind, value_of};
 pub use values::fits_type;

@@ -1,3 +1,5 @@
 mod Quiet
 mod Segments
 mod Bytes
+mod Ordered
+mod Entries

@@ -1,4 +1,5 @@
-//! What the check of an index finds in one that was built: nothing.
+//! What the check of an index finds in one that was built: nothing by itself; and beside its table, of whose live rows
+//! it was built, nothing but equal keys.
 //!
 //! The crate has no code. Its functions do nothing; their contracts are the theorems, and a caller has them by
 //! calling.
@@ -9,15 +10,18 @@ ghost use Rattle.outside.specs.Outside.{Names};
 ghost use Rattle.rel_files.specs.Blocks.{long_segment_of};
 ghost use Rattle.case_file.specs.Record.{CaseRecord};
 ghost use Rattle.bt_image.specs.Image.{LeafEntry};
-ghost use Rattle.attach_files.specs.Refusals.{index_limit};
+ghost use Rattle.rel_files.specs.Refusals.{index_limit};
 ghost use Rattle.bt_pages.specs.Broken.{AreEmpty};
 ghost use Rattle.bt_levels.specs.Index.{index_of, tree_lists, tree_of};
 ghost use Rattle.bt_build.specs.Order.{in_order};
 ghost use Rattle.laws_built_index.specs.Files.{AreBlocksOf, IsFileOf};
 ghost use Rattle.laws_built_index.specs.Sizes.{AreIndexable, index_tree};
+ghost use Rattle.laws_built_clean.specs.Remade.{IsClean, IsRemade};
 ghost use Rattle.laws_built_clean.specs.Written.{IsWritten};
 
 use bt_levels::indexes_are_judged;
+use heap_rows::rows_are_live_tuples;
+use join_rules::heaps_and_indexes_are_judged;
 use laws_built_index::{
     built_files_are_sound, built_files_keep_the_rules, index_trees_may_be_laid,
 };
@@ -55,4 +59,14 @@ pub fn written_indexes_are_sound()
     index_trees_may_be_laid();
     built_files_are_sound();
     built_indexes_are_quiet();
+}
+
+/// Nothing is found of an index whose files hold the bytes that are built of the entries of the live rows (`IsRemade`),
+/// by itself, and beside its table nothing but equal keys in a unique index (`IsClean`).
+pub fn remade_indexes_are_clean()
+    ensures { (case : CaseRecord) (names : Names) (n : ℕ) → IsRemade case names n → IsClean case names n }
+{
+    written_indexes_are_sound();
+    rows_are_live_tuples();
+    heaps_and_indexes_are_judged();
 }

@@ -13,12 +13,10 @@ use crate::states::{Doubt, Judged, Life, Status3};
 use crate::transactions::Transactions;
 use multi_members::MultiState;
 use outside::Files;
-use page_layout::Rule;
+use page_layout::{FIRST_NORMAL_XID, Rule};
 use rel_files::{ReadFault, multi_in_range, xid_in_range};
 use tuple_head::HeapHead;
 use xact_status::XidState;
-
-const FIRST_NORMAL_XID: u32 = 3;
 
 // Whether a transaction is one of those that are given out.
 fn is_normal(xid: u32) -> bool

@@ -74,6 +74,21 @@ pub struct LinePtr {
     pub len: u16,
 }
 
+/// Where a page says the end of its line pointers, in bytes from its start (storage/bufpage.h).
+pub const PD_LOWER: usize = 12;
+
+/// Where a page says the end of its free space, in bytes from its start (storage/bufpage.h).
+pub const PD_UPPER: usize = 14;
+
+/// How many bytes the header of a page has (storage/bufpage.h, SizeOfPageHeaderData).
+pub const SIZE_OF_PAGE_HEADER: u16 = 24;
+
+/// How many bytes a page has (the server's BLCKSZ, which may be chosen as it is built: no other is judged).
+pub const PAGE_BYTES: u16 = 8192;
+
+/// The first transaction number that isn't one of the special ones (access/transam.h, FirstNormalTransactionId).
+pub const FIRST_NORMAL_XID: u32 = 3;
+
 /// The most line pointers that a page can have: 8168 bytes behind its header, four for each.
 pub const MAX_ITEMS: u16 = 2042;
 
@@ -123,8 +138,8 @@ impl<'p> PageView<'p> {
             lsn_low: self.u32_at(4),
             checksum: self.u16_at(8),
             flags: self.u16_at(10),
-            lower: self.u16_at(12),
-            upper: self.u16_at(14),
+            lower: self.u16_at(PD_LOWER),
+            upper: self.u16_at(PD_UPPER),
             special: self.u16_at(16),
             version: self.u16_at(18),
             prune_xid: self.u32_at(20),
@@ -136,7 +151,7 @@ impl<'p> PageView<'p> {
     pub fn upper(self) -> u16
         ensures { result ≡ upper_of (page_bytes self.entry) }
     {
-        self.u16_at(14)
+        self.u16_at(PD_UPPER)
     }
 
     /// Whether the page was added to its file and never laid out: its upper place is 0.
@@ -144,7 +159,7 @@ impl<'p> PageView<'p> {
     pub fn is_new(self) -> bool
         ensures { result ≡ is_new (page_bytes self.entry) }
     {
-        self.u16_at(14) == 0
+        self.u16_at(PD_UPPER) == 0
     }
 
     /// The first of the rules P1 to P4 that a page of this kind breaks, or None where it breaks none
@@ -193,8 +208,8 @@ impl<'p> PageView<'p> {
     fn has_good_places(self, kind: PageKind) -> bool
         ensures { result ≡ has_good_places kind (page_bytes self.entry) }
     {
-        let lower = self.u16_at(12);
-        let upper = self.u16_at(14);
+        let lower = self.u16_at(PD_LOWER);
+        let upper = self.u16_at(PD_UPPER);
         let special = self.u16_at(16);
         24 <= lower
             && lower <= upper
@@ -214,7 +229,7 @@ impl<'p> PageView<'p> {
         if self.is_new() {
             return 0;
         }
-        (self.u16_at(12) - 24) / 4
+        (self.u16_at(PD_LOWER) - SIZE_OF_PAGE_HEADER) / 4
     }
 
     /// Line pointer i, counted from 1, of whatever page: nothing is asked of the page's header.

@@ -4,19 +4,10 @@ ghost use Rattle.page_write.specs.Tuples.{index_head_bytes, index_size, kept_tid
 ghost use Rattle.page_write.specs.Tuples.{plain_tuple, tid_mask, tid_room};
 
 use crate::words::{push_block, push_bytes, push_tid, push_u16, push_zeros};
+use bt_meta::{BT_PIVOT_HEAP_TID_ATTR, INDEX_ALT_TID_MASK, INDEX_NULL_MASK, INDEX_VAR_MASK};
 use key_orders::Tid;
 use outside::NoMemory;
 use page_layout::max_align;
-
-// Bits of the info word (access/itup.h), and that of an item number which says that a TID is kept
-// (access/nbtree.h).
-const INDEX_NULL_MASK: u16 = 0x8000;
-
-const INDEX_VAR_MASK: u16 = 0x4000;
-
-pub(crate) const INDEX_ALT_TID_MASK: u16 = 0x2000;
-
-const BT_PIVOT_HEAP_TID_ATTR: u16 = 0x1000;
 
 /// What the head of an index tuple says of the body after it.
 #[derive(Clone, Copy, Debug, PartialEq, Eq)]

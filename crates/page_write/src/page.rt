@@ -4,11 +4,8 @@ ghost use Rattle.page_layout.specs.Page.{max_align};
 ghost use Rattle.page_layout.specs.Writes.{header_bytes, with_bytes};
 ghost use Rattle.page_write.specs.Pages.{header_with, opaque_bytes, pointer_bytes, zeros};
 
-use bt_meta::Opaque;
+use bt_meta::{Opaque, TREE_SPECIAL};
 use page_layout::{PageHeader, max_align, put_header, put_u16, put_u32};
-
-// Where the special space of a tree page begins.
-const TREE_SPECIAL: u16 = 8176;
 
 /// A page that is being laid out, as a server lays one: line pointers grow from the header upward, and the
 /// items' storage from the special space downward, each item at a multiple of 8 (`storage/bufpage.h`,

@@ -2,14 +2,12 @@
 ghost use Rattle.std.specs.Prelude.{◌≡◌, ◌≤◌, ◌++◌, length, OnOk};
 ghost use Rattle.page_write.specs.Posting.{HasListRoom, list_bytes, padded_list, posting_size, posting_tuple};
 
-use crate::index_tuples::{BodyFlags, INDEX_ALT_TID_MASK, index_size, push_body, push_index_head};
+use crate::index_tuples::{BodyFlags, index_size, push_body, push_index_head};
 use crate::words::{push_tid, push_zeros};
+use bt_meta::{BT_IS_POSTING, INDEX_ALT_TID_MASK};
 use key_orders::Tid;
 use outside::NoMemory;
 use page_layout::max_align;
-
-// The bit of an item number that says how many TIDs a tuple has (access/nbtree.h).
-const BT_IS_POSTING: u16 = 0x2000;
 
 // Adds TIDs, one after the other.
 fn push_tids(out: &mut Vec<u8>, tids: &[Tid]) -> Result<(), NoMemory>

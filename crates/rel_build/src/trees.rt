@@ -8,7 +8,7 @@ ghost use Rattle.page_write.specs.Pages.{tree_page};
 ghost use Rattle.page_write.specs.Writing.{HoldsItems, free_bytes};
 
 use crate::rows::{Row, pages_for, part_of};
-use bt_meta::{Meta, Opaque};
+use bt_meta::{BTP_LEAF, BTP_ROOT, Meta, Opaque};
 use key_orders::Tid;
 use outside::NoMemory;
 use page_write::{
@@ -24,11 +24,6 @@ const FIXED_WIDTH: BodyFlags = BodyFlags {
     nulls: false,
     varwidth: false,
 };
-
-// Flags of a tree page (access/nbtree.h).
-const BTP_LEAF: u16 = 1;
-
-const BTP_ROOT: u16 = 2;
 
 // The column that an index is on.
 #[derive(Clone, Copy, Debug, PartialEq, Eq)]

@@ -1,9 +1,10 @@
 //! A relation in segments.
-ghost use Rattle.std.specs.Prelude.{◌≡◌, ◌+◌, ◌*◌, ◌<◌, ◌≤◌, ◌⊎◌, IfErr, IfOk, IfSome, OnOk, drop, length, take};
+ghost use Rattle.std.specs.Prelude.{◌≡◌, ◌+◌, ◌*◌, ◌<◌, ◌≤◌, IfErr, IfOk, IfSome, OnOk, drop, length, take};
 ghost use Rattle.outside.specs.Outside.{AskedAtMost, IfTold, Tells};
 ghost use Rattle.rel_files.specs.Blocks.{block_of};
 ghost use Rattle.rel_files.specs.Faults.{read_fault};
 
+use crate::check_fault::PageFault;
 use crate::fault::{AttachFault, ReadFault};
 use crate::segments::find_last;
 use outside::{FileName, Files, Part};
@@ -77,14 +78,14 @@ impl Relation {
     /// `segment_blocks` and the ranges are those of `attach`.
     ///
     /// `None` comes exactly where segment 0 isn't held, and `ReadFault` only where a segment
-    /// couldn't be asked for. It never answers `NoFile` or `TooLarge`.
+    /// couldn't be asked for.
     pub fn attach_front<F: Files>(
         alloc: Global,
         files: &mut F,
         base: &str,
         segment_blocks: u32,
         limit: u32,
-    ) -> Result<Option<Relation>, AttachFault>
+    ) -> Result<Option<Relation>, PageFault>
         requires some { 1 ≤ segment_blocks }
         requires small { segment_blocks ≤ 131072 }
         requires few { limit ≤ 4194304 }
@@ -93,9 +94,7 @@ impl Relation {
         ensures within { IfOk result (λ front. IfSome front (λ r. count_of r ≤ limit)) }
         ensures told { Tells F.seen files.old result (λ front names.
             FindsFront names base.now segment_blocks limit front) }
-        // Neither NoFile nor TooLarge.
-        ensures refused { IfErr result (λ e. e ≡ AttachFault.ReadFault ⊎ e ≡ AttachFault.NoMemory) }
-        ensures asked { AskedAtMost 0 F.seen files.old files.new result AttachFault.ReadFault }
+        ensures asked { AskedAtMost 0 F.seen files.old files.new result PageFault.ReadFault }
     {
         let reach = limit.saturating_sub(1) / segment_blocks;
         let Some(last) = find_last(files, base, segment_blocks, reach)? else {

@@ -1,4 +1,3 @@
-pub mod Faults
 pub mod Lists
 pub mod Added
 pub mod LongLists

@@ -2,7 +2,6 @@
 //! page.
 #![tactic(auto)]
 
-mod fault;
 mod fields;
 mod ghost_list;
 mod heap_page;
@@ -13,7 +12,6 @@ mod report;
 mod texts;
 mod tree_page;
 
-pub use fault::{CheckFault, PageFault, Which};
 pub use fields::push_tid;
 pub use heap_page::show_heap;
 pub use places::{Finding, Place, Reason, Rel, UnjudgedPlace, Verdict};

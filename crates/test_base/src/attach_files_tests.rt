@@ -1,9 +1,8 @@
 //! A file of one block, one that isn't there, and one whose length can't be asked.
 use crate::checks::same;
-use attach_files::attach_file;
 use memory_files::MemFiles;
 use outside::Part;
-use reports::{CheckFault, Which};
+use rel_files::{CheckFault, Which, attach_file};
 use std::alloc::Global;
 use std::test::Fail;
 

@@ -1,5 +1,5 @@
 //! The tests of the crates that reach files and say what was found: `outside`, `case_file`, `reports` and
-//! `attach_files`.
+//! `rel_files`.
 #![tactic(auto)]
 
 #[cfg(test)]

@@ -5,9 +5,10 @@ ghost use Rattle.heap_table_check.specs.Files.{BelongTo, files_of};
 
 use case_file::Case;
 use copy_out::{copy_rows, row_line};
-use heap_rows::{HeapFiles, LiveRow, LiveRows, SoundHeap, check_heap};
+use heap_check::{HeapFiles, LiveRow, LiveRows, SoundHeap, check_heap};
 use outside::Part;
-use reports::{PageFault, Report};
+use rel_files::PageFault;
+use reports::Report;
 use std::alloc::Global;
 use std::test::Fail;
 use test_fixtures::{HeapHead, UntoldFiles, case_with, heap_page};

@@ -2,9 +2,8 @@
 use crate::checks::{holds, same};
 use key_orders::{
     BoolOrder, BytesOrder, ColType, IntOrder, KeyOrder, KeySpec, MoreRefs, NullPlace, Octets,
-    Reversed, Value, ValueRef, fits_type, value_of,
+    Reversed, Value, ValueRef, fits_type, key_prefix, value_of,
 };
-use key_prefixes::key_prefix;
 use std::cmp::Ordering::{self, Equal, Greater, Less};
 use std::process::Abort;
 use std::test::Fail;

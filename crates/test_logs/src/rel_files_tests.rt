@@ -4,7 +4,7 @@ use crate::logs::{Segment, files_of};
 use crate::quiet_files::QuietFiles;
 use outside::{NoMemory, Part};
 use rel_files::{
-    Ahead, AttachFault, Cluster, ReadFault, Relation, Slru, multi_in_range, xid_in_range,
+    Ahead, AttachFault, Cluster, PageFault, ReadFault, Relation, Slru, multi_in_range, xid_in_range,
 };
 use std::alloc::Global;
 use std::process::Abort;
@@ -172,9 +172,11 @@ fn front(
     limit: u32,
 ) -> Result<Option<Numbers>, AttachFault> {
     assert!(rt; limit <= 4194304);
-    match Relation::attach_front(alloc, files, "r", 2, limit)? {
-        Some(relation) => Ok(numbers(&relation)),
-        None => Ok(None),
+    match Relation::attach_front(alloc, files, "r", 2, limit) {
+        Ok(Some(relation)) => Ok(numbers(&relation)),
+        Ok(None) => Ok(None),
+        Err(PageFault::ReadFault) => Err(AttachFault::ReadFault),
+        Err(PageFault::NoMemory) => Err(AttachFault::NoMemory),
     }
 }
 

@@ -5,7 +5,7 @@ ghost use Rattle.heap_rows.specs.RowCursor.{heap_at};
 
 use crate::sound::sound_heap;
 use case_file::Case;
-use heap_rows::{Cell, LiveRow, LiveRows, RowCursor, RowPlace, SoundHeap};
+use heap_check::{Cell, LiveRow, LiveRows, RowCursor, RowPlace, SoundHeap};
 use key_orders::{Tid, Value};
 use outside::Part;
 use std::alloc::Global;

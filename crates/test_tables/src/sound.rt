@@ -5,7 +5,7 @@ ghost use Rattle.heap_table_check.specs.Files.{BelongTo, files_of};
 
 use bt_levels::{SoundTree, TreeFile, check_tree};
 use case_file::Case;
-use heap_rows::{HeapFiles, SoundHeap, check_heap};
+use heap_check::{HeapFiles, SoundHeap, check_heap};
 use reports::Report;
 use std::alloc::Global;
 use std::test::Fail;

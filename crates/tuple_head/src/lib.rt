@@ -14,14 +14,12 @@ mod masks;
 mod rules;
 
 use key_orders::Tid;
-use page_layout::{block_at, has_bit, u16_at, u32_at};
+pub use masks::HEAP_ONLY;
+use page_layout::{FIRST_NORMAL_XID, block_at, has_bit, u16_at, u32_at};
 pub use rules::kept_rules_place_attributes;
 
 // The transaction that stands for the inserter of a frozen tuple.
 const FROZEN: u32 = 2;
-
-// The first transaction that isn't one of the special ones.
-const FIRST_NORMAL: u32 = 3;
 
 /// The fields of a heap tuple's header (`HeapTupleHeaderData`), as numbers.
 #[derive(Clone, Copy, Debug, PartialEq, Eq)]
@@ -218,7 +216,7 @@ impl HeapHead {
         if self.is_multi() {
             self.xmax != 0
         } else {
-            FIRST_NORMAL <= self.xmax
+            FIRST_NORMAL_XID <= self.xmax
         }
     }
 
@@ -229,6 +227,6 @@ impl HeapHead {
     pub fn needs_freezing(self) -> bool
         ensures { result ≡ needs_freezing self }
     {
-        FIRST_NORMAL <= self.xmin_seen() || self.is_xmax_unfrozen() || self.is_moved()
+        FIRST_NORMAL_XID <= self.xmin_seen() || self.is_xmax_unfrozen() || self.is_moved()
     }
 }

@@ -35,4 +35,5 @@ pub(crate) const NATTS: u16 = 0x07FF;
 
 pub(crate) const HOT_UPDATED: u16 = 0x4000;
 
-pub(crate) const HEAP_ONLY: u16 = 0x8000;
+/// A bit of `t_infomask2`: no index entry names the tuple (HEAP_ONLY_TUPLE).
+pub const HEAP_ONLY: u16 = 0x8000;

@@ -14,11 +14,9 @@ mod piece;
 mod read;
 
 use outside::Files;
+use page_layout::FIRST_NORMAL_XID;
 pub use read::StatesRead;
 use rel_files::{ReadFault, Slru};
-
-/// The first of the ids that transactions are given; those below it are kept for the system.
-const FIRST_NORMAL_XID: u32 = 3;
 
 const XIDS_PER_BYTE: u32 = 4;
 

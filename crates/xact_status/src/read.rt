@@ -2,8 +2,9 @@
 ghost use Rattle.std.specs.Prelude.{◌≡◌, ◌↔◌, ◌/◌, ◌≤◌};
 
 use crate::piece::{Piece, piece_of};
-use crate::{FIRST_NORMAL_XID, XidState, status};
+use crate::{XidState, status};
 use outside::{Files, NoMemory};
+use page_layout::FIRST_NORMAL_XID;
 use rel_files::{ReadFault, Slru};
 use std::alloc::Global;
 

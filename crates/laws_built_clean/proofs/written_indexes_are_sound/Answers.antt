@@ -1,7 +1,7 @@
 use Rattle.std.proofs.Common.{◌≤◌, ◌<◌, ◌∙◌, ℕ, List, arith}
 use Rattle.outside.specs.Outside.{Names}
 use Rattle.case_file.specs.Record.{CaseRecord}
-use Rattle.attach_files.specs.Refusals.{index_limit}
+use Rattle.rel_files.specs.Refusals.{index_limit}
 use Rattle.bt_image.specs.Image.{LeafEntry}
 use Rattle.bt_levels.specs.Index.{index_of, tree_of}
 use Rattle.bt_build.specs.Order.{in_order}

@@ -5,7 +5,7 @@ use Rattle.std.proofs.lemmas.Bool.{both_ways}
 use Rattle.page_layout.specs.Items.{is_misplaced_tree_item}
 use Rattle.bt_meta.specs.Heads.{tree_head_of}
 use Rattle.bt_tuples.specs.Rules.{breaks_place}
-use Rattle.bt_level_pages.proofs.Pages.{down_is, kind_is, tuple_is, upper_is}
+use Rattle.bt_level_step.proofs.Pages.{down_is, kind_is, tuple_is, upper_is}
 use Rattle.bt_level_check.proofs.downlinks.downlink_at.Goals as goal
 
 pub returns-then-is_misplaced_tree_item : goal.returns-then-is_misplaced_tree_item

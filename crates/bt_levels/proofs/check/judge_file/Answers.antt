@@ -3,7 +3,7 @@ use Rattle.outside.specs.Adds.{Begins}
 use Rattle.outside.proofs.Adding.{Adds-exit}
 use Rattle.rel_files.specs.Relation.{IsRelationOf}
 use Rattle.rel_files.specs.declared.relation.Relation.{Relation}
-use Rattle.attach_files.specs.Refusals.{IsNamed, index_limit}
+use Rattle.rel_files.specs.Refusals.{IsNamed, index_limit}
 use Rattle.reports.specs.Added.{joined, report_lists}
 use Rattle.reports.specs.Lists.{Lists}
 use Rattle.bt_pages.specs.Broken.{AreEmpty}

@@ -1,5 +1,5 @@
 use Rattle.rel_files.specs.Blocks.{long_segment_of}
-use Rattle.attach_files.specs.Refusals.{index_limit}
+use Rattle.rel_files.specs.Refusals.{index_limit}
 use Rattle.laws_search.proofs.Whole.{finds}
 use Rattle.laws_levels.proofs.Broken.{silent}
 use Rattle.laws_levels.proofs.Searchable.{searchable}

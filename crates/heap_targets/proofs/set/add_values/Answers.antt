@@ -3,7 +3,8 @@ use Rattle.std.proofs.lemmas.List.{with_items_is}
 use Rattle.std.proofs.lemmas.Result.{err_from_is_err_and}
 use Rattle.page_layout.specs.Page.{count_of}
 use Rattle.page_layout.specs.View.{page_bytes}
-use Rattle.heap_targets.specs.Packed.{end_of, is_set}
+use Rattle.page_layout.specs.Bits.{is_set}
+use Rattle.heap_targets.specs.Packed.{end_of}
 use Rattle.heap_targets.proofs.Blocks.{HasTargets, block_by_page, packed_by_page, same_blocks}
 use Rattle.heap_targets.proofs.set.add_values.Goals as goal
 

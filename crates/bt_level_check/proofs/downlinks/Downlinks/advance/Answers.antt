@@ -1,6 +1,6 @@
 use Rattle.std.proofs.Common.{◌≡◌, ◌<◌, false, ap, sym, subst, ◌∙◌, arith}
 use Rattle.page_layout.specs.Page.{count_of}
-use Rattle.bt_level_pages.specs.Pages.{HasPlainItems}
+use Rattle.bt_level_step.specs.Pages.{HasPlainItems}
 use Rattle.bt_meta.specs.Flags.{is_half_dead}
 use Rattle.bt_meta.specs.Pages.{opaque_of}
 use Rattle.bt_image.specs.Image.{page_image}

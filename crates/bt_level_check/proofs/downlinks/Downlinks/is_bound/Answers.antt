@@ -8,7 +8,7 @@ use Rattle.bt_image.specs.Image.{first_data, item_at}
 use Rattle.bt_image.specs.Pages.{IsPlainItem}
 use Rattle.bt_image.proofs.PageFields.{first_cases}
 use Rattle.bt_level_check.proofs.Hands.{inner, next, separator_is}
-use Rattle.bt_level_pages.proofs.Pages.{pivot_key, spot_inner}
+use Rattle.bt_level_step.proofs.Pages.{pivot_key, spot_inner}
 use Rattle.bt_level_check.proofs.downlinks.Downlinks.is_bound.Goals as goal
 
 pub returns-then-i-first_data : goal.returns-then-i-first_data

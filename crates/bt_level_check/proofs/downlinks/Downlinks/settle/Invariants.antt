@@ -2,7 +2,7 @@ use Rattle.std.proofs.Common.{◌≤◌, ℕ, List, suc}
 use Rattle.outside.specs.Outside.{IfTold, Passed}
 use Rattle.bt_pages.specs.Trees.{tree_seen}
 use Rattle.bt_level_check.specs.Budget.{TakesReads}
-use Rattle.bt_level_pages.specs.Pages.{TreeDownlink}
+use Rattle.bt_level_step.specs.Pages.{TreeDownlink}
 use Rattle.bt_level_check.specs.Downlinks.{AreReadableDownlinks, Reads, turns_of}
 use Rattle.bt_level_check.specs.Sets.{is_in}
 use Rattle.bt_level_check.specs.Trees.{HoldsPages}

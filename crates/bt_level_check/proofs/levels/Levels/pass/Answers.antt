@@ -8,7 +8,7 @@ use Rattle.bt_meta.specs.Flags.{is_half_dead}
 use Rattle.bt_meta.specs.Pages.{opaque_of}
 use Rattle.bt_image.specs.Image.{page_image}
 use Rattle.bt_pages.specs.Trees.{tree_seen}
-use Rattle.bt_level_pages.specs.Pages.{HasPlainItems}
+use Rattle.bt_level_step.specs.Pages.{HasPlainItems}
 use Rattle.bt_level_check.specs.Trees.{HoldsPages, image_of}
 use Rattle.bt_level_check.specs.Walked.{HasMarked, HasRoom, StandsBefore, role_at, tree_of}
 use Rattle.bt_level_check.proofs.Seeing.{seen_plain, seen_whole}

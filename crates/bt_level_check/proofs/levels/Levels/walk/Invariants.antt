@@ -3,7 +3,7 @@ use Rattle.outside.specs.Outside.{IfTold, Passed}
 use Rattle.bt_pages.specs.Trees.{tree_seen}
 use Rattle.bt_level_check.specs.declared.levels.Levels.{Levels}
 use Rattle.bt_level_check.specs.Budget.{TakesReads}
-use Rattle.bt_level_pages.specs.Pages.{TreeDownlink}
+use Rattle.bt_level_step.specs.Pages.{TreeDownlink}
 use Rattle.bt_level_check.specs.Trees.{HoldsPages}
 use Rattle.bt_level_check.specs.UnderWay.{IsSameCourse, IsUnderWay}
 use Rattle.bt_level_check.specs.Walked.{IsReady, IsSameIndex, budget_of, steps_of, tree_of, walks_of}

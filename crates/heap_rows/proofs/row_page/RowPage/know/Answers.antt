@@ -5,8 +5,8 @@ use Rattle.liveness.specs.LogFiles.{log_files_of, logs_of}
 use Rattle.liveness.specs.declared.states.ItemState.{ItemState}
 use Rattle.heap_page_check.specs.States.{AreStatesOf}
 use Rattle.heap_page_check.specs.Table.{logs_in, table_seen, table_with}
-use Rattle.heap_item_states.specs.Roots.{AreRoots}
-use Rattle.heap_item_states.specs.Places.{AreInPlace}
+use Rattle.heap_rows.specs.Roots.{AreRoots}
+use Rattle.heap_rows.specs.Places.{AreInPlace}
 use Rattle.heap_rows.proofs.RowStates.{all_in_place, plain_tells, states_tell}
 use Rattle.heap_rows.proofs.row_page.RowPage.know.Goals as goal
 

@@ -1,5 +1,0 @@
-use Rattle.heap_targets.proofs.OneBit.{set_one}
-use Rattle.join_slots.proofs.bits.set_bit.Goals as goal
-
-pub returns : goal.returns
-returns c = λ p. set_one c.args.bits.now c.args.place p c.requires
