@@ -12,7 +12,10 @@ use Rattle.cmd_answers.specs.Answers.{answer_by, answer_code}
 use Rattle.cmd_answers.specs.declared.output.Unit.{Unit}
 use Rattle.cmd_answers.specs.declared.output.Unit.TheVariants.{Blocks, Bytes, Rows}
 use Rattle.cmd_answers.specs.declared.status.Answer.TheVariants.{BadBound, CaseRefused, KeyTooLarge, NoFile, TooLarge}
-use Rattle.cmd_answers.specs.declared.status.Answer.TheVariants.{NoBlock}
+use Rattle.cmd_answers.specs.declared.status.Answer.TheVariants.{Clean, NoBlock}
+use Rattle.cmd_line.specs.declared.notice.Notice.{Notice}
+use Rattle.cmd_line.specs.declared.notice.Notice.TheVariants.{Help, Version}
+use Rattle.cmd_line.specs.declared.notice.TheConstants.{HELP, VERSION}
 
 -- the bytes and the code that a run owes
 pub record Outcome : Type 0 where
@@ -70,6 +73,12 @@ key_too_large tid = record {
 abbrev pub refused_or : Option Outcome → Outcome → Outcome
 refused_or (Some refusal) owed = refusal
 refused_or None owed = owed
+
+-- What the program says of itself
+
+abbrev pub told : Notice → Outcome
+told Help = record { bytes = HELP.now; code = answer_code Clean }
+told Version = record { bytes = codes "kamzudrev " ++ VERSION.now ++ codes "\n"; code = answer_code Clean }
 
 -- Reports
 

@@ -9,6 +9,8 @@ use Rattle.key_orders.specs.declared.scans.ScanDirection.{ScanDirection}
 use Rattle.cmd_line.specs.Bounds.{bound_written, direction_written}
 use Rattle.cmd_line.specs.Numbers.{u32_written, u64_written}
 use Rattle.cmd_line.specs.declared.bounds.Side.TheVariants.{Low, High}
+use Rattle.cmd_line.specs.declared.notice.Notice.{Notice}
+use Rattle.cmd_line.specs.declared.notice.Notice.TheVariants as notice
 use Rattle.cmd_line.specs.declared.words.Shown.{Shown}
 use Rattle.cmd_line.specs.declared.words.Shown.TheVariants as shown
 
@@ -36,6 +38,13 @@ pub data Form : Type 0 where
   Show : Shown → List ℕ → ℕ → Form
   -- scan CASE NAME LOW HIGH DIR
   Scan : (case name : List ℕ) → Bounds → ScanDirection → Form
+  -- --help, --version
+  Tell : Notice → Form
+
+-- a form that has no words of its own
+abbrev pub alone : Form → List (List ℕ) → Option Form
+alone form [] = Some form
+alone form (word ∷ words) = None
 
 -- one word, which isn't empty
 unfoldable pub name_alone : List (List ℕ) → Option (List ℕ)
@@ -123,6 +132,8 @@ command_form command words =
     else if bytes_eq command (codes "show") then show_form words
     else if bytes_eq command (codes "gen") then generated_form words
     else if bytes_eq command (codes "scan") then scan_form words
+    else if bytes_eq command (codes "--help") then alone (Tell notice.Help) words
+    else if bytes_eq command (codes "--version") then alone (Tell notice.Version) words
     else None
 
 -- words that have none of the forms ask for nothing

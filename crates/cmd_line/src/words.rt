@@ -2,11 +2,13 @@
 ghost use Rattle.std.specs.Prelude.{◌≡◌, map, string_bytes};
 ghost use Rattle.std.specs.Option.{option_copied, option_map};
 ghost use Rattle.cmd_line.specs.Numbers.{u32_written, u64_written};
-ghost use Rattle.cmd_line.specs.Seen.{form_asked};
+ghost use Rattle.cmd_line.specs.Seen.{form_asked, form_seen};
+ghost use Rattle.cmd_line.specs.Words.{alone};
 ghost use Rattle.cmd_line.specs.Words.{case_and_name, command_form, form_of, generated_by, generated_form, name_alone};
 ghost use Rattle.cmd_line.specs.Words.{named_by, page_by, scan_form, show_form, shown_by};
 
 use crate::bounds::{ScanWords, scan_words};
+use crate::notice::Notice;
 use crate::numbers::{u32_written, u64_written};
 
 /// What a page is shown as a page of.
@@ -61,6 +63,18 @@ pub enum Command<'w> {
     },
     /// `scan CASE NAME LOW HIGH DIR`: print the entries of an index of a case between two bounds.
     Scan(ScanWords<'w>),
+    /// `--help`, `--version`: print what the program says of itself.
+    Tell(Notice),
+}
+
+// A command that has no words of its own.
+fn alone<'w>(command: Command<'w>, words: &[String]) -> Option<Command<'w>>
+    ensures { form_asked result ≡ alone (form_seen command.entry) (map string_bytes words.now) }
+{
+    match words {
+        [] => Some(command),
+        _ => None,
+    }
 }
 
 // One word, which isn't empty.
@@ -208,10 +222,16 @@ fn named_command<'w>(command: &str, words: &'w [String]) -> Option<Command<'w>>
     if command == "scan" {
         return scan_command(words);
     }
+    if command == "--help" {
+        return alone(Command::Tell(Notice::Help), words);
+    }
+    if command == "--version" {
+        return alone(Command::Tell(Notice::Version), words);
+    }
     None
 }
 
-/// The form of the words of a command line, which are read literally: no word is an option. None where
+/// The form of the words of a command line, which are read literally: no word is an option of a command. None where
 /// they have none of the forms.
 #[tactic(auto, unfolding(crate::specs::Words::form_of))]
 pub fn command_of(words: &[String]) -> Option<Command<'_>>

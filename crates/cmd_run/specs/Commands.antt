@@ -16,13 +16,13 @@ use Rattle.cmd_run.specs.Generated.{generated_owed}
 use Rattle.cmd_run.specs.Heap.{BreaksHeap, DoubtsHeap, HasTrueHeap, heap_judged}
 use Rattle.cmd_run.specs.Index.{BreaksIndex, DoubtsIndex, HasTrueIndex, index_judged}
 use Rattle.cmd_run.specs.Numbered.{IsBehind}
-use Rattle.cmd_answers.specs.Outcome.{Judged, Meets, Outcome, owed_under, reported_under, usage}
+use Rattle.cmd_answers.specs.Outcome.{Judged, Meets, Outcome, owed_under, reported_under, told, usage}
 use Rattle.cmd_answers.specs.Pages.{BreaksFile, pages_judged}
 use Rattle.cmd_run.specs.Reindex.{reindex_outcome}
 use Rattle.cmd_run.specs.Scan.{scan_outcome}
 use Rattle.cmd_answers.specs.Show.{show_outcome}
 use Rattle.cmd_line.specs.Words.{All as Every, Check, Copy, Form, Generated, Heap, Index, Judge, Pages, Reindex}
-use Rattle.cmd_line.specs.Words.{Scan, Show}
+use Rattle.cmd_line.specs.Words.{Scan, Show, Tell}
 use Rattle.cmd_line.specs.Words.{form_of}
 
 -- what a command that judges finds
@@ -48,6 +48,7 @@ outcome_of (Copy case) names = copy_outcome case names
 outcome_of (Reindex case name) names = reindex_outcome case name names
 outcome_of (Show kind name block) names = show_outcome kind name block (names name (Segment 0))
 outcome_of (Scan case name bounds direction) names = scan_outcome case name bounds direction names
+outcome_of (Tell notice) names = told notice
 
 abbrev pub outcome_by : Option Form → Names → Outcome
 outcome_by None names = usage

@@ -19,7 +19,9 @@ use crate::index::index_output;
 use crate::laws::reports_have_worth;
 use crate::reindex::reindex_output;
 use crate::scan::scan_output;
-use cmd_answers::{Ending, Output, RunFault, Status, pages_output, show_output, write_text};
+use cmd_answers::{
+    Ending, Output, RunFault, Status, notice_output, pages_output, show_output, write_text,
+};
 use cmd_line::{Command, command_of};
 use outside::{Files, Sink};
 use std::alloc::Global;
@@ -49,6 +51,7 @@ fn output_of<F: Files>(
         Command::Show { of, file, block } => show_output(alloc, files, of, file, block),
         Command::Gen { seed, rows } => gen_output(alloc, seed, rows),
         Command::Scan(words) => scan_output(alloc, files, words),
+        Command::Tell(notice) => Ok(notice_output(alloc, notice)?),
     }
 }
 

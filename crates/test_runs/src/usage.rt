@@ -1,5 +1,6 @@
 //! Words, files and cases that are refused; single pages; and calls that fail.
 use crate::expected::{Run, expect, expect_first_put, expect_heap, expect_runs};
+use cmd_line::HELP;
 use memory_files::MemFiles;
 use outside::Part;
 use std::alloc::Global;
@@ -91,7 +92,7 @@ fn a_file_that_is_too_large(rt: HostRuntime) -> Result<(), Fail> {
     expect_runs(&rt, alloc, &mut files, &TOO_LARGE)
 }
 
-const NO_WORDS: [&[&str]; 13] = [
+const NO_WORDS: [&[&str]; 17] = [
     &[],
     &["heap"],
     &["pages", ""],
@@ -105,6 +106,10 @@ const NO_WORDS: [&[&str]; 13] = [
     &["show", "heap", "t", "--help"],
     &["show", "heap", "t"],
     &["show", "heap", "t", "0", "0"],
+    &["--help", "heap"],
+    &["--version", ""],
+    &["-h"],
+    &["help"],
 ];
 
 #[test]
@@ -115,6 +120,20 @@ fn words_are_refused(rt: HostRuntime) -> Result<(), Fail> {
         expect(&rt, alloc, words, &mut files, (3, "refused usage\n"))?;
     }
     Ok(())
+}
+
+#[test]
+fn the_program_says_what_it_is(rt: HostRuntime) -> Result<(), Fail> {
+    let alloc = rt.alloc();
+    let mut files = MemFiles::new(alloc);
+    expect(&rt, alloc, &["--help"], &mut files, (0, HELP))?;
+    expect(
+        &rt,
+        alloc,
+        &["--version"],
+        &mut files,
+        (0, "kamzudrev 0.9\n"),
+    )
 }
 
 #[test]
