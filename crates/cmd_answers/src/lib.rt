@@ -1,5 +1,5 @@
-//! What a run answers and writes: how it ends and what it puts out, the case in a file, the commands `pages` and `show`,
-//! which ask for one file alone, and `--help` and `--version`, which ask for none.
+//! What a run answers and writes: how it ends and what it puts out, the case in a file, the commands `pages` and
+//! `show`, which ask for one file alone, and `--help` and `--version`, which ask for none.
 #![tactic(auto)]
 
 mod blocks;

@@ -16,8 +16,8 @@ use crate::items::{laid_items_mean, laid_separators_mean};
 /// those of its leaves, with their included values.
 ///
 /// - `page`, `page_entries`: a page of it.
-/// - `image`: the whole of it, whoever holds its blocks. With `laws_building` it then has what a search needs, breaks no
-///   rule on levels and has the entries that were given.
+/// - `image`: the whole of it, whoever holds its blocks. With `laws_building` it then has what a search needs, breaks
+///   no rule on levels and has the entries that were given.
 /// - `entries`: the entries by block number.
 pub fn built_bytes_mean()
     ensures page { (specs : List Spec) (more : List More) (p : ItemPage) → IsPageFit specs more p
