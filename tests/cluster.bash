@@ -4,7 +4,7 @@
 # ends. Run as root, the server runs as the user postgres, or as nobody where there is no such user.
 # shellcheck shell=bash disable=SC2154
 export LC_ALL=C
-unset PGHOST PGHOSTADDR PGPORT PGUSER PGDATABASE PGDATA PGOPTIONS PGSERVICE PGCLIENTENCODING PGSSLMODE AMCHECK_CMD
+unset PGHOST PGHOSTADDR PGPORT PGUSER PGDATABASE PGDATA PGOPTIONS PGSERVICE PGCLIENTENCODING PGSSLMODE KAMZUDREV
 passed=0
 failed=0
 
@@ -63,7 +63,7 @@ mkdir "$folder/temporary"
 [ ${#as_server[@]} -eq 0 ] || chown "$user" "$folder"
 cd "$folder" || exit 1
 export TMPDIR=$folder/temporary
-export AMCHECK_CMD=$program
+export KAMZUDREV=$program
 
 die() {
     echo "$1"

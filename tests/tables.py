@@ -201,6 +201,46 @@ def toast():
     return Table({"t": heap, "tt": chunks, "t_vm": bytes(PAGE), **logs()}, case, {})
 
 
+def on_leaves(leaves, separators):
+    """An index of these leaves, each a list of its entries, and the root above them; the values of the separators."""
+    count = len(leaves)
+    pages = []
+    for k, leaf in enumerate(leaves):
+        bound, following = ([], 0) if k == count - 1 else ([separator(separators[k])], k + 2)
+        pages.append(tree_page(bound + leaf, k, following))
+    downlinks = [separator(value, k + 2) for k, value in enumerate(separators)]
+    root = tree_page([first_downlink(1), *downlinks], level=1, flags=2)
+    return metapage(count + 1, 1) + b"".join(pages) + root
+
+
+def rows_far_apart():
+    """210 rows and 70 leaves of three entries: from a row to the next in the heap it is a leaf, round and round."""
+    heap = rows_of([row % 70 * 3 + row // 70 for row in range(210)])
+    leaves = [[entry(3 * k + place, k + 70 * place + 1) for place in range(3)] for k in range(70)]
+    return small(heap, on_leaves(leaves, [int4(3 * k) for k in range(1, 70)]))
+
+
+def five_thousand_rows():
+    """Rows of a number, a text, bytes of a fixed length and a uuid, with an index on the uuid."""
+
+    def uuid(number):
+        return number.to_bytes(16, "big")
+
+    def on_heap(number):
+        name = b"user%d" % number
+        body = struct.pack("<q", number) + bytes([2 * len(name) + 3]) + name
+        body = body.ljust(up8(len(body)), b"\0") + struct.pack("<q", number) + uuid(number)
+        return heap_tuple(body, number % 100 + 1, number // 100, infomask2=4, infomask=0x0902)
+
+    heap = b"".join(page([on_heap(block * 100 + k) for k in range(100)], b"") for block in range(50))
+    entries = [index_tuple(uuid(k), k % 100 + 1, k // 100) for k in range(5000)]
+    leaves = [entries[k : k + 250] for k in range(0, 5000, 250)]
+    case = CASE.format(next_xid=1000, next_multi=10, next_member=100) + column("k", "int8") + column("name", "text")
+    case += column("f", "fixed") + "len = 8\nalign = 8\n" + column("u", "uuid") + index("t_a", "i", "u")
+    tree = on_leaves(leaves, [uuid(k) for k in range(250, 5000, 250)])
+    return Table({"t": heap, "i": tree, **logs()}, case, {"t_a": "i"}, 4)
+
+
 # The table that `gen` builds
 
 

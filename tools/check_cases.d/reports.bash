@@ -124,7 +124,7 @@ tell_counts() {
     for what in "${order[@]}"; do
         case ${what%% *} in
             S1) line='segments' ;;
-            X1 | U6) line='tuples of the blocks' ;;
+            X1 | X3 | U6) line='tuples of the blocks' ;;
             *) line='blocks' ;;
         esac
         put "$text_out" '    %s of %s, %s %s to %s\n' "${counts[$what]}" "$what" "$line" "${lowest[$what]}" \

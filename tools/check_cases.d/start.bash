@@ -13,17 +13,17 @@ who() {
 
 find_program() {
     local candidate
-    for candidate in "${AMCHECK_CMD:-}" "$here/amcheck_cmd" "$here/../crates/amcheck_cmd/out/amcheck_cmd"; do
+    for candidate in "${KAMZUDREV:-}" "$here/kamzudrev" "$here/../crates/amcheck_cmd/out/amcheck_cmd"; do
         if [ -n "$candidate" ]; then
             if [ -f "$candidate" ] && [ -x "$candidate" ]; then
                 take_path "$candidate"
                 program=$path
                 return
             fi
-            [ "$candidate" != "${AMCHECK_CMD:-}" ] || break
+            [ "$candidate" != "${KAMZUDREV:-}" ] || break
         fi
     done
-    refuse "the checker amcheck_cmd is neither beside check_cases nor built in its checkout, nor does AMCHECK_CMD name \
+    refuse "the checker kamzudrev is neither beside check_cases nor built in its checkout, nor does KAMZUDREV name \
 it; what is there must be a program that the user $(who) may run"
 }
 

@@ -28,7 +28,7 @@ checker's command 'all': the table, its visibility map and its TOAST table, and 
                      written anew. '-' is standard output, and the text then goes to standard error
   -P, --progress     shows what is done of all, on standard error, where that is no terminal too
   -q, --quiet        shows nothing of it, and prints nothing where all is clean
-  --version          the version
+  --version          the version of the checker
   -h, --help         this text
 
 Standard output has the tables that aren't clean, with what the checker says of them, and then a summary.
@@ -37,8 +37,8 @@ The status is 0 where all tables are clean, 1 where any has findings, 2 where no
 be judged, and 3 for all else: nothing could be checked, a table was refused and no other has findings or is
 unjudged, or what is told couldn't be written.
 
-The checker is the program amcheck_cmd, in the folder of check_cases or built in its checkout, or the one
-that AMCHECK_CMD names. PG_CONTROLDATA names pg_controldata where it isn't in a usual place.
+The checker is the program kamzudrev, in the folder of check_cases or built in its checkout, or the one
+that KAMZUDREV names. PG_CONTROLDATA names pg_controldata where it isn't in a usual place.
 TEXT
 }
 
@@ -46,7 +46,6 @@ misuse() {
     refuse "$1 (check_cases --help says more)"
 }
 
-version=0.9
 jobs=
 patterns=()
 excluded=()
@@ -65,7 +64,8 @@ take_words() {
                 exit 0
                 ;;
             --version)
-                echo "check_cases of Kamzudrev $version"
+                find_program
+                echo "check_cases of $("$program" --version)"
                 exit 0
                 ;;
             -P | --progress | -q | --quiet)
