@@ -11,9 +11,9 @@ pub check_indexes-requires-clause-hold : goal.check_indexes-requires-clause-hold
 check_indexes-requires-clause-hold g c = λ names told.
     hold-beside (case_seen c.args.table) names (record { case = c.args.table.case; heap = c.in-Some.heap; trees = c.args.trees }) (heap_seen c.args.table) (ap option_copied c.in-Some.is) (c.requires.heap names told) (c.requires.held names told)
 
-pub returns-in-Ok-clause-joint : goal.returns-in-Ok-clause-joint
-returns-in-Ok-clause-joint g c = λ names told.
+pub returns-clause-joint : goal.returns-clause-joint
+returns-clause-joint g c = λ names told.
     let is : heap_seen c.args.table ≡ Some c.in-Some.heap.now = ap option_copied c.in-Some.is in
-    c.in-Ok.ensures.reports names told
+    c.in_ok-reports.ensures.reports names told
     ∙ all-beside (case_seen c.args.table) names c.args.trees.now
     ∙ ap (λ (o : Option SoundHeap). joint_lists (case_seen c.args.table) names (is_some o) (map tree_number c.args.trees.now)) (sym is)
