@@ -137,7 +137,7 @@ includes_is (m ∷ ms) = ap not (ne_eqb (length (m ∷ ms)) 0 (λ h. omega (arit
 
 -- what a read past the end of a list of places would give
 abbrev pub nowhere : Place
-nowhere = record { prefix = 0; at = 0; tid = record { block = 0; item = 0 }; body_length = 0 }
+nowhere = record { prefix = 0; at = 0; block = 0; item = 0; body_length = 0 }
 
 pub drop_entries : (specs : List KeySpec) (arena : List ℕ) (ps : List Place) (n : ℕ) → entries_at specs arena (drop n ps) ≡ drop n (entries_at specs arena ps)
 drop_entries specs arena ps zero = refl

@@ -21,6 +21,7 @@ use Rattle.laws_built_index.specs.Items.{MayBeLaid, entry_types}
 use Rattle.bt_build.specs.declared.entries.Place.{Place}
 use Rattle.bt_build.specs.Kept.{AreKept, HasPrefix, IsKept, entries_at, entry_at, entry_with, listed_in, told_length}
 use Rattle.bt_build.specs.Listed.{AreApart, AreColumns, AreValues, IsNewTid}
+use Rattle.bt_build.specs.Places.{tid_of}
 use Rattle.bt_build.proofs.MayLaws.{may_be_laid}
 
 -- the number of a key, for columns that were lent
@@ -38,7 +39,7 @@ has_prefix lent specs key number same fits is below =
 -- what lies is read as before
 pub same_entry : (specs : List KeySpec) (arena more : List ℕ) (p : Place) → LiesAt arena p.at → entry_at specs (arena ++ more) p ≡ entry_at specs arena p
 same_entry specs arena more p lies =
-    ap (λ key. entry_with (length specs) key p.tid)
+    ap (λ key. entry_with (length specs) key (tid_of p))
     (read_there (arena ++ more) p.at (lies_more arena more p.at lies) ∙ sym (read_there arena p.at lies))
 
 pub same_entries : (specs : List KeySpec) (ms : List MoreSpec) (arena more : List ℕ) (places : List Place) → All (IsKept specs ms arena) places
@@ -64,15 +65,15 @@ all_still specs ms arena more (p ∷ places) kept =
 
 -- the entry that was put
 pub new_entry : (specs : List KeySpec) (arena : List ℕ) (key more : List Value) (p : Place) → p.at ≡ length arena → length key ≡ length specs
-    → All IsStorable (key ++ more) → entry_at specs (arena ++ stored_key (key ++ more)) p ≡ leaf_entry key more p.tid false
+    → All IsStorable (key ++ more) → entry_at specs (arena ++ stored_key (key ++ more)) p ≡ leaf_entry key more (tid_of p) false
 new_entry specs arena key more p at whole storable =
     let stored : List ℕ = stored_key (key ++ more) in
     let there : LiesAt (arena ++ stored) p.at = subst (LiesAt (arena ++ stored)) (sym at) (lies_last arena (key ++ more) storable) in
     let read : key_read (drop p.at (arena ++ stored)) ≡ key ++ more =
     (λ i. key_read (drop (at i) (arena ++ stored))) ∙ read_there (arena ++ stored) (length arena) (lies_last arena (key ++ more) storable) in
-    ap (λ values. entry_with (length specs) values p.tid) read
-    ∙ (λ i. entry_with (sym whole i) (key ++ more) p.tid)
-    ∙ (λ i. leaf_entry (take-append_seam key more i) (drop-append_seam key more i) p.tid false)
+    ap (λ values. entry_with (length specs) values (tid_of p)) read
+    ∙ (λ i. entry_with (sym whole i) (key ++ more) (tid_of p))
+    ∙ (λ i. leaf_entry (take-append_seam key more i) (drop-append_seam key more i) (tid_of p) false)
 
 pub none_kept : (specs own : List KeySpec) (ms own_more : List MoreSpec) (types : List ColType) (arena : List ℕ) (places : List Place)
     → AreColumns specs ms → own ≡ specs → own_more ≡ ms → types ≡ entry_types specs ms → places ≡ [] → AreKept own own_more types arena places
@@ -88,12 +89,12 @@ module _ (specs : List KeySpec) (ms : List MoreSpec) (arena : List ℕ) (places 
   abbrev after : List ℕ
   after = arena ++ stored_key (key ++ more)
 
-  pub entries_more : entries_at specs after (places ++ p ∷ []) ≡ entries_at specs arena places ++ leaf_entry key more p.tid false ∷ []
+  pub entries_more : entries_at specs after (places ++ p ∷ []) ≡ entries_at specs arena places ++ leaf_entry key more (tid_of p) false ∷ []
   entries_more =
       map-append (entry_at specs after) places (p ∷ [])
       ∙ (λ i. same_entries specs ms arena (stored_key (key ++ more)) places kept i ++ new_entry specs arena key more p at whole storable i ∷ [])
 
-  kept_last : HasPrefix specs key p.prefix → p.body_length ≡ told_length specs ms (leaf_entry key more p.tid false) → MayBeLaid specs ms (leaf_entry key more p.tid false)
+  kept_last : HasPrefix specs key p.prefix → p.body_length ≡ told_length specs ms (leaf_entry key more (tid_of p) false) → MayBeLaid specs ms (leaf_entry key more (tid_of p) false)
       → IsKept specs ms after p
   kept_last prefix long may = record {
     lies = subst (LiesAt after) (sym at) (lies_last arena (key ++ more) storable);
@@ -102,7 +103,7 @@ module _ (specs : List KeySpec) (ms : List MoreSpec) (arena : List ℕ) (places 
     laid = subst (MayBeLaid specs ms) (sym (new_entry specs arena key more p at whole storable)) may;
   }
 
-  pub all_kept : HasPrefix specs key p.prefix → p.body_length ≡ told_length specs ms (leaf_entry key more p.tid false) → MayBeLaid specs ms (leaf_entry key more p.tid false)
+  pub all_kept : HasPrefix specs key p.prefix → p.body_length ≡ told_length specs ms (leaf_entry key more (tid_of p) false) → MayBeLaid specs ms (leaf_entry key more (tid_of p) false)
       → All (IsKept specs ms after) (places ++ p ∷ [])
   all_kept prefix long may =
       All-append (IsKept specs ms after) places (p ∷ []) (all_still specs ms arena (stored_key (key ++ more)) places kept)
@@ -110,16 +111,16 @@ module _ (specs : List KeySpec) (ms : List MoreSpec) (arena : List ℕ) (places 
 
 pub kept_more : (specs : List KeySpec) (ms : List MoreSpec) (types : List ColType) (arena : List ℕ) (places : List Place) (key more : List Value) (p : Place)
     → AreKept specs ms types arena places → AreValues (listed_in specs ms arena places) key more → All IsShortEnough key → All IsShortEnough more
-    → IsTid p.tid → p.tid.item ≢ 0 → IsNewTid (listed_in specs ms arena places) p.tid → All IsStorable (key ++ more) → p.at ≡ length arena → HasPrefix specs key p.prefix
-    → p.body_length ≡ told_length specs ms (leaf_entry key more p.tid false) → AreKept specs ms types (arena ++ stored_key (key ++ more)) (places ++ p ∷ [])
+    → IsTid (tid_of p) → (tid_of p).item ≢ 0 → IsNewTid (listed_in specs ms arena places) (tid_of p) → All IsStorable (key ++ more) → p.at ≡ length arena → HasPrefix specs key p.prefix
+    → p.body_length ≡ told_length specs ms (leaf_entry key more (tid_of p) false) → AreKept specs ms types (arena ++ stored_key (key ++ more)) (places ++ p ∷ [])
 kept_more specs ms types arena places key more p kept values short short_more fits some fresh storable at prefix long =
     let whole = values.key_fits.whole in
-    let may = may_be_laid (listed_in specs ms arena places) key more p.tid kept.columns values short short_more fits some in
+    let may = may_be_laid (listed_in specs ms arena places) key more (tid_of p) kept.columns values short short_more fits some in
     record {
       columns = kept.columns;
       types_are = kept.types_are;
       each = all_kept specs ms arena places key more p kept.each at whole storable prefix long may;
       apart =
           subst AreApart (sym (entries_more specs ms arena places key more p kept.each at whole storable))
-          (AreApart.more (entries_at specs arena places) (leaf_entry key more p.tid false) kept.apart fresh);
+          (AreApart.more (entries_at specs arena places) (leaf_entry key more (tid_of p) false) kept.apart fresh);
     }

@@ -16,7 +16,7 @@ use Rattle.laws_built_index.specs.Items.{entry_types, tids_of}
 use Rattle.bt_build.specs.declared.entries.Place.{Place}
 use Rattle.bt_build.specs.Kept.{IsKept, entries_at, entry_at}
 use Rattle.bt_build.specs.Outcome.{is_too_large, large_among, lower_tid, lowest_tid}
-use Rattle.bt_build.specs.Places.{is_large, large_tids}
+use Rattle.bt_build.specs.Places.{is_large, large_tids, tid_of}
 
 -- the place before these
 pub one_before : (ps : List Place) (left : ℕ) (d : Place) → 0 < left → left ≤ length ps → drop (left - 1) ps ≡ get_or ps (left - 1) d ∷ drop left ps
@@ -25,14 +25,14 @@ one_before ps left d some le =
     drop-cons ps (left - 1) d (omega (arith, some, le)) ∙ ap (λ (n : ℕ). get_or ps (left - 1) d ∷ drop n ps) e
 
 tids_by : (p : Place) (qs : List Place) (b : Bool) → is_large p ≡ b
-    → large_tids (p ∷ qs) ≡ map (λ (q : Place). q.tid) (cond b (p ∷ filter is_large qs) (filter is_large qs))
-tids_by p qs b h = ap (λ (c : Bool). map (λ (q : Place). q.tid) (cond c (p ∷ filter is_large qs) (filter is_large qs))) h
+    → large_tids (p ∷ qs) ≡ map tid_of (cond b (p ∷ filter is_large qs) (filter is_large qs))
+tids_by p qs b h = ap (λ (c : Bool). map tid_of (cond c (p ∷ filter is_large qs) (filter is_large qs))) h
 
 module _ (ps : List Place) (left : ℕ) (p : Place) (next : drop (left - 1) ps ≡ p ∷ drop left ps) (b : Bool) (test : b ≡ is_large p)
     (lowest : Option Tid) (so_far : lowest ≡ lowest_tid (large_tids (drop left ps))) where
-  pub large_here : b ≡ true → Some (lower_tid p.tid lowest) ≡ lowest_tid (large_tids (drop (left - 1) ps))
+  pub large_here : b ≡ true → Some (lower_tid (tid_of p) lowest) ≡ lowest_tid (large_tids (drop (left - 1) ps))
   large_here yes_it_is =
-      ap (λ (l : Option Tid). Some (lower_tid p.tid l)) so_far
+      ap (λ (l : Option Tid). Some (lower_tid (tid_of p) l)) so_far
       ∙ sym (ap lowest_tid (tids_by p (drop left ps) true (sym test ∙ yes_it_is)))
       ∙ ap (λ (qs : List Place). lowest_tid (large_tids qs)) (sym next)
 
@@ -85,7 +85,7 @@ module _ (specs : List KeySpec) (ms : List MoreSpec) where
         one_more q qs true a e rest =
             let d = entry_at specs arena q in
             let es = entries_at specs arena qs in
-            tids_by q qs true a ∙ ap (λ (ts : List Tid). q.tid ∷ ts) rest
+            tids_by q qs true a ∙ ap (λ (ts : List Tid). (tid_of q) ∷ ts) rest
             ∙ sym (ap (λ (c : Bool). tids_of (cond c (d ∷ filter (is_too_large specs ms) es) (filter (is_too_large specs ms) es))) e)
         one_more q qs false a e rest =
             let d = entry_at specs arena q in

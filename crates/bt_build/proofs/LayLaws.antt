@@ -14,6 +14,7 @@ use Rattle.bt_build.specs.declared.entries.Place.{Place}
 use Rattle.bt_build.specs.declared.groups.Item.{Item}
 use Rattle.bt_build.specs.Groups.{IsItem, entries_in, size_with}
 use Rattle.bt_build.specs.Kept.{entries_at, entry_at}
+use Rattle.bt_build.specs.Places.{tid_of}
 use Rattle.bt_build.proofs.GroupLaws.{drop_entries, item_length, nowhere}
 
 module _ (specs : List KeySpec) (ms : List MoreSpec) (arena : List ℕ) (places : List Place) (item : Item) (is : IsItem specs ms (entries_at specs arena places) item) where
@@ -60,35 +61,35 @@ module _ (specs : List KeySpec) (ms : List MoreSpec) (arena : List ℕ) (places 
         short_by (suc zero) many = let s = size_is 0 many in let b = ap length body_is in omega (arith, s, b, is.most)
         short_by (suc (suc n)) many = let s = size_is (suc n) many in let b = ap length body_is in omega (arith, s, b, is.most)
 
-    pub lay_one : item.count ≡ 1 → plain_tuple here.tid flags body ≡ leaf_item specs ms (entries_in (entries_at specs arena places) item)
+    pub lay_one : item.count ≡ 1 → plain_tuple (tid_of here) flags body ≡ leaf_item specs ms (entries_in (entries_at specs arena places) item)
     lay_one one =
-        (λ i. plain_tuple here.tid (flags_are i) (body_is i))
+        (λ i. plain_tuple (tid_of here) (flags_are i) (body_is i))
         ∙ (λ i. leaf_item specs ms (take (sym one i) (entry_at specs arena here ∷ entries_at specs arena rest)))
         ∙ ap (leaf_item specs ms) (sym front_entries)
 
-    tids_are : (n : ℕ) (ps : List Place) → map (λ (p : Place). p.tid) (take n ps) ≡ tids_of (take n (entries_at specs arena ps))
+    tids_are : (n : ℕ) (ps : List Place) → map tid_of (take n ps) ≡ tids_of (take n (entries_at specs arena ps))
     tids_are zero ps = refl
     tids_are (suc n) [] = refl
-    tids_are (suc n) (p ∷ ps) = ap (λ (w : List Tid). p.tid ∷ w) (tids_are n ps)
+    tids_are (suc n) (p ∷ ps) = ap (λ (w : List Tid). (tid_of p) ∷ w) (tids_are n ps)
 
     lay_by : (n : ℕ) (p : Place) (ps : List Place) → suc n ≤ length ps
-        → posting_tuple (map (λ (q : Place). q.tid) (take (suc (suc n)) (p ∷ ps))) (body_flags (entry_types specs ms) ((entry_at specs arena p).entry.values ++ (entry_at specs arena p).more))
+        → posting_tuple (map tid_of (take (suc (suc n)) (p ∷ ps))) (body_flags (entry_types specs ms) ((entry_at specs arena p).entry.values ++ (entry_at specs arena p).more))
         (index_body (entry_types specs ms) ((entry_at specs arena p).entry.values ++ (entry_at specs arena p).more))
         ≡ leaf_item specs ms (take (suc (suc n)) (entry_at specs arena p ∷ entries_at specs arena ps))
     lay_by n p [] le = absurd (omega (arith, le))
     lay_by n p (q ∷ ps) le =
-        ap (λ (w : List Tid). posting_tuple (p.tid ∷ q.tid ∷ w) (body_flags (entry_types specs ms) ((entry_at specs arena p).entry.values ++ (entry_at specs arena p).more))
+        ap (λ (w : List Tid). posting_tuple ((tid_of p) ∷ (tid_of q) ∷ w) (body_flags (entry_types specs ms) ((entry_at specs arena p).entry.values ++ (entry_at specs arena p).more))
         (index_body (entry_types specs ms) ((entry_at specs arena p).entry.values ++ (entry_at specs arena p).more))) (tids_are n ps)
 
-    module _ (tids : List Tid) (tids_is : tids ≡ map (λ (p : Place). p.tid) (take item.count (drop item.first places))) (other : item.count ≢ 1) where
-      tids_front : tids ≡ map (λ (p : Place). p.tid) (take item.count (here ∷ rest))
-      tids_front = tids_is ∙ (λ i. map (λ (p : Place). p.tid) (take item.count (front i)))
+    module _ (tids : List Tid) (tids_is : tids ≡ map tid_of (take item.count (drop item.first places))) (other : item.count ≢ 1) where
+      tids_front : tids ≡ map tid_of (take item.count (here ∷ rest))
+      tids_front = tids_is ∙ (λ i. map tid_of (take item.count (front i)))
 
       pub room_laid : HasListRoom (length body) (length tids)
       room_laid = room_by item.count refl
         where
           long : length tids ≡ item.count
-          long = ap length tids_front ∙ length-map (take item.count (here ∷ rest)) (λ (p : Place). p.tid) ∙ length-take-le item.count (here ∷ rest) (omega (arith, long_rest))
+          long = ap length tids_front ∙ length-map (take item.count (here ∷ rest)) tid_of ∙ length-take-le item.count (here ∷ rest) (omega (arith, long_rest))
 
           room_by : (n : ℕ) → item.count ≡ n → HasListRoom (length body) (length tids)
           room_by zero none = absurd (omega (arith, none, is.some))
@@ -103,7 +104,7 @@ module _ (specs : List KeySpec) (ms : List MoreSpec) (arena : List ℕ) (places 
           lay_at (suc zero) one = absurd (other one)
           lay_at (suc (suc n)) many =
               (λ i. posting_tuple (tids_front i) (flags_are i) (body_is i))
-              ∙ (λ i. posting_tuple (map (λ (p : Place). p.tid) (take (many i) (here ∷ rest))) (body_flags (entry_types specs ms) ((entry_at specs arena here).entry.values ++ (entry_at specs arena here).more)) (index_body (entry_types specs ms) ((entry_at specs arena here).entry.values ++ (entry_at specs arena here).more)))
+              ∙ (λ i. posting_tuple (map tid_of (take (many i) (here ∷ rest))) (body_flags (entry_types specs ms) ((entry_at specs arena here).entry.values ++ (entry_at specs arena here).more)) (index_body (entry_types specs ms) ((entry_at specs arena here).entry.values ++ (entry_at specs arena here).more)))
               ∙ lay_by n here rest (omega (arith, long_rest, many))
               ∙ (λ i. leaf_item specs ms (take (sym many i) (entry_at specs arena here ∷ entries_at specs arena rest)))
               ∙ ap (leaf_item specs ms) (sym front_entries)

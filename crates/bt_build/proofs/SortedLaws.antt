@@ -25,7 +25,7 @@ use Rattle.bt_build.specs.declared.entries.Place.{Place}
 use Rattle.bt_build.specs.Kept.{IsKept, entries_at, entry_at}
 use Rattle.bt_build.specs.Listed.{AreApart}
 use Rattle.bt_build.specs.Order.{in_order, is_before}
-use Rattle.bt_build.specs.Places.{first_values, is_below, key_order_at}
+use Rattle.bt_build.specs.Places.{first_values, is_below, key_order_at, tid_of}
 use Rattle.bt_build.proofs.ApartLaws.{KeysSame, KeysTotal, all_differ, at_most_one, has_tid}
 use Rattle.bt_build.proofs.RisingLaws.{AllDiffer, Differ, Has, Rise, has_all, is_in_order, over_all}
 
@@ -78,14 +78,14 @@ below_is specs order ms arena p q a b = go (nat_cmp p.prefix q.prefix) refl
     keys : Ordering
     keys = compare_values (columns_of specs) 0 (entry_at specs arena p).entry.values (entry_at specs arena q).entry.values
 
-    here : ordering_then (key_order_at specs arena p.at q.at) (tid_order p.tid q.tid) ≡ ordering_then keys (tid_order p.tid q.tid)
-    here = λ i. ordering_then (compare_values (columns_of specs) 0 (first_is specs ms arena p a i) (first_is specs ms arena q b i)) (tid_order p.tid q.tid)
+    here : ordering_then (key_order_at specs arena p.at q.at) (tid_order (tid_of p) (tid_of q)) ≡ ordering_then keys (tid_order (tid_of p) (tid_of q))
+    here = λ i. ordering_then (compare_values (columns_of specs) 0 (first_is specs ms arena p a i) (first_is specs ms arena q b i)) (tid_order (tid_of p) (tid_of q))
 
-    by_prefix : (o : Ordering) → nat_cmp p.prefix q.prefix ≡ o → is_below specs arena p q ≡ is_lt (ordering_then o (ordering_then (key_order_at specs arena p.at q.at) (tid_order p.tid q.tid)))
-    by_prefix o is = ap (λ (r : Ordering). is_lt (ordering_then r (ordering_then (key_order_at specs arena p.at q.at) (tid_order p.tid q.tid)))) is
+    by_prefix : (o : Ordering) → nat_cmp p.prefix q.prefix ≡ o → is_below specs arena p q ≡ is_lt (ordering_then o (ordering_then (key_order_at specs arena p.at q.at) (tid_order (tid_of p) (tid_of q))))
+    by_prefix o is = ap (λ (r : Ordering). is_lt (ordering_then r (ordering_then (key_order_at specs arena p.at q.at) (tid_order (tid_of p) (tid_of q))))) is
 
-    by_keys : (o : Ordering) → keys ≡ o → is_before specs (entry_at specs arena p) (entry_at specs arena q) ≡ is_lt (ordering_then o (tid_order p.tid q.tid))
-    by_keys o is = ap (λ (r : Ordering). is_lt (ordering_then r (tid_order p.tid q.tid))) is
+    by_keys : (o : Ordering) → keys ≡ o → is_before specs (entry_at specs arena p) (entry_at specs arena q) ≡ is_lt (ordering_then o (tid_order (tid_of p) (tid_of q)))
+    by_keys o is = ap (λ (r : Ordering). is_lt (ordering_then r (tid_order (tid_of p) (tid_of q)))) is
 
     go : (o : Ordering) → nat_cmp p.prefix q.prefix ≡ o → is_below specs arena p q ≡ is_before specs (entry_at specs arena p) (entry_at specs arena q)
     go Equal is = by_prefix Equal is ∙ ap is_lt here
@@ -94,7 +94,7 @@ below_is specs order ms arena p q a b = go (nat_cmp p.prefix q.prefix) refl
         by_prefix Less is ∙ sym (by_keys Less less)
     go Greater is =
         let less = b.prefix.below (entry_at specs arena p).entry.values p.prefix a.prefix.is (is_greater p.prefix q.prefix is) a.prefix.fits in
-        let after : is_before specs (entry_at specs arena q) (entry_at specs arena p) ≡ true = ap (λ (r : Ordering). is_lt (ordering_then r (tid_order q.tid p.tid))) less in
+        let after : is_before specs (entry_at specs arena q) (entry_at specs arena p) ≡ true = ap (λ (r : Ordering). is_lt (ordering_then r (tid_order (tid_of q) (tid_of p)))) less in
         by_prefix Greater is ∙ sym (not_both specs order (entry_at specs arena p) (entry_at specs arena q) _ refl after)
 
 tail_sorted : (lt : Place → Place → Bool) (p : Place) (ps : List Place) → IsSortedBy lt (p ∷ ps) → IsSortedBy lt ps

@@ -16,13 +16,14 @@ use Rattle.bt_image.specs.Image.{LeafEntry, leaf_entry}
 use Rattle.laws_built_index.specs.Items.{MayBeLaid, entry_types}
 use Rattle.bt_build.specs.declared.entries.Place.{Place}
 use Rattle.bt_build.specs.Listed.{AreApart, AreColumns, Listed}
+use Rattle.bt_build.specs.Places.{tid_of}
 
 -- an entry of these values, of which the first are its key
 abbrev pub entry_with : (columns : ℕ) → List Value → Tid → LeafEntry
 entry_with n values tid = leaf_entry (take n values) (drop n values) tid false
 
 abbrev pub entry_at : List KeySpec → (arena : List ℕ) → Place → LeafEntry
-entry_at specs arena p = entry_with (length specs) (key_read (drop p.at arena)) p.tid
+entry_at specs arena p = entry_with (length specs) (key_read (drop p.at arena)) (tid_of p)
 
 abbrev pub entries_at : List KeySpec → (arena : List ℕ) → List Place → List LeafEntry
 entries_at specs arena places = map (entry_at specs arena) places

@@ -1,6 +1,6 @@
 pub mod Listed
-pub mod Kept
 pub mod Places
+pub mod Kept
 pub mod Order
 pub mod Source
 pub mod Groups

@@ -13,6 +13,10 @@ use Rattle.page_write.specs.Tuples.{index_size}
 use Rattle.key_storage.specs.Stored.{values_read}
 use Rattle.bt_build.specs.declared.entries.Place.{Place}
 
+-- the TID of a place's entry
+abbrev pub tid_of : Place → Tid
+tid_of p = record { block = p.block; item = p.item }
+
 -- the first values at a place, behind the byte that counts them
 abbrev pub first_values : (columns : ℕ) → (arena : List ℕ) → (at : ℕ) → List Value
 first_values n arena at = values_read n (drop (at + 1) arena)
@@ -24,7 +28,7 @@ key_order_at specs arena a b =
 abbrev pub place_order : List KeySpec → (arena : List ℕ) → Place → Place → Ordering
 place_order specs arena p q =
     ordering_then (nat_cmp p.prefix q.prefix)
-    (ordering_then (key_order_at specs arena p.at q.at) (tid_order p.tid q.tid))
+    (ordering_then (key_order_at specs arena p.at q.at) (tid_order (tid_of p) (tid_of q)))
 
 abbrev pub is_below : List KeySpec → (arena : List ℕ) → Place → Place → Bool
 is_below specs arena p q = is_lt (place_order specs arena p q)
@@ -34,4 +38,4 @@ abbrev pub is_large : Place → Bool
 is_large p = nat_lt 2704 (index_size p.body_length)
 
 abbrev pub large_tids : List Place → List Tid
-large_tids places = map (λ p. p.tid) (filter is_large places)
+large_tids places = map tid_of (filter is_large places)

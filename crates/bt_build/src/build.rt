@@ -30,8 +30,8 @@ use std::alloc::Global;
 /// The most blocks that an index may have.
 pub const MAX_BLOCKS: u32 = 65536;
 
-// Places lie at numbers of 32 bits, so that there are never more items.
-const MOST_ITEMS: usize = 0xFFFF_FFFF;
+// Each item takes 16 bytes, so that no memory holds more.
+const MOST_ITEMS: usize = 0x0FFF_FFFF_FFFF_FFFF;
 
 /// The file of an index that was built.
 #[derive(Drop)]

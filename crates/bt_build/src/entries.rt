@@ -1,11 +1,14 @@
 //! The entries of an index that is to be built.
-ghost use Rattle.std.specs.Prelude.{◌≡◌, ◌≢◌, ◌<◌, [], ◌∷◌, ◌++◌, All, IfOk, OnErr, OnOk, false, map, vec_capacity};
+ghost use Rattle.std.specs.Prelude.{◌≡◌, ◌≢◌, ◌<◌, [], ◌∷◌, ◌++◌, All, IfOk, OnErr, OnOk, false, length, map, vec_capacity};
 ghost use Rattle.std.specs.Prelude.{vec_len};
 ghost use Rattle.std.specs.Bool.{OnTrue};
 ghost use Rattle.key_orders.specs.Values.{value_shown};
 ghost use Rattle.key_attrs.specs.Keyed.{key_types, more_types};
+ghost use Rattle.key_storage.specs.Rows.{row_values};
+ghost use Rattle.key_storage.specs.Stored.{IsStorable, stored_key};
 ghost use Rattle.page_write.specs.Bodies.{IsShortEnough};
 ghost use Rattle.bt_image.specs.Image.{leaf_entry};
+ghost use Rattle.bt_build.specs.Places.{tid_of};
 ghost use Rattle.bt_build.specs.Listed.{AreColumns, AreValues, IsNewTid, with_entry};
 ghost use Rattle.bt_build.specs.Outcome.{IsAnswer};
 
@@ -26,13 +29,26 @@ const MOST_BYTES: usize = 1073741820;
 const MOST_LENGTH: usize = 65535;
 
 // Where the values of an entry lie in the arena, a number of its key that rises with keys, its TID, and how many bytes
-// the body of its item has, or 65535 where it has more.
+// the body of its item has, or 65535 where it has more. The parts of the TID stand for themselves, so that a place has
+// 24 bytes.
 #[derive(Clone, Copy, Debug, PartialEq, Eq)]
 pub(crate) struct Place {
     pub(crate) prefix: u64,
-    pub(crate) at: u32,
-    pub(crate) tid: Tid,
+    pub(crate) at: usize,
+    pub(crate) block: u32,
+    pub(crate) item: u16,
     pub(crate) body_length: u16,
+}
+
+impl Place {
+    pub(crate) fn tid(self) -> Tid
+        ensures { result ≡ tid_of self }
+    {
+        Tid {
+            block: self.block,
+            item: self.item,
+        }
+    }
 }
 
 /// The entries of an index that is to be built, in the order in which they were added. Contracts see the columns of the
@@ -43,12 +59,15 @@ pub struct EntryList {
     more: Vec<MoreSpec>,
     types: Vec<ColType>,
     arena: Vec<u8>,
+    // The values of the entry that was added last.
+    row: Vec<u8>,
     places: Vec<Place>,
 }
 
 impl Model for EntryList {
     ghost use Rattle.bt_build.specs.Kept.{AreKept, listed_in};
-    ghost use Rattle.bt_build.specs.Listed.{Listed};
+    ghost use Rattle.bt_build.specs.Places.{tid_of};
+ghost use Rattle.bt_build.specs.Listed.{Listed};
 
     ghost Value = { Listed };
 
@@ -124,6 +143,23 @@ fn push_in_room(places: &mut Vec<Place>, place: Place)
     let _ = places.push(place);
 }
 
+// Adds values behind the others, wherever these end, by way of a buffer. After `NoMemory` the others are as they were.
+fn push_key(
+    arena: &mut Vec<u8>,
+    row: &mut Vec<u8>,
+    values: RowValues<'_>,
+) -> Result<(), NoMemory>
+    requires few { length (row_values values) < 256 }
+    ensures ok { OnOk result (arena.new.items ≡ arena.old.items ++ stored_key (row_values values.entry)) }
+    ensures storable { OnOk result (All IsStorable (row_values values.entry)) }
+    ensures err { OnErr result (arena.new.items ≡ arena.old.items) }
+{
+    row.clear();
+    write_key(row, values)?;
+    arena.extend_from_slice(row)?;
+    Ok(())
+}
+
 impl EntryList {
     /// No entries of an index of these columns: from 1 to 8 of its key, and at most 24 that it includes, each with an
     /// alignment of 1, 2, 4 or 8.
@@ -140,6 +176,7 @@ impl EntryList {
             more,
             types,
             arena: Vec::new(alloc),
+            row: Vec::new(alloc),
             places: Vec::new(alloc),
         })
     }
@@ -161,11 +198,12 @@ impl EntryList {
         let prefix = key_prefix(&self.specs, values.key);
         let whole = index_body_length(&self.types, values.key, values.more);
         self.places.reserve(1)?;
-        write_key(&mut self.arena, values)?;
+        push_key(&mut self.arena, &mut self.row, values)?;
         let place = Place {
             prefix,
-            at: at as u32,
-            tid,
+            at,
+            block: tid.block,
+            item: tid.item,
             body_length: whole.min(MOST_LENGTH) as u16,
         };
         push_in_room(&mut self.places, place);

@@ -2,6 +2,7 @@
 ghost use Rattle.std.specs.Prelude.{◌≡◌, All, OnOk, drop, map, take};
 ghost use Rattle.laws_built_index.specs.Items.{leaf_item};
 ghost use Rattle.bt_build.specs.Groups.{IsItem, entries_in};
+ghost use Rattle.bt_build.specs.Places.{tid_of};
 ghost use Rattle.bt_build.specs.Source.{IsPlaceOf, IsSource, entries_of};
 
 use crate::entries::Place;
@@ -34,11 +35,11 @@ impl<'a> Buffers<'a> {
 
 // Puts the TIDs of places in the place of what the list held.
 fn put_tids(tids: &mut Vec<Tid>, places: &[Place]) -> Result<(), NoMemory>
-    ensures { OnOk result (tids.new.items ≡ map (λ p. p.tid) places.now) }
+    ensures { OnOk result (tids.new.items ≡ map tid_of places.now) }
 {
     tids.clear();
     for i in 0..places.len() {
-        tids.push(places[i].tid)?;
+        tids.push(places[i].tid())?;
     }
     Ok(())
 }
@@ -59,7 +60,7 @@ pub(crate) fn put_item<'a>(
     let place = places[item.first];
     let flags = put_entry_body(source, place, &mut buffers.values, &mut buffers.body)?;
     if item.count == 1 {
-        return put_plain_tuple(&mut buffers.tuple, place.tid, flags, &buffers.body);
+        return put_plain_tuple(&mut buffers.tuple, place.tid(), flags, &buffers.body);
     }
     let (_, later) = places.split_at(item.first);
     let (shared, _) = later.split_at(item.count as usize);

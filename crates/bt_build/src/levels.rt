@@ -22,7 +22,7 @@ const FIRST_DOWNLINK: u16 = 12;
 #[derive(Drop)]
 pub(crate) struct Level {
     // How many levels are below it.
-    pub(crate) number: u32,
+    pub(crate) number: u64,
     // The block of its first page.
     pub(crate) first: u64,
     // Of each page, the first entry below it.
@@ -121,7 +121,7 @@ fn level_above<'a>(
     buffers: &mut Buffers<'a>,
 ) -> Result<Level, NoMemory>
     requires sorted { AreSorted sorted }
-    requires number { below.now.number < 4294967295 }
+    requires number { below.now.number < 2 ^ 63 }
     requires blocks { below.now.first + length below.now.bounds.items < 2 ^ 64 }
     ensures { IfOk result (IsLevelAbove sorted.entry.source.specs.now (entries_sorted sorted.entry) below.now) }
 {
@@ -145,7 +145,7 @@ pub(crate) fn levels_over<'a>(
 ) -> Result<Levels, NoMemory>
     requires sorted { AreSorted sorted }
     requires small { All (λ item. item.size ≤ 2704) items.now }
-    requires few { length items.now < 4294967296 }
+    requires few { length items.now < 2 ^ 60 }
     ensures { IfOk result (λ all. AreLevels sorted.entry.source.specs.now (entries_sorted sorted.entry) items.now
         all.levels.items all.end) }
 {

@@ -57,10 +57,10 @@ pub(crate) fn compare_in_column(spec: &KeySpec, a: ValueRef<'_>, b: ValueRef<'_>
 }
 
 // What lies behind the byte that counts the values of a key.
-pub(crate) fn behind_count(arena: &[u8], at: u32) -> &[u8]
+pub(crate) fn behind_count(arena: &[u8], at: usize) -> &[u8]
     ensures { result.now ≡ drop (at + 1) arena.now }
 {
-    match arena.split_at_checked(at as usize + 1) {
+    match arena.split_at_checked(at.saturating_add(1)) {
         Some((_, rest)) => rest,
         None => &[],
     }
@@ -87,7 +87,7 @@ fn compare_stored(specs: &[KeySpec], a: &[u8], b: &[u8]) -> Ordering
 }
 
 // The order of the keys at two places of the arena.
-pub(crate) fn compare_keys(specs: &[KeySpec], arena: &[u8], a: u32, b: u32) -> Ordering
+pub(crate) fn compare_keys(specs: &[KeySpec], arena: &[u8], a: usize, b: usize) -> Ordering
     ensures { result ≡ key_order_at specs.now arena.now a b }
 {
     compare_stored(specs, behind_count(arena, a), behind_count(arena, b))
@@ -110,7 +110,7 @@ fn compare_places(specs: &[KeySpec], arena: &[u8], a: Place, b: Place) -> Orderi
     if keys.is_ne() {
         return keys;
     }
-    compare_tids(a.tid, b.tid)
+    compare_tids(a.tid(), b.tid())
 }
 
 // Puts places in the order of their entries.

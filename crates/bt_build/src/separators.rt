@@ -54,7 +54,7 @@ pub(crate) fn split_between(source: Source<'_>, left: Place, right: Place) -> Ke
     }
     Kept {
         count: source.specs.len() as u16,
-        tid: Some(left.tid),
+        tid: Some(left.tid()),
     }
 }
 

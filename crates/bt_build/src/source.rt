@@ -88,7 +88,7 @@ pub(crate) fn large_tid(places: &[Place]) -> Option<Tid>
         left -= 1;
         let place = places[left];
         if is_too_long(place.body_length) {
-            lowest = Some(lower_tid(place.tid, lowest));
+            lowest = Some(lower_tid(place.tid(), lowest));
         }
     }
     lowest

@@ -17,7 +17,7 @@ invariant_of-self-2 c =
     let s = c.self.inside in
     let key = map value_shown c.args.values.key.now in
     let more = map value_shown c.args.values.more.now in
-    let p : Place = record { prefix = c.key_prefix-prefix.result; at = c.len-at.result; tid = c.args.tid; body_length = c.min.result } in
+    let p : Place = record { prefix = c.key_prefix-prefix.result; at = c.len-at.result; block = c.args.tid.block; item = c.args.tid.item; body_length = c.min.result } in
     let short = All-map IsShortEnough value_shown c.args.values.key.now (OnTrue_at c.if-not-are_short.false c.are_short.ensures) in
     let short_more = All-map IsShortEnough value_shown c.args.values.more.now (OnTrue_at c.if-not-are_short-2.false c.are_short-else-not-are_short.ensures) in
     let values = subst (λ (l : Listed). AreValues l key more) (sym c.self.view_is) c.requires.values in
@@ -29,9 +29,9 @@ invariant_of-self-2 c =
     let at : c.len-at.result ≡ length s.arena.items = omega (arith, c.len-at.ensures, s.arena.ok.0) in
     let places : c.push_in_room.new.places.items ≡ s.places.items ++ p ∷ [] = c.push_in_room.ensures ∙ ap (λ w. w ++ p ∷ []) c.in_ok-reserve.ensures.items in
     subst (λ (x : List ℕ × List Place). AreKept s.specs.items s.more.items s.types.items x.0 x.1)
-    (λ i. (sym c.in_ok-write_key.ensures.ok i, sym places i))
+    (λ i. (sym c.in_ok-push_key.ensures.ok i, sym places i))
     (kept_more s.specs.items s.more.items s.types.items s.arena.items s.places.items key more p c.self.invariant values short short_more fits c.requires.item fresh
-    c.in_ok-write_key.ensures.storable at
+    c.in_ok-push_key.ensures.storable at
     (has_prefix c.deref.result.now s.specs.items key c.key_prefix-prefix.result c.deref.ensures.value values.key_fits.fits c.key_prefix-prefix.ensures.prefix c.key_prefix-prefix.ensures.below) long)
 
 pub returns-clause-ok : goal.returns-clause-ok
@@ -40,14 +40,14 @@ returns-clause-ok c =
     let key = map value_shown c.args.values.key.now in
     let more = map value_shown c.args.values.more.now in
     let e = leaf_entry key more c.args.tid false in
-    let p : Place = record { prefix = c.key_prefix-prefix.result; at = c.len-at.result; tid = c.args.tid; body_length = c.min.result } in
+    let p : Place = record { prefix = c.key_prefix-prefix.result; at = c.len-at.result; block = c.args.tid.block; item = c.args.tid.item; body_length = c.min.result } in
     let at : c.len-at.result ≡ length s.arena.items = omega (arith, c.len-at.ensures, s.arena.ok.0) in
     let places : c.push_in_room.new.places.items ≡ s.places.items ++ p ∷ [] = c.push_in_room.ensures ∙ ap (λ w. w ++ p ∷ []) c.in_ok-reserve.ensures.items in
-    (λ i. listed_in s.specs.items s.more.items (c.in_ok-write_key.ensures.ok i) (places i))
+    (λ i. listed_in s.specs.items s.more.items (c.in_ok-push_key.ensures.ok i) (places i))
     ∙ (λ i. record {
       specs = s.specs.items;
       more = s.more.items;
       entries = entries_more s.specs.items s.more.items s.arena.items s.places.items key more p c.self.invariant.each at
-          (subst (λ (l : Listed). AreValues l key more) (sym c.self.view_is) c.requires.values).key_fits.whole c.in_ok-write_key.ensures.storable i;
+          (subst (λ (l : Listed). AreValues l key more) (sym c.self.view_is) c.requires.values).key_fits.whole c.in_ok-push_key.ensures.storable i;
     })
     ∙ ap (λ (l : Listed). with_entry l e) c.self.view_is
