@@ -67,7 +67,7 @@ pub struct EntryList {
 impl Model for EntryList {
     ghost use Rattle.bt_build.specs.Kept.{AreKept, listed_in};
     ghost use Rattle.bt_build.specs.Places.{tid_of};
-ghost use Rattle.bt_build.specs.Listed.{Listed};
+    ghost use Rattle.bt_build.specs.Listed.{Listed};
 
     ghost Value = { Listed };
 
@@ -144,11 +144,7 @@ fn push_in_room(places: &mut Vec<Place>, place: Place)
 }
 
 // Adds values behind the others, wherever these end, by way of a buffer. After `NoMemory` the others are as they were.
-fn push_key(
-    arena: &mut Vec<u8>,
-    row: &mut Vec<u8>,
-    values: RowValues<'_>,
-) -> Result<(), NoMemory>
+fn push_key(arena: &mut Vec<u8>, row: &mut Vec<u8>, values: RowValues<'_>) -> Result<(), NoMemory>
     requires few { length (row_values values) < 256 }
     ensures ok { OnOk result (arena.new.items ≡ arena.old.items ++ stored_key (row_values values.entry)) }
     ensures storable { OnOk result (All IsStorable (row_values values.entry)) }

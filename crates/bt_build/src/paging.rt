@@ -234,7 +234,11 @@ pub(crate) fn lay_above<'a>(
         let high = high_after(&level.bounds, p);
         let mut page = begin_page(sorted, high, buffers)?;
         add_downlinks(sorted, here, down, &mut page, buffers)?;
-        let special = special_between(below.number as u32 + 1, prev, next_block(block, high.is_some()));
+        let special = special_between(
+            below.number as u32 + 1,
+            prev,
+            next_block(block, high.is_some()),
+        );
         push_page(out, page, special)?;
         left = rest;
         down += count as u32;
