@@ -1,4 +1,4 @@
-//! The command line of the checker: the words, the real files and standard output are given to `run` of `amcheck`.
+//! The command line of the checker: the words, the real files and standard output are given to `run` of `cmd_run`.
 #![tactic(auto)]
 
 use cmd_run::run;
