@@ -5,6 +5,8 @@ pub mod HeadlineLaws
 pub mod HeapLaws
 pub mod IndexLaws
 pub mod NumberedLaws
+pub mod OpeningLaws
+pub mod RangeLaws
 pub mod ReindexLaws
 pub mod ReportLaws
 pub mod ScanLaws

@@ -1,14 +1,16 @@
 -- Indexes that were judged by themselves, one after the other, and then beside the heap.
-use Rattle.std.proofs.Common.{◌≡◌, ◌∙◌, ℕ, Bool, true, false, List, [], ◌∷◌, ◌++◌, refl, ap, sym, subst, append-nil, arith, length}
-use Rattle.std.specs.Prelude.{All, IfSome, IsSome, Option, Some, None, drop, is_some, map, slice_index_or, ◌&&◌}
-use Rattle.std.specs.Option.{option_to_list}
+use Rattle.std.proofs.Common.{◌≡◌, ◌∙◌, ℕ, Bor, Bool, true, false, List, [], ◌∷◌, ◌++◌, refl, ap, sym, subst, append-nil, arith, length}
+use Rattle.std.specs.Prelude.{◌↔◌, All, IfSome, IsSome, Option, Some, None, drop, is_some, map, slice_index_or, ◌&&◌}
+use Rattle.std.specs.Option.{option_copied, option_to_list}
 use Rattle.std.proofs.lemmas.List.Elements.{All-nil, All-push}
-use Rattle.outside.specs.Outside.{Names}
+use Rattle.outside.specs.Outside.{IfTold, Names, Seen}
 use Rattle.case_file.specs.Record.{CaseRecord}
 use Rattle.reports.specs.Added.{joined, nothing, report_lists}
 use Rattle.reports.specs.Lists.{Lists}
-use Rattle.heap_table_check.specs.Found.{case_found}
+use Rattle.heap_table_check.specs.Files.{IsSoundHeapOf}
+use Rattle.heap_table_check.specs.Found.{IsQuiet, case_found}
 use Rattle.heap_table_check.specs.declared.files.SoundHeap.{SoundHeap}
+use Rattle.bt_pages.specs.Broken.{AreEmpty}
 use Rattle.bt_levels.specs.Files.{IsFileOf, number_of}
 use Rattle.bt_levels.specs.Index.{tree_lists}
 use Rattle.bt_levels.specs.Lists.{is_quiet, lists_where}
@@ -88,6 +90,20 @@ heap-where-quiet case names None is = sym (not_true (is_quiet (case_found case n
     no_some : IsSome {T = SoundHeap} None → ⊥
     no_some e = cc
 
+-- What came of judging by itself
+
+module _ {S : Type 0} (seen : S → Seen) (files : S) (case : CaseRecord) (names : Names) (told : (seen files).held ≡ Some names) where
+  -- the heap
+  pub heap-judged : (heap : Option SoundHeap) → (IsSome heap ↔ IsQuiet case names) → IfSome heap (λ sound. IfTold seen files (λ ns. IsSoundHeapOf case ns sound)) → IsHeapOf case names heap
+  heap-judged None quiet sound = record { quiet = quiet; sound = record {} }
+  heap-judged (Some heap) quiet sound = record { quiet = quiet; sound = sound names told }
+
+  -- index n
+  pub tree-judged : (n : ℕ) (tree : Option SoundTree) → (IsSome tree ↔ AreEmpty (tree_lists case names n)) → IfSome tree (λ sound. IfTold seen files (λ ns. IsFileOf case ns (file_of sound)))
+      → IfSome tree (λ sound. IfTold seen files (λ ns. HoldsTree ns sound)) → IsTreeOf case names n tree
+  tree-judged n None quiet file held = record { quiet = quiet; file = record {}; held = record {} }
+  tree-judged n (Some tree) quiet file held = record { quiet = quiet; file = file names told; held = held names told }
+
 -- One report more
 
 module _ (case : CaseRecord) (names : Names) (heap : Bool) (start : Lists) (all : List TreeFile) (alone : Alone) (own : OwnReport) (joint joint' : List Lists) (now next : Lists) where
@@ -164,6 +180,10 @@ all-judged case names all left alone none were =
 pub none-of : {X : Type 0} (xs : List X) (n : ℕ) → n ≡ length xs → n ≡ 0 → xs ≡ []
 none-of [] n is none = refl
 none-of (x ∷ xs) n is none = absurd (omega (arith, is, none))
+
+pub some-copied : {T : Type 0} (o : Option (Bor T)) → is_some (option_copied o) ≡ is_some o
+some-copied None = refl
+some-copied (Some x) = refl
 
 pub joined-all : (case : CaseRecord) (names : Names) (heap : Option SoundHeap) (files : List TreeFile) (b : Bool) (old new : Lists) → IsHeapOf case names heap → b ≡ is_some heap → new ≡ joined old (found_with case names b files) → new ≡ joined old (trees_found case names files)
 joined-all case names heap files b old new of is added =

@@ -1,6 +1,6 @@
 -- The files of a case's indexes, one after the other.
-use Rattle.std.proofs.Common.{◌≡◌, ◌∙◌, ◌≤◌, ◌<◌, ◌+◌, ℕ, zero, suc, List, [], ◌∷◌, ◌++◌, inl, inr, refl, ap, sym, subst, arith, add-one}
-use Rattle.std.specs.Prelude.{Err, None, Option, Some, length, map}
+use Rattle.std.proofs.Common.{◌≡◌, ◌∙◌, ◌≤◌, ◌<◌, ◌+◌, ◌-◌, ℕ, zero, suc, List, [], ◌∷◌, ◌++◌, inl, inr, refl, ap, sym, subst, arith}
+use Rattle.std.specs.Prelude.{Err, None, Option, Some, map}
 use Rattle.std.specs.Option.{option_or, option_to_list}
 use Rattle.std.proofs.lemmas.Bool.{cases_lt}
 use Rattle.std.proofs.lemmas.List.Elements.{All-nil, All-push}
@@ -11,12 +11,11 @@ use Rattle.reports.specs.Added.{each_upto, joined, nothing, report_lists}
 use Rattle.reports.specs.Lists.{Lists}
 use Rattle.rel_files.specs.declared.check_fault.CheckFault.{CheckFault}
 use Rattle.rel_files.specs.declared.check_fault.CheckFault.TheVariants.{NoFile, NoMemory, ReadFault, TooLarge}
-use Rattle.heap_table_check.specs.Found.{case_found}
 use Rattle.bt_levels.specs.Files.{BelongsTo, number_of}
 use Rattle.bt_levels.specs.declared.files.TreeFile.{TreeFile}
-use Rattle.cmd_run.specs.All.{all_found, first_upto}
+use Rattle.cmd_run.specs.All.{first_upto}
 use Rattle.cmd_run.specs.Numbered.{numbered_found}
-use Rattle.cmd_run.specs.Tables.{AreFirstTrees, numbers_upto, trees_found}
+use Rattle.cmd_run.specs.Tables.{AreTreesBehind, numbers_behind, trees_found}
 
 -- What is found of them
 
@@ -29,20 +28,21 @@ each_of-append : (f : ℕ → Lists) (ms : List ℕ) (n : ℕ) → each_of f (ms
 each_of-append f [] n = report_lists.with_none (f n)
 each_of-append f (m ∷ ms) n = ap (joined (f m)) (each_of-append f ms n) ∙ sym (report_lists.in_turn (f m) (each_of f ms) (f n))
 
-each_of-upto : (f : ℕ → Lists) (n : ℕ) → each_of f (numbers_upto n) ≡ each_upto report_lists f n
+each_of-behind : (f : ℕ → Lists) (start n : ℕ) → each_of f (numbers_behind start n) ≡ each_upto report_lists (λ k. f (start + k)) n
 unfolding each_upto
-each_of-upto f zero = refl
-each_of-upto f (suc n) = each_of-append f (numbers_upto n) (suc n) ∙ ap (λ (l : Lists). joined l (f (suc n))) (each_of-upto f n)
+each_of-behind f start zero = refl
+each_of-behind f start (suc n) =
+    each_of-append f (numbers_behind start n) (start + suc n) ∙ ap (λ (l : Lists). joined l (f (start + suc n))) (each_of-behind f start n)
 
 by_numbers : (case : CaseRecord) (names : Names) (trees : List TreeFile) → trees_found case names trees ≡ each_of (numbered_found case names) (map number_of trees)
 by_numbers case names [] = refl
 by_numbers case names (tree ∷ trees) = ap (joined (numbered_found case names (number_of tree))) (by_numbers case names trees)
 
--- the files of all indexes give what the indexes give
-pub trees_are_indexes : (case : CaseRecord) (names : Names) (n : ℕ) (trees : List TreeFile) → AreFirstTrees case n trees
-    → trees_found case names trees ≡ each_upto report_lists (numbered_found case names) n
-trees_are_indexes case names n trees are =
-    by_numbers case names trees ∙ ap (each_of (numbered_found case names)) are.numbers ∙ each_of-upto (numbered_found case names) n
+-- the files of indexes give what the indexes give
+pub trees_are_indexes : (case : CaseRecord) (names : Names) (start n : ℕ) (trees : List TreeFile) → AreTreesBehind case start n trees
+    → trees_found case names trees ≡ each_upto report_lists (λ k. numbered_found case names (start + k)) n
+trees_are_indexes case names start n trees are =
+    by_numbers case names trees ∙ ap (each_of (numbered_found case names)) are.numbers ∙ each_of-behind (numbered_found case names) start n
 
 -- One file more
 
@@ -54,23 +54,25 @@ map-push : (trees : List TreeFile) (tree : TreeFile) → map number_of (trees ++
 map-push [] tree = refl
 map-push (t ∷ ts) tree = ap (λ (ns : List ℕ). number_of t ∷ ns) (map-push ts tree)
 
-pub first_tree : (case : CaseRecord) → AreFirstTrees case 0 []
+pub first_tree : (case : CaseRecord) (start n : ℕ) → n ≡ 0 → AreTreesBehind case start n []
 unfolding each_upto
-first_tree case = record { numbers = refl; belong = All-nil (BelongsTo case) }
+first_tree case start n none = rw none (record { numbers = refl; belong = All-nil (BelongsTo case) })
 
-pub next_tree : (case : CaseRecord) (n : ℕ) (trees : List TreeFile) (tree : TreeFile) → AreFirstTrees case n trees → number_of tree ≡ n + 1 → BelongsTo case tree
-    → AreFirstTrees case (n + 1) (trees ++ tree ∷ [])
+next_tree : (case : CaseRecord) (start n : ℕ) (trees : List TreeFile) (tree : TreeFile) → AreTreesBehind case start n trees → number_of tree ≡ start + suc n → BelongsTo case tree
+    → AreTreesBehind case start (suc n) (trees ++ tree ∷ [])
 unfolding each_upto
-next_tree case n trees tree are number belongs = rw add-one (record {
-  numbers = map-push trees tree ∙ next (map number_of trees) are.numbers (number ∙ one n);
+next_tree case start n trees tree are number belongs = record {
+  numbers = map-push trees tree ∙ (λ i. are.numbers i ++ number i ∷ []);
   belong = All-push (BelongsTo case) trees tree are.belong belongs;
-})
-  where
-    one : (n : ℕ) → n + 1 ≡ suc n
-    one n = omega arith
+}
 
-    next : (ns : List ℕ) → ns ≡ numbers_upto n → number_of tree ≡ suc n → ns ++ number_of tree ∷ [] ≡ numbers_upto (suc n)
-    next ns is at = λ i. is i ++ at i ∷ []
+-- behind those up to one place, that of the next
+pub tree_behind : (case : CaseRecord) (start before : ℕ) (trees : List TreeFile) (tree : TreeFile) → start ≤ before → AreTreesBehind case start (before - start) trees → number_of tree ≡ before + 1 → BelongsTo case tree
+    → AreTreesBehind case start (before + 1 - start) (trees ++ tree ∷ [])
+tree_behind case start before trees tree within are number belongs =
+    let one : suc (before - start) ≡ before + 1 - start = omega (arith, within) in
+    let at : before + 1 ≡ start + suc (before - start) = omega (arith, within) in
+    subst (λ (n : ℕ). AreTreesBehind case start n (trees ++ tree ∷ [])) one (next_tree case start (before - start) trees tree are (number ∙ at) belongs)
 
 -- The first refusal
 
@@ -86,46 +88,34 @@ first_is f k (suc n) x none some le = elim (cases_lt k n) [
     at_last : k ≡ n → option_or (first_upto f n) (f (suc n)) ≡ Some x
     at_last last = subst (λ (m : ℕ). option_or (first_upto f m) (f (suc m)) ≡ Some x) last (ap (λ (o : Option _). option_or o (f (suc k))) none ∙ some)
 
-pub none_before : (f : ℕ → Option CheckFault) → first_upto f 0 ≡ None
+pub none_before : (f : ℕ → Option CheckFault) (n : ℕ) → n ≡ 0 → first_upto f n ≡ None
 unfolding first_upto
-none_before f = refl
+none_before f n none = rw none refl
 
-pub none_further : (f : ℕ → Option CheckFault) (k : ℕ) → first_upto f k ≡ None → f (k + 1) ≡ None → first_upto f (k + 1) ≡ None
-unfolding first_upto
-none_further f k none next = rw add-one (further (rw add-one at next))
-  where
-    further : f (suc k) ≡ None → first_upto f (suc k) ≡ None
-    further at = λ i. option_or (none i) (at i)
+module _ (f : ℕ → Option CheckFault) (start before : ℕ) (within : start ≤ before) where
+  abbrev of_range : ℕ → Option CheckFault
+  of_range k = f (start + k)
 
-pub tells_first : (S T : Type 0) (f : ℕ → Option CheckFault) (k n : ℕ) (e : CheckFault) → first_upto f k ≡ None → k < n
-    → TellsRefusal {T = S} (f (k + 1)) (Err e) → TellsRefusal {T = T} (first_upto f n) (Err e)
-tells_first S T f k n ReadFault none lt tells = tt
-tells_first S T f k n NoMemory none lt tells = tt
-tells_first S T f k n (NoFile which) none lt tells = first_is f k n (NoFile which) none (rw add-one at tells) (omega (arith, lt))
-tells_first S T f k n (TooLarge which blocks limit) none lt tells = first_is f k n (TooLarge which blocks limit) none (rw add-one at tells) (omega (arith, lt))
+  at : start + suc (before - start) ≡ before + 1
+  at = omega (arith, within)
+
+  pub none_further : first_upto of_range (before - start) ≡ None → f (before + 1) ≡ None → first_upto of_range (before + 1 - start) ≡ None
+  unfolding first_upto
+  none_further none next =
+      let one : before + 1 - start ≡ suc (before - start) = omega (arith, within) in
+      ap (λ (n : ℕ). first_upto of_range n) one ∙ (λ i. option_or (none i) ((ap f at ∙ next) i))
+
+  first_of : (stop : ℕ) (x : CheckFault) → before < stop → first_upto of_range (before - start) ≡ None → f (before + 1) ≡ Some x → first_upto of_range (stop - start) ≡ Some x
+  first_of stop x less none some = first_is of_range (before - start) (stop - start) x none (ap f at ∙ some) (omega (arith, within, less))
+
+  pub tells_first : (S T : Type 0) (stop : ℕ) (e : CheckFault) → before < stop → first_upto of_range (before - start) ≡ None
+      → TellsRefusal {T = S} (f (before + 1)) (Err e) → TellsRefusal {T = T} (first_upto of_range (stop - start)) (Err e)
+  tells_first S T stop ReadFault less none tells = tt
+  tells_first S T stop NoMemory less none tells = tt
+  tells_first S T stop (NoFile which) less none tells = first_of stop (NoFile which) less none tells
+  tells_first S T stop (TooLarge which blocks limit) less none tells = first_of stop (TooLarge which blocks limit) less none tells
 
 -- One file less
 
 pub popped : {X : Type 0} (old new : List X) (o : Option X) (x : X) → old ≡ option_to_list o ++ new → o ≡ Some x → old ≡ x ∷ new
 popped old new o x e is = e ∙ ap (λ (p : Option _). option_to_list p ++ new) is
-
-pub one_less : (case : CaseRecord) (names : Names) (tree : TreeFile) (rest all items : List TreeFile) (start before after : Lists) → items ≡ tree ∷ rest
-    → joined before (trees_found case names items) ≡ joined start (trees_found case names all) → after ≡ joined before (numbered_found case names (number_of tree))
-    → joined after (trees_found case names rest) ≡ joined start (trees_found case names all)
-one_less case names tree rest all items start before after is was now =
-    ap (λ (l : Lists). joined l (trees_found case names rest)) now
-    ∙ report_lists.in_turn before (numbered_found case names (number_of tree)) (trees_found case names rest)
-    ∙ ap (λ (ts : List TreeFile). joined before (trees_found case names ts)) (sym is) ∙ was
-
-pub none_less : (case : CaseRecord) (names : Names) (all items : List TreeFile) (start after : Lists) → items ≡ []
-    → joined after (trees_found case names items) ≡ joined start (trees_found case names all) → after ≡ joined start (trees_found case names all)
-none_less case names all items start after is was =
-    sym (report_lists.with_none after) ∙ ap (λ (ts : List TreeFile). joined after (trees_found case names ts)) (sym is) ∙ was
-
--- All of a case: its table, and then its indexes
-pub all_of : (case : CaseRecord) (names : Names) (trees : List TreeFile) (start middle now : Lists) → AreFirstTrees case (length case.indexes) trees → start ≡ nothing
-    → middle ≡ joined start (case_found case names) → now ≡ joined middle (trees_found case names trees) → now ≡ all_found case names
-all_of case names trees start middle now are none table indexes =
-    indexes ∙ ap (joined middle) (trees_are_indexes case names (length case.indexes) trees are)
-    ∙ ap (λ (l : Lists). joined l (each_upto report_lists (numbered_found case names) (length case.indexes)))
-    (table ∙ ap (λ (l : Lists). joined l (case_found case names)) none)

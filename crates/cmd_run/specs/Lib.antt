@@ -12,4 +12,6 @@ pub mod Scan
 pub mod Reindex
 pub mod Reindexed
 pub mod Tables
+pub mod Ranges
+pub mod Openings
 pub mod Together

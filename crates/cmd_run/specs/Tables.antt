@@ -1,5 +1,5 @@
 -- A case's table that was judged, and the files of its indexes that are judged next.
-use Rattle.std.specs.Prelude.{◌≡◌, ◌↔◌, ℕ, List, [], ◌∷◌, All, IfSome, IsSome, map, Option}
+use Rattle.std.specs.Prelude.{◌≡◌, ◌+◌, ◌↔◌, ℕ, List, [], ◌∷◌, All, IfSome, IsSome, map, Option}
 use Rattle.std.specs.Option.{option_copied}
 use Rattle.outside.specs.Adds.{one_list}
 use Rattle.outside.specs.Outside.{Names}
@@ -16,7 +16,7 @@ use Rattle.bt_levels.specs.Sound.{HoldsTree, file_of}
 use Rattle.bt_levels.specs.declared.files.TreeFile.{TreeFile}
 use Rattle.bt_levels.specs.declared.sound.SoundTree.{SoundTree}
 use Rattle.cmd_run.specs.Numbered.{numbered_found}
-use Rattle.cmd_run.specs.declared.indexes.JudgedTable.{JudgedTable}
+use Rattle.cmd_run.specs.declared.together.JudgedTable.{JudgedTable}
 
 -- The table
 
@@ -44,13 +44,13 @@ pub record IsTreeOf (case : CaseRecord) (names : Names) (n : ℕ) (tree : Option
   pub file : IfSome tree (λ sound. IsFileOf case names (file_of sound))
   pub held : IfSome tree (HoldsTree names)
 
--- the numbers 1, .., n
-abbrev pub numbers_upto : ℕ → List ℕ
-numbers_upto n = each_upto one_list (λ k. k ∷ []) n
+-- the numbers start + 1, .., start + n
+abbrev pub numbers_behind : (start n : ℕ) → List ℕ
+numbers_behind start n = each_upto one_list (λ k. (start + k) ∷ []) n
 
--- these are the files of the first n indexes of a case, whatever they hold
-pub record AreFirstTrees (case : CaseRecord) (n : ℕ) (trees : List TreeFile) : Type 0 where
-  pub numbers : map number_of trees ≡ numbers_upto n
+-- these are the files of the indexes of a case that have these numbers, whatever they hold
+pub record AreTreesBehind (case : CaseRecord) (start n : ℕ) (trees : List TreeFile) : Type 0 where
+  pub numbers : map number_of trees ≡ numbers_behind start n
   pub belong : All (BelongsTo case) trees
 
 -- what is found of indexes, in the order of their files

@@ -7,11 +7,11 @@ mod copy;
 mod generated;
 mod heap;
 mod index;
-mod indexes;
 mod laws;
 mod reindex;
 mod runs;
 mod scan;
+mod table;
 mod together;
 
 pub use cmd_answers::Status;

@@ -1,35 +1,29 @@
 //! The command `reindex`: makes the file of an index of a case's live rows.
 ghost use Rattle.std.specs.Prelude.{◌≡◌, ◌≤◌, IfOk, Some, length};
-ghost use Rattle.std.specs.Option.{option_copied};
 ghost use Rattle.outside.specs.Outside.{Asked, IfTold, Tells};
 ghost use Rattle.bt_build.specs.Outcome.{MayBeIndexed};
-ghost use Rattle.bt_levels.specs.Index.{index_of};
-ghost use Rattle.heap_table_check.specs.Files.{AreFilesOf, BelongTo, IsSoundHeapOf, files_of};
-ghost use Rattle.heap_table_check.specs.Found.{IsQuiet, case_found};
-ghost use Rattle.join_row_entries.specs.Entries.{AreEntries};
+ghost use Rattle.heap_table_check.specs.Files.{BelongTo, IsSoundHeapOf, files_of};
+ghost use Rattle.heap_table_check.specs.Found.{IsQuiet};
 ghost use Rattle.cmd_run.specs.Reindex.{MayBeMade, MayBeRemade, index_made, index_shown, numbered_reindexed};
 ghost use Rattle.cmd_run.specs.Reindex.{reindex_outcome};
-ghost use Rattle.cmd_run.specs.Tables.{IsHeapIn, IsHeapOf};
-ghost use Rattle.cmd_answers.specs.Outcome.{report_or};
 ghost use Rattle.cmd_answers.specs.Seen.{outcome_seen};
 
-use crate::heap::judge_heap;
 use crate::index::unknown_index;
+use crate::table::{TableOpening, open_table};
 use bt_build::{EntryList, IndexFault, MAX_BLOCKS, build_index};
 use case_file::Case;
 use cmd_answers::{
-    Answer, CaseOpening, Output, RunFault, Unit, key_too_large_output, open_case, refuse_files,
-    report_output, too_large_output,
+    Answer, CaseOpening, Output, RunFault, Unit, key_too_large_output, open_case, report_output,
+    too_large_output,
 };
-use heap_table_check::{HeapFiles, SoundHeap};
+use heap_table_check::SoundHeap;
 use join_row_entries::{RowEntries, row_entries};
 use outside::{Files, NoMemory};
-use reports::Report;
 use std::alloc::Global;
 
 // The index of these entries, or why there is none; the file is the index's.
 #[tactic(auto, unfolding(crate::specs::Reindex::index_made))]
-fn made_output(alloc: Global, entries: &EntryList, file: &str) -> Result<Output, NoMemory>
+fn entries_index_output(alloc: Global, entries: &EntryList, file: &str) -> Result<Output, NoMemory>
     ensures output { IfOk result (λ o. outcome_seen o ≡ index_made entries.now file.now) }
     ensures made { IfOk result (λ o. (outcome_seen o).code ≡ 0 → MayBeIndexed entries.now) }
 {
@@ -46,27 +40,8 @@ fn made_output(alloc: Global, entries: &EntryList, file: &str) -> Result<Output,
     }
 }
 
-// The entries of the live rows of a heap, in which nothing was found, in an index.
-fn entries_of<F: Files>(
-    alloc: Global,
-    files: &mut F,
-    case: &Case,
-    heap: &SoundHeap,
-    index: u16,
-) -> Result<RowEntries, RunFault>
-    requires first { 1 ≤ index }
-    requires last { index ≤ length case.now.indexes }
-    requires belong { BelongTo case.now (files_of heap.now) }
-    requires sound { IfTold F.seen files.old (λ names. IsSoundHeapOf case.now names heap.now) }
-    requires quiet { IfTold F.seen files.old (λ names. IsQuiet case.now names) }
-    ensures entries { Tells F.seen files.old result (λ found names. AreEntries case.now names index found) }
-    ensures asked { Asked F.seen files.old files.new result RunFault.ReadFault }
-{
-    Ok(row_entries(alloc, files, case, heap, index)?)
-}
-
 // The index of a heap in which nothing was found, or the report on the rows that are in doubt.
-fn index_output<F: Files>(
+fn heap_index_output<F: Files>(
     alloc: Global,
     files: &mut F,
     case: &Case,
@@ -83,62 +58,18 @@ fn index_output<F: Files>(
         → MayBeMade names case.now index) }
     ensures asked { Asked F.seen files.old files.new result RunFault.ReadFault }
 {
-    match entries_of(alloc, files, case, heap, index)? {
-        RowEntries::Listed(entries) => { Ok(made_output(alloc, &entries, case.index_file(index))?) }
+    match row_entries(alloc, files, case, heap, index)? {
+        RowEntries::Listed(entries) => Ok(entries_index_output(
+            alloc,
+            &entries,
+            case.index_file(index),
+        )?),
         RowEntries::Doubted(report) => Ok(report_output(alloc, &report)?),
     }
 }
 
-// The index of a heap, where nothing was found of it, and else the report.
-fn index_or_report<F: Files>(
-    alloc: Global,
-    files: &mut F,
-    case: &Case,
-    asked: (Option<&SoundHeap>, u16),
-    report: &Report,
-) -> Result<Output, RunFault>
-    requires first { 1 ≤ asked.1 }
-    requires last { asked.1 ≤ length case.now.indexes }
-    requires heap { IfTold F.seen files.old (λ names. IsHeapOf case.now names (option_copied asked.0)) }
-    requires belong { IsHeapIn case.now (option_copied asked.0) }
-    requires found { IfTold F.seen files.old (λ names. report.now ≡ case_found case.now names) }
-    ensures output { Tells F.seen files.old result (λ o names.
-        outcome_seen o ≡ report_or (case_found case.now names) (index_shown names case.now asked.entry.1)) }
-    ensures made { Tells F.seen files.old result (λ o names. (outcome_seen o).code ≡ 0
-        → MayBeMade names case.now asked.entry.1) }
-    ensures asked { Asked F.seen files.old files.new result RunFault.ReadFault }
-{
-    match asked.0 {
-        Some(heap) => index_output(alloc, files, case, heap, asked.1),
-        None => Ok(report_output(alloc, report)?),
-    }
-}
-
-// The index of a case's table, whose files are these, or the report on it.
-fn judged_output<F: Files>(
-    alloc: Global,
-    files: &mut F,
-    case: &Case,
-    index: u16,
-    at: HeapFiles,
-) -> Result<Output, RunFault>
-    requires first { 1 ≤ index }
-    requires last { index ≤ length case.now.indexes }
-    requires told { IfTold F.seen files.old (λ names. AreFilesOf case.now names at) }
-    requires belong { BelongTo case.now at }
-    ensures output { Tells F.seen files.old result (λ o names.
-        outcome_seen o ≡ report_or (case_found case.now names) (index_shown names case.now index)) }
-    ensures made { Tells F.seen files.old result (λ o names. (outcome_seen o).code ≡ 0
-        → MayBeMade names case.now index) }
-    ensures asked { Asked F.seen files.old files.new result RunFault.ReadFault }
-{
-    let mut report = Report::new(alloc);
-    let heap = judge_heap(alloc, files, case, at, &mut report)?;
-    index_or_report(alloc, files, case, (heap.as_ref(), index), &report)
-}
-
 // The index of a case, or why there is none.
-fn numbered_output<F: Files>(
+fn case_index_output<F: Files>(
     alloc: Global,
     files: &mut F,
     case: &Case,
@@ -152,9 +83,9 @@ fn numbered_output<F: Files>(
         → MayBeMade names case.now index) }
     ensures asked { Asked F.seen files.old files.new result RunFault.ReadFault }
 {
-    match HeapFiles::attach(alloc, files, case) {
-        Ok(at) => judged_output(alloc, files, case, index, at),
-        Err(fault) => refuse_files(alloc, case, fault),
+    match open_table(alloc, files, case)? {
+        TableOpening::Answered(output) => Ok(output),
+        TableOpening::Opened(heap) => heap_index_output(alloc, files, case, &heap, index),
     }
 }
 
@@ -178,7 +109,7 @@ pub fn reindex_output<F: Files>(
         CaseOpening::Refused(output) => Ok(output),
         CaseOpening::Opened(case) => match case.find_index(name) {
             None => Ok(unknown_index(alloc)?),
-            Some(index) => numbered_output(alloc, files, &case, index),
+            Some(index) => case_index_output(alloc, files, &case, index),
         },
     }
 }

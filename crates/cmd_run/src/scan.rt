@@ -12,8 +12,7 @@ ghost use Rattle.cmd_run.specs.Scan.{scan_outcome, tree_scanned};
 ghost use Rattle.cmd_answers.specs.Seen.{outcome_seen};
 
 use crate::index::unknown_index;
-use crate::indexes::judge_alone;
-use bt_levels::{SoundTree, TreeFile};
+use bt_levels::{SoundTree, TreeFile, check_tree};
 use bt_scan_lines::{ScanLines, scan_lines};
 use case_file::Case;
 use cmd_answers::{
@@ -26,7 +25,7 @@ use reports::Report;
 use std::alloc::Global;
 
 // The entries that are shown: their lines, and how many they are.
-fn shown_output(lines: ScanLines) -> Result<Output, NoMemory>
+fn lines_output(lines: ScanLines) -> Result<Output, NoMemory>
     ensures { IfOk result (λ o. outcome_seen o ≡ lines_shown lines.text lines.count) }
 {
     let ScanLines { mut text, count } = lines;
@@ -40,7 +39,7 @@ fn shown_output(lines: ScanLines) -> Result<Output, NoMemory>
 }
 
 // What a scan shows of an index of which nothing was found.
-fn entries_output<F: Files>(
+fn tree_entries_output<F: Files>(
     alloc: Global,
     files: &mut F,
     tree: &SoundTree,
@@ -54,11 +53,11 @@ fn entries_output<F: Files>(
     ensures asked { Asked F.seen files.old files.new result RunFault.ReadFault }
 {
     let lines = scan_lines(alloc, files, tree, scan, direction)?;
-    Ok(shown_output(lines)?)
+    Ok(lines_output(lines)?)
 }
 
-// The entries of an index in this file, or the report on it where something is found.
-fn judged_output<F: Files>(
+// The entries of an index in this file that a scan wants, or the report on it where something is found.
+fn entries_or_report<F: Files>(
     alloc: Global,
     files: &mut F,
     case: &Case,
@@ -74,14 +73,15 @@ fn judged_output<F: Files>(
 {
     let (scan, direction) = asked;
     let mut report = Report::new(alloc);
-    match judge_alone(alloc, files, case, at, &mut report)? {
+    let tree = check_tree(alloc, files, case, at, &mut report)?;
+    match tree {
         None => Ok(report_output(alloc, &report)?),
-        Some(tree) => entries_output(alloc, files, &tree, scan, direction),
+        Some(tree) => tree_entries_output(alloc, files, &tree, scan, direction),
     }
 }
 
-// The same of index `n` of a case, unless the bounds don't fit its key or its file is refused.
-fn file_output<F: Files>(
+// The same of index `n` of a case, unless its file is refused.
+fn index_entries_output<F: Files>(
     alloc: Global,
     files: &mut F,
     case: &Case,
@@ -97,12 +97,12 @@ fn file_output<F: Files>(
     ensures asked { Asked F.seen files.old files.new result RunFault.ReadFault }
 {
     match TreeFile::attach(alloc, files, case, index) {
-        Ok(at) => judged_output(alloc, files, case, at, asked),
+        Ok(at) => entries_or_report(alloc, files, case, at, asked),
         Err(fault) => refuse_files(alloc, case, fault),
     }
 }
 
-// The same, where the bounds' words aren't read yet.
+// The entries of index `n` of a case between the bounds that these words are, unless one doesn't fit its key.
 fn bounded_output<F: Files>(
     alloc: Global,
     files: &mut F,
@@ -129,7 +129,7 @@ fn bounded_output<F: Files>(
         &high.values,
         high.inclusive,
     ) {
-        Ok(scan) => file_output(alloc, files, case, index, (&scan, words.direction)),
+        Ok(scan) => index_entries_output(alloc, files, case, index, (&scan, words.direction)),
         Err(ScanFault::TooLong) => Ok(bad_bound_output(alloc)?),
         Err(ScanFault::WrongKind) => Ok(bad_bound_output(alloc)?),
         Err(ScanFault::NoMemory) => Err(RunFault::NoMemory),

@@ -9,21 +9,40 @@ ghost use Rattle.bt_levels.specs.Files.{BelongsTo, IsFileOf, number_of};
 ghost use Rattle.bt_levels.specs.Index.{tree_lists};
 ghost use Rattle.bt_levels.specs.Sound.{HoldsTree, IsSoundIndexOf, file_of};
 ghost use Rattle.bt_levels.specs.declared.files.TreeFile.{TreeFile as File};
-ghost use Rattle.cmd_run.specs.Numbered.{numbered_found};
-ghost use Rattle.cmd_run.specs.Tables.{IsHeapIn, IsHeapOf, IsTreeOf, case_seen, heap_seen, trees_found};
+ghost use Rattle.cmd_run.specs.Tables.{IsHeapIn, IsHeapOf, case_seen, heap_seen, trees_found};
 ghost use Rattle.cmd_run.specs.Together.{AreAlone, BelongAlone, found_with, joint_lists, own_report, quiet_numbers};
 ghost use Rattle.cmd_run.specs.Together.{tree_number};
 
-use crate::indexes::{JudgedTable, judge_alone};
-use bt_levels::{SoundTree, TreeFile};
+use bt_levels::{SoundTree, TreeFile, check_tree};
 use case_file::Case;
 use cmd_answers::RunFault;
 use heap_indexed::check_indexes;
+use heap_table_check::SoundHeap;
 use join_row_keys::IndexedTable;
 use outside::{Files, NoMemory};
 use reports::Report;
 use std::alloc::Global;
 use std::collections::VecDeque;
+
+/// A case whose table was judged, and its heap, where nothing was found of that.
+#[derive(Clone, Copy)]
+pub struct JudgedTable<'a> {
+    pub case: &'a Case,
+    pub heap: Option<&'a SoundHeap>,
+}
+
+impl<'a> JudgedTable<'a> {
+    ghost use Rattle.std.specs.Option.{option_copied};
+    ghost use Rattle.cmd_run.specs.Tables.{case_seen, heap_seen};
+
+    /// The case, and its heap, where nothing was found.
+    pub fn new(case: &'a Case, heap: Option<&'a SoundHeap>) -> JudgedTable<'a>
+        ensures case { case_seen result ≡ case.now }
+        ensures heap { heap_seen result ≡ option_copied heap.entry }
+    {
+        JudgedTable { case, heap }
+    }
+}
 
 /// What came of judging one index by itself: the report on it, and whether nothing is in that.
 #[derive(Drop)]
@@ -81,7 +100,7 @@ impl Alone {
         ensures asked { Asked F.seen files.old files.new result RunFault.ReadFault }
     {
         let mut report = Report::new(alloc);
-        let tree = judge_alone(alloc, files, case, at, &mut report)?;
+        let tree = check_tree(alloc, files, case, at, &mut report)?;
         self.push(report, tree)?;
         Ok(())
     }
@@ -179,16 +198,6 @@ fn join_all<F: Files>(
     Ok(reports)
 }
 
-// Whether nothing was found of the heap.
-fn has_heap(table: JudgedTable<'_>) -> bool
-    ensures { result ≡ is_some (heap_seen table.entry) }
-{
-    match table.heap {
-        Some(_) => true,
-        None => false,
-    }
-}
-
 /// Judges the files of indexes, each by itself, and those of which nothing is found beside the heap, where nothing was
 /// found of that; adds what is found to the report, one index after the other.
 pub fn judge_indexes<F: Files>(
@@ -208,35 +217,6 @@ pub fn judge_indexes<F: Files>(
 {
     let alone = judge_all_alone(alloc, files, table.case, trees)?;
     let joint = join_all(alloc, files, table, &alone.trees)?;
-    alone.append_to(joint, has_heap(table), report)?;
+    alone.append_to(joint, table.heap.is_some(), report)?;
     Ok(())
-}
-
-// The file of one index alone.
-fn one_tree(alloc: Global, at: TreeFile) -> Result<VecDeque<TreeFile>, NoMemory>
-    ensures { IfOk result (λ trees. trees.items ≡ at ∷ []) }
-{
-    let mut trees = VecDeque::new(alloc);
-    trees.push_back(at)?;
-    Ok(trees)
-}
-
-/// Judges the file of one index likewise.
-pub fn judge_index<F: Files>(
-    alloc: Global,
-    files: &mut F,
-    table: JudgedTable<'_>,
-    at: TreeFile,
-    report: &mut Report,
-) -> Result<(), RunFault>
-    requires told { IfTold F.seen files.old (λ names. IsFileOf (case_seen table) names at) }
-    requires belongs { BelongsTo (case_seen table) at }
-    requires heap { IfTold F.seen files.old (λ names. IsHeapOf (case_seen table) names (heap_seen table)) }
-    requires belong { IsHeapIn (case_seen table) (heap_seen table) }
-    ensures found { OnOk result (IfTold F.seen files.old (λ names.
-        report.new ≡ joined report.old (numbered_found (case_seen table.entry) names (number_of at)))) }
-    ensures asked { Asked F.seen files.old files.new result RunFault.ReadFault }
-{
-    let trees = one_tree(alloc, at)?;
-    judge_indexes(alloc, files, table, trees, report)
 }

@@ -1,5 +1,11 @@
-use Rattle.std.proofs.Common.{◌∙◌, sym}
+use Rattle.std.proofs.Common.{◌∙◌, ap}
+use Rattle.std.proofs.lemmas.Result.{IfOk-weaker}
+use Rattle.cmd_answers.specs.Outcome.{Judged, owed_by}
+use Rattle.cmd_run.proofs.RangeLaws.{of_one}
 use Rattle.cmd_run.proofs.index.numbered_output.Goals as goal
 
-pub tree_output-requires-clause-told : goal.tree_output-requires-clause-told
-tree_output-requires-clause-told g c names told = c.in-Ok.ensures.told names (sym c.in-Ok.ensures.asked.same ∙ told)
+pub returns-clause-output : goal.returns-clause-output
+returns-clause-output g c =
+    IfOk-weaker c.report_on_case.result _ _
+    (λ o is names told. is names told ∙ ap (λ (j : Judged). owed_by j) (of_one names c.args.case.now c.args.index c.requires.first))
+    c.report_on_case.ensures.output
