@@ -4,6 +4,7 @@ pub mod OrderLaws
 pub mod RisingLaws
 pub mod ApartLaws
 pub mod SortedLaws
+pub mod InsertLaws
 pub mod SourceLaws
 pub mod LargeLaws
 pub mod GroupLaws

@@ -1,3 +1,4 @@
 mod Sorting
+mod Matching
 mod Going
 mod OnLeaf

@@ -12,11 +12,11 @@ use Rattle.laws_search.proofs.Unique.{In-permutation, same_rising}
 use Rattle.bt_scan_lines.specs.Wanted.{put, sorted_by, wanted_entries}
 
 module _ {S E : Type 0} (o : Order S E) (laws : IsOrder o) where
-  abbrev below : E → E → Bool
+  abbrev pub below : E → E → Bool
   below d e = o.precedes d e
 
   -- they are one, or one is below the other
-  abbrev Compared : E → E → Type 0
+  abbrev pub Compared : E → E → Type 0
   Compared a b = (a ≡ b) ⊎ ((o.precedes a b ≡ true) ⊎ (o.precedes b a ≡ true))
 
   compared : (es : List E) (a b : E) → Rising o es → In a es → In b es → Compared a b
@@ -87,15 +87,15 @@ module _ {S E : Type 0} (o : Order S E) (laws : IsOrder o) where
 
   -- all of them
 
-  sorted_rises : (fs : List E) → Rising o (sorted_by below fs)
+  pub sorted_rises : (fs : List E) → Rising o (sorted_by below fs)
   sorted_rises [] = tt
   sorted_rises (f ∷ fs) = put_rises f (sorted_by below fs) (sorted_rises fs)
 
-  sorted_back : (fs : List E) (c : E) → In c (sorted_by below fs) → In c fs
+  pub sorted_back : (fs : List E) (c : E) → In c (sorted_by below fs) → In c fs
   sorted_back [] c h = h
   sorted_back (f ∷ fs) c h = elim (put_back f c (sorted_by below fs) h) [ inl p ↦ inl p | inr p ↦ inr (sorted_back fs c p) ]
 
-  sorted_has : (fs : List E) → ((a b : E) → In a fs → In b fs → Compared a b) → (c : E) → In c fs → In c (sorted_by below fs)
+  pub sorted_has : (fs : List E) → ((a b : E) → In a fs → In b fs → Compared a b) → (c : E) → In c fs → In c (sorted_by below fs)
   sorted_has [] near c h = absurd h
   sorted_has (f ∷ fs) near c h = elim h [
     | inl p ↦

@@ -1,5 +1,5 @@
 -- The entries that a scan wants, as one list.
-use Rattle.std.specs.Prelude.{Bool, cond, List, [], ◌∷◌}
+use Rattle.std.specs.Prelude.{◌≡◌, Bool, true, false, Contains, cond, List, [], ◌∷◌}
 use Rattle.std.specs.List.{filter}
 use Rattle.outside.specs.Outside.{Names}
 use Rattle.laws_search.specs.Keys.{Entry}
@@ -27,6 +27,12 @@ sorted_by below (e ∷ es) = put below e (sorted_by below es)
 -- the matching unkilled entries of the leaves, linked or not, in order
 unfoldable pub wanted_entries : {S E : Type 0} → Order S E → (E → Bool) → Index S E → Scan S E → List E
 wanted_entries o killed x scan = sorted_by o.precedes (filter (is_wanted killed scan) (entries_of x))
+
+-- the entry stands on a leaf, linked or not, the scan matches it, and it isn't killed
+pub record IsOneWanted {S E : Type 0} (killed : E → Bool) (x : Index S E) (scan : Scan S E) (e : E) : Type 0 where
+  pub among : Contains (entries_of x) e
+  pub matches : scan.matches e ≡ true
+  pub alive : killed e ≡ false
 
 -- those of an index that the names hold
 abbrev pub wanted_on : Names → SoundTree → Bounds → List (Entry Value Tid)

@@ -3,6 +3,8 @@
 
 mod backward;
 mod forward;
+mod laws;
 mod lines;
 
+pub use laws::wanted_entries_are_those_that_match;
 pub use lines::{ScanLines, scan_lines};

@@ -1,7 +1,7 @@
 -- What a run of `copy` is worth.
 use Rattle.std.proofs.Common.{◌≡◌, ◌∙◌, ◌⊎◌, ◌==◌, Bool, true, false, List, ℕ, refl, ap, subst, arith}
 use Rattle.std.specs.Prelude.{if◌then◌else◌, Option, Some, Ok}
-use Rattle.std.proofs.lemmas.Bool.{eqb-true}
+use Rattle.std.proofs.lemmas.Bool.{both_ways, eq-eqb, eqb-true}
 use Rattle.outside.specs.Outside.{Names}
 use Rattle.case_file.specs.Record.{CaseRecord}
 use Rattle.reports.specs.Lists.{Lists}
@@ -17,7 +17,7 @@ use Rattle.cmd_run.specs.Heap.{heap_judged}
 use Rattle.cmd_run.specs.Laws.{AreLaws}
 use Rattle.cmd_answers.specs.Outcome.{Judged, Meets, Outcome, judged_or, report_or}
 use Rattle.cmd_line.specs.Words.{Copy, Form, Heap}
-use Rattle.cmd_run.proofs.ReportLaws.{gave_up, judged_is, owed_code, quiet_code, rows_live}
+use Rattle.cmd_run.proofs.ReportLaws.{gave_up, judged_is, kept_quiet, nought_or, owed_code, quiet_code, quiet_kept, quiet_owes, quiet_true, rows_live}
 use Rattle.cmd_run.proofs.Worth.{complete_report, sound_report}
 
 none_unread : (n : ℕ) (b : Bool) → (n == 0) ≡ b → answer_code (if b then Clean else Unread) ≡ 0 → n ≡ 0
@@ -27,6 +27,15 @@ none_unread n false is e = absurd (omega (arith, e))
 all_read : (case : CaseRecord) (names : Names) → (rows_shown names case).code ≡ 0 → unread_values case names ≡ 0
 unfolding rows_shown
 all_read case names e = none_unread (unread_values case names) (unread_values case names == 0) refl e
+
+-- and where all are read this is the code
+read_by : (n : ℕ) (b : Bool) → (n == 0) ≡ b → n ≡ 0 → answer_code (if b then Clean else Unread) ≡ 0
+read_by n true is none = refl
+read_by n false is none = absurd (both_ways (n == 0) is (eq-eqb n 0 none))
+
+read_code : (case : CaseRecord) (names : Names) → unread_values case names ≡ 0 → (rows_shown names case).code ≡ 0
+unfolding rows_shown
+read_code case names none = read_by (unread_values case names) (unread_values case names == 0) refl none
 
 -- rows are owed with 0 where nothing is found and each of their values is read
 code_read : (case : CaseRecord) (names : Names) (lists : Lists) (old new : Option (List ℕ)) (code : ℕ) → Meets (report_or lists (rows_shown names case)) old new code
@@ -40,13 +49,21 @@ module _ (laws : AreLaws) (file : List ℕ) (case : CaseRecord) (names : Names) 
   owed : copy_outcome file names ≡ report_or lists (rows_shown names case)
   owed = ap (read_copied names) meant ∙ ap (λ (j : Judged). judged_or j (rows_shown names case)) (judged_is file case names lists meant e)
 
+  read : (old new : Option (List ℕ)) (code : ℕ) → Meets (report_or lists (rows_shown names case)) old new code → code ≡ 0 → (is_quiet lists ≡ true) × (unread_values case names ≡ 0)
+  read old new code meets nought = code_read case names lists old new code meets nought
+
   copy_by : (old new : Option (List ℕ)) (code : ℕ) → Meets (report_or lists (rows_shown names case)) old new code → IsCopy file case names lists old new code
   copy_by old new code meets = record {
     written = meets;
     sound = sound_report laws (Heap file) names lists e;
     complete = complete_report laws (Heap file) names lists e;
     rows = rows_live file case names lists meant e laws;
-    read = code_read case names lists old new code meets;
+    read = read old new code meets;
+    clean = λ nothing sure all.
+        nought_or (report_or lists (rows_shown names case)) old new code meets
+        (quiet_owes lists (rows_shown names case) (kept_quiet (Heap file) names lists (sound_report laws (Heap file) names lists e) nothing sure) (read_code case names all));
+    whole = λ nought. quiet_kept laws (Heap file) names lists e (read old new code meets nought).0;
+    truth = λ nought. quiet_true laws file names lists e (read old new code meets nought).0;
   }
 
   -- a run that was to write

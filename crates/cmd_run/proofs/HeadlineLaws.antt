@@ -1,6 +1,6 @@
 -- Where nothing is found of a table and an index of it, the index is true to the table.
-use Rattle.std.proofs.Common.{◌≡◌, ◌∙◌, ◌⊎◌, ℕ, suc, Bool, true, false, List, [], ◌∷◌, inl, inr, refl, ap, subst}
-use Rattle.std.specs.Prelude.{Contains, None, not, if◌then◌else◌}
+use Rattle.std.proofs.Common.{◌≡◌, ◌∙◌, ◌⊎◌, ℕ, suc, Bool, true, false, List, [], ◌∷◌, inl, inr, refl, ap, sym, subst}
+use Rattle.std.specs.Prelude.{Contains, None, Some, not, if◌then◌else◌}
 use Rattle.std.specs.List.{filter}
 use Rattle.std.specs.Ordering.{ordering_then}
 use Rattle.std.specs.declared.cmp.Ordering.{Ordering}
@@ -22,14 +22,16 @@ use Rattle.heap_table_check.specs.Found.{IsQuiet}
 use Rattle.heap_table_check.proofs.TrueLaws.{case_is_true}
 use Rattle.heap_rows.specs.RowLaws.{AreLiveTuples, HasRowAt, IsWholeRow}
 use Rattle.heap_rows.specs.Rows.{rows_of}
+use Rattle.bt_image.specs.Image.{LeafEntry}
+use Rattle.bt_image.proofs.Gathered.{gathered}
 use Rattle.bt_levels.specs.Broken.{IsTrueTree}
 use Rattle.bt_levels.specs.Index.{tree_of}
 use Rattle.bt_steps.specs.Pages.{is_killed}
 use Rattle.bt_steps.specs.Sought.{HasAlive}
-use Rattle.bt_steps.proofs.Members.{either-in, first-in, none-in, other-in}
-use Rattle.join_rules.specs.Broken.{AreJoined, IsIndexed}
+use Rattle.bt_steps.proofs.Members.{either-in, first-in, in-map, none-in, other-in}
+use Rattle.join_rules.specs.Broken.{AreJoined, HasEntry, IsIndexed}
+use Rattle.join_rules.specs.Entries.{tree_entries}
 use Rattle.join_rules.specs.Unique.{AreUnique}
-use Rattle.join_rules.proofs.Alive.{searched}
 use Rattle.join_rules.specs.Rows.{keys_of}
 use Rattle.cmd_run.specs.Headline.{Finds, IsAnswered, IsFound, IsTrueIndex, just_at, pages_of}
 use Rattle.cmd_run.specs.Laws.{AreLaws}
@@ -102,10 +104,25 @@ module _ (laws : AreLaws) (case : CaseRecord) (names : Names) (n : ℕ) (sound :
   live : AreLiveTuples case names (rows_of case names)
   live = laws.rows case names sound quiet
 
+  -- its entry, as a search sees it
+  seen : (key more : List Value) (root : Tid) → HasEntry case names n key more root → HasAlive (pages_of case names n) key root
+  seen key more root has = record {
+    entry = has.entry.entry;
+    among =
+        subst (λ es. Contains es has.entry.entry) (sym (gathered (tree_of case names n).specs (tree_of case names n).more (tree_of case names n).blocks (tree_of case names n).block))
+        (in-map (λ (e : LeafEntry). e.entry) (tree_entries (tree_of case names n)) has.entry has.among);
+    sought = has.sought;
+    alive = has.alive;
+  }
+
+  among_found : (key more : List Value) (root : Tid) (es : List (Entry Value Tid)) → Finds case names n (just_at key) es → (has : HasEntry case names n key more root)
+      → Contains es has.entry.entry
+  unfolding seen
+  among_found key more root es finds has = comes key root es finds (seen key more root has)
+
   found_by : (tid : Tid) (has : HasRowAt (rows_of case names) tid) → IsIndexed case names n has.row → IsFound case names n tid
   found_by tid has is =
       let answer = answered (just_at is.key) in
-      let entry = searched (tree_of case names n) is.key is.more has.row.root is.entry in
       record {
         row = has.row;
         at = has.at;
@@ -114,9 +131,12 @@ module _ (laws : AreLaws) (case : CaseRecord) (names : Names) (n : ℕ) (sound :
         values = is.values;
         entries = answer.entries;
         finds = answer.finds;
-        entry = entry.entry;
-        among = comes is.key has.row.root answer.entries answer.finds entry;
-        root = entry.sought.tid_is;
+        entry = is.entry.entry;
+        stands = is.entry.among;
+        among = among_found is.key is.more has.row.root answer.entries answer.finds is.entry;
+        root = is.entry.sought.tid_is;
+        own_key = is.entry.sought.values;
+        included = is.included ∙ ap Some (sym is.entry.included);
       }
 
   pub index_is_true : IsTrueIndex case names n

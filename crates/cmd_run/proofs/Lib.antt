@@ -1,5 +1,6 @@
 pub mod AllLaws
 pub mod CopyLaws
+pub mod DoubtLaws
 pub mod GeneratedLaws
 pub mod HeadlineLaws
 pub mod HeapLaws
@@ -10,6 +11,7 @@ pub mod RangeLaws
 pub mod ReindexLaws
 pub mod ReportLaws
 pub mod ScanLaws
+pub mod ScannedLaws
 pub mod TreesLaws
 pub mod TogetherLaws
 pub mod WholeLaws

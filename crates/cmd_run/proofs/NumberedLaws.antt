@@ -131,13 +131,13 @@ module _ (laws : AreLaws) (case : CaseRecord) (names : Names) (n : ℕ) where
   no_doubt_in_tree : AreEmpty (tree_lists case names n) → (place : Place) → IsDoubtedAt (tree_lists case names n) place → ⊥
   no_doubt_in_tree empty place (doubted reason has) = none_listed (tree_lists case names n) place empty.findings empty.unjudged (in_doubt reason has)
 
-  keeps_tree : AreEmpty (tree_lists case names n) → KeepsTree case names n
+  pub keeps_tree : AreEmpty (tree_lists case names n) → KeepsTree case names n
   keeps_tree empty = record {
     unbroken = λ rule place broken. none_in_tree empty rule place (tree.listed rule place broken);
     certain = λ reason place doubt. no_doubt_in_tree empty place (tree.doubted reason place doubt);
   }
 
-  tree_empty : KeepsTree case names n → AreEmpty (tree_lists case names n)
+  pub tree_empty : KeepsTree case names n → AreEmpty (tree_lists case names n)
   tree_empty keeps = record {
     findings = no_members (λ f. BreaksTree case names n f.rule f.place) (tree_lists case names n).findings tree.sound (λ f broken. keeps.unbroken f.rule f.place broken);
     unjudged = no_members (λ u. DoubtsTree case names n u.reason u.place) (tree_lists case names n).unjudged tree.doubts (λ u doubt. keeps.certain u.reason u.place doubt);

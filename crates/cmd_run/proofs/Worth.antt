@@ -63,15 +63,15 @@ none_told lists rule place none sure (inr behind) = none_listed lists behind.fir
 
 module _ (laws : AreLaws) (lists : Lists) (none : lists.findings ≡ []) (sure : lists.unjudged ≡ []) where
   -- a report without findings, and with nothing in doubt, tells that nothing is broken,
-  empty_breaks : (check : Check) (names : Names) → judged_by check names ≡ Ok lists → BreaksNothing check names
+  pub empty_breaks : (check : Check) (names : Names) → judged_by check names ≡ Ok lists → BreaksNothing check names
   empty_breaks check names e rule place broken = none_told lists rule place none sure ((complete_report laws check names lists e).broken rule place broken)
 
   -- that all can be judged,
-  empty_doubts : (check : Check) (names : Names) → judged_by check names ≡ Ok lists → DoubtsNothing check names
+  pub empty_doubts : (check : Check) (names : Names) → judged_by check names ≡ Ok lists → DoubtsNothing check names
   empty_doubts check names e reason place doubted = none_listed lists place none sure ((complete_report laws check names lists e).in_doubt reason place doubted)
 
   -- and that what is said of clean files is true
-  empty_is_true : (check : Check) (names : Names) → judged_by check names ≡ Ok lists → IsTrue check names
+  pub empty_is_true : (check : Check) (names : Names) → judged_by check names ≡ Ok lists → IsTrue check names
   empty_is_true (Pages name) names e = tt
   empty_is_true (Heap name) names e = heap_true name names lists e none sure
   empty_is_true (Index case name) names e = index_true laws case name names lists e none sure
@@ -79,7 +79,7 @@ module _ (laws : AreLaws) (lists : Lists) (none : lists.findings ≡ []) (sure :
   empty_is_true (Generated seed rows) names e = generated_true laws seed rows lists e none sure
 
 -- what never comes isn't listed
-none_of : {X : Type 0} {P : X → Type 0} (xs : List X) → All P xs → ((x : X) → P x → ⊥) → xs ≡ []
+pub none_of : {X : Type 0} {P : X → Type 0} (xs : List X) → All P xs → ((x : X) → P x → ⊥) → xs ≡ []
 none_of [] all never = refl
 none_of {P = P} (x ∷ xs) all never = absurd (never x (All-head P x xs all))
 

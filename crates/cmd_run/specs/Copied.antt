@@ -1,5 +1,5 @@
 -- What a run of `copy` is worth.
-use Rattle.std.specs.Prelude.{◌≡◌, ℕ, true, List, Option, Some, Ok}
+use Rattle.std.specs.Prelude.{◌≡◌, ℕ, ◌⊎◌, true, List, Option, Some, Ok}
 use Rattle.outside.specs.Outside.{Names}
 use Rattle.case_file.specs.Record.{CaseRecord}
 use Rattle.reports.specs.Lists.{Lists}
@@ -7,10 +7,11 @@ use Rattle.bt_levels.specs.Lists.{is_quiet}
 use Rattle.heap_rows.specs.RowLaws.{AreLiveTuples}
 use Rattle.heap_rows.specs.Rows.{rows_of}
 use Rattle.copy_out.specs.Live.{unread_values}
+use Rattle.cmd_answers.specs.Answers.{GaveUp}
 use Rattle.cmd_answers.specs.Cases.{case_in}
-use Rattle.cmd_run.specs.Commands.{IsComplete, IsSound}
+use Rattle.cmd_run.specs.Commands.{BreaksNothing, DoubtsNothing, IsComplete, IsSound}
 use Rattle.cmd_run.specs.Copy.{rows_shown}
-use Rattle.cmd_run.specs.Heap.{heap_judged}
+use Rattle.cmd_run.specs.Heap.{HasTrueHeap, heap_judged}
 use Rattle.cmd_answers.specs.Outcome.{Meets, report_or}
 use Rattle.cmd_line.specs.Words.{Copy, Heap, form_of}
 
@@ -28,6 +29,14 @@ pub record IsCopy
   pub rows : is_quiet lists ≡ true → AreLiveTuples case names (rows_of case names)
   -- where 0 is answered these are written, and each of their values is read
   pub read : code ≡ 0 → (is_quiet lists ≡ true) × (unread_values case names ≡ 0)
+  -- a table whose files break no rule, of which all can be judged, and of whose values each can be read gives 0, unless
+  -- the run gave up
+  pub clean : BreaksNothing (Heap file) names → DoubtsNothing (Heap file) names → unread_values case names ≡ 0
+      → (code ≡ 0) ⊎ GaveUp code
+  -- where 0 is answered the files break no rule, and all of them can be judged
+  pub whole : code ≡ 0 → BreaksNothing (Heap file) names × DoubtsNothing (Heap file) names
+  -- and what is said of a clean heap is true of the heap
+  pub truth : code ≡ 0 → HasTrueHeap file names
 
 -- where the words ask for `copy`, the file means a case, and nothing refuses its files, P holds of these
 abbrev pub ForCopy : List (List ℕ) → Names → (List ℕ → CaseRecord → Lists → Type 0) → Type 0

@@ -13,15 +13,15 @@ use Rattle.key_orders.specs.declared.Tid.{Tid}
 use Rattle.key_orders.specs.declared.columns.Value.{Value}
 use Rattle.case_file.specs.Record.{CaseRecord}
 use Rattle.heap_table_check.specs.Truth.{IsTrueHeap}
-use Rattle.bt_image.specs.Image.{TreeIndex}
+use Rattle.bt_image.specs.Image.{LeafEntry, TreeIndex}
 use Rattle.bt_level_check.specs.Trees.{image_of}
 use Rattle.bt_levels.specs.Index.{tree_of}
 use Rattle.bt_steps.specs.Pages.{is_killed}
 use Rattle.heap_rows.specs.RowLaws.{IsLiveAt, IsWholeRow}
 use Rattle.heap_rows.specs.declared.rows.LiveRow.{LiveRow}
 use Rattle.join_rules.specs.Broken.{IsAt}
-use Rattle.join_rules.specs.Entries.{may_be_named}
-use Rattle.join_rules.specs.Rows.{key_of, keys_of}
+use Rattle.join_rules.specs.Entries.{may_be_named, tree_entries}
+use Rattle.join_rules.specs.Rows.{key_of, keys_of, more_of}
 use Rattle.join_rules.specs.Unique.{AreUnique}
 
 -- The pages of index n, as a search reads their bytes: entries, separators and downlinks, siblings, the fast root.
@@ -48,9 +48,15 @@ pub record IsAnswered (case : CaseRecord) (names : Names) (n : ℕ) (bounds : Bo
 abbrev pub just_at : List Value → Bounds
 just_at key = bounds_of key true key true
 
+-- The entries of the leaves of index n, each with the values of the columns that the index includes. A search looks at
+-- none of these.
+abbrev pub leaf_entries_of : CaseRecord → Names → ℕ → List LeafEntry
+leaf_entries_of case names n = tree_entries (tree_of case names n)
+
 -- The live tuple at this place is found. It is a row: of the roots on its page, which alone an entry may name, exactly
 -- one leads to it, and its cells are what its columns hold, in the heap or in the TOAST table. It has a key in the
--- index, and the search for just this key comes to an entry that names the row's root.
+-- index, and the search for just this key comes to an entry that names the row's root. That entry stands on a leaf, has
+-- the row's key, and has the values of the row in the columns that the index includes.
 pub record IsFound (case : CaseRecord) (names : Names) (n : ℕ) (tid : Tid) : Type 0 where
   pub row : LiveRow
   pub at : row.tid ≡ tid
@@ -59,9 +65,12 @@ pub record IsFound (case : CaseRecord) (names : Names) (n : ℕ) (tid : Tid) : T
   pub values : key_of case n row ≡ Some key
   pub entries : List (Entry Value Tid)
   pub finds : Finds case names n (just_at key) entries
-  pub entry : Entry Value Tid
-  pub among : Contains entries entry
-  pub root : entry.tid ≡ row.root
+  pub entry : LeafEntry
+  pub stands : Contains (leaf_entries_of case names n) entry
+  pub among : Contains entries entry.entry
+  pub root : entry.entry.tid ≡ row.root
+  pub own_key : entry.entry.values ≡ key
+  pub included : more_of case n row ≡ Some entry.more
 
 -- Index n is true to its table:
 pub record IsTrueIndex (case : CaseRecord) (names : Names) (n : ℕ) : Type 0 where

@@ -9,6 +9,7 @@ pub mod Index
 pub mod Laws
 pub mod Numbered
 pub mod Scan
+pub mod Scanned
 pub mod Reindex
 pub mod Reindexed
 pub mod Tables

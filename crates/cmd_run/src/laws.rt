@@ -9,6 +9,7 @@ ghost use Rattle.cmd_run.specs.Index.{index_found};
 ghost use Rattle.cmd_run.specs.Laws.{AreLaws};
 
 use bt_levels::indexes_are_judged;
+use bt_scan_lines::wanted_entries_are_those_that_match;
 use heap_rows::rows_are_live_tuples;
 use join_rules::heaps_and_indexes_are_judged;
 use key_orders::{key_orders_are_total, keys_are_searchable};
@@ -23,6 +24,7 @@ pub fn reports_have_worth()
     rows_are_live_tuples();
     keys_are_searchable();
     key_orders_are_total();
+    wanted_entries_are_those_that_match();
 }
 
 /// Where the files of an index of a case hold what `reindex` writes of the case's table (`IsRemade`), and no two live

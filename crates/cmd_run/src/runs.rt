@@ -1,11 +1,13 @@
 //! The top call.
 ghost use Rattle.std.specs.Prelude.{◌≡◌, ◌≢◌, ◌≤◌, ◌⊎◌, Err, IfOk, None, Some, false, map, string_bytes};
 ghost use Rattle.outside.specs.Outside.{Asked, IfTold, Names, Rose, Tells};
-ghost use Rattle.cmd_run.specs.Commands.{ForGenerated, ForReport, IsGenerated, IsWorth, outcome, outcome_of};
+ghost use Rattle.cmd_run.specs.Commands.{AsksNoFiles, ForGenerated, ForReport, IsGenerated, IsWorth, outcome};
+ghost use Rattle.cmd_run.specs.Commands.{outcome_of};
 ghost use Rattle.cmd_run.specs.Copied.{ForCopy, IsCopy};
 ghost use Rattle.cmd_run.specs.Generated.{generated_owed};
 ghost use Rattle.cmd_run.specs.Reindex.{ForNamed, MayBeRemade};
 ghost use Rattle.cmd_run.specs.Reindexed.{ForReindex, IsReindex};
+ghost use Rattle.cmd_run.specs.Scanned.{ForScan, IsScan};
 ghost use Rattle.cmd_answers.specs.Outcome.{Meets, usage};
 ghost use Rattle.cmd_line.specs.Seen.{form_seen};
 ghost use Rattle.cmd_answers.specs.Seen.{outcome_seen};
@@ -39,6 +41,7 @@ fn output_of<F: Files>(
     ensures unread { ForGenerated (Some (form_seen command.entry)) (λ seed rows. result ≢ Err RunFault.ReadFault) }
     ensures made { Tells F.seen files.old result (λ o names. ForNamed (Some (form_seen command.entry)) (λ file name.
         (outcome_seen o).code ≡ 0 → MayBeRemade file name names)) }
+    ensures unasked { AsksNoFiles (Some (form_seen command.entry)) → files.new ≡ files.old }
     ensures asked { Asked F.seen files.old files.new result RunFault.ReadFault }
 {
     match command {
@@ -77,6 +80,10 @@ pub fn run<F: Files, S: Sink>(
     // What `copy` is worth: see specs/Copied.
     ensures copied { IfTold F.seen files.old (λ names. ForCopy (map string_bytes words.now) names (λ file case lists.
         IsCopy file case names lists (S.written sink.old) (S.written sink.new) result.code)) }
+    // What `scan` is worth: see specs/Scanned.
+    ensures scanned { IfTold F.seen files.old (λ names. ForScan (map string_bytes words.now) names
+        (λ case n bounds direction lists.
+        IsScan case names n bounds direction lists (S.written sink.old) (S.written sink.new) result.code)) }
     // What `reindex` is worth: see specs/Reindexed.
     ensures reindexed { IfTold F.seen files.old (λ names. ForReindex (map string_bytes words.now) names
         (λ file case n lists.
@@ -86,6 +93,10 @@ pub fn run<F: Files, S: Sink>(
         Meets usage (S.written sink.old) (S.written sink.new) result.code
         × ((result.code ≡ 3) ⊎ (result.code ≡ 8)) }
     ensures usage { result.code ≡ 3 → form_of (map string_bytes words.now) ≡ None }
+
+    // Words without a form and those of `gen` leave the files as they are, whatever a call of theirs would change: none
+    // is looked for or read.
+    ensures unasked { AsksNoFiles (form_of (map string_bytes words.now)) → files.new ≡ files.old }
 
     // The files hold what they held. When a run gives up, and what it leaves.
     ensures same { (F.seen files.new).held ≡ (F.seen files.old).held }

@@ -3,6 +3,7 @@ use Rattle.cmd_line.specs.Seen.{form_asked, form_seen}
 use Rattle.cmd_answers.specs.Seen.{outcome_seen}
 use Rattle.cmd_run.proofs.CopyLaws.{copy_worth, given_up_copy}
 use Rattle.cmd_run.proofs.ReindexLaws.{given_up_reindex, reindex_worth}
+use Rattle.cmd_run.proofs.ScannedLaws.{given_up_scan, scan_worth}
 use Rattle.cmd_run.proofs.Worth.{gave_up_generated, given_up_worth, worth_by, worth_generated}
 use Rattle.cmd_answers.specs.Answers.{IsOutcomeCode}
 use Rattle.cmd_run.proofs.runs.run.Goals as goal
@@ -79,3 +80,21 @@ returns-then-refused_memory-clause-reindexed g c names told file name case n lis
 pub returns-else-refused_memory-clause-reindexed : goal.returns-else-refused_memory-clause-reindexed
 returns-else-refused_memory-clause-reindexed g c names told file name case n lists asked meant numbered e =
     given_up_reindex c.reports_have_worth.ensures file name case names n lists meant numbered e _ _ _ (inl c.status-else-refused_memory.ensures)
+
+pub returns-in-Ok-clause-scanned : goal.returns-in-Ok-clause-scanned
+returns-in-Ok-clause-scanned g c names told file name bounds direction case n lists asked meant numbered fits judged =
+    let form = ap form_asked (sym c.in-Some.is) ∙ c.command_of.ensures ∙ asked in
+    scan_worth c.reports_have_worth.ensures case names n bounds direction lists judged file name meant numbered fits (form_seen c.in-Some.command) (outcome_seen c.in-Ok.output) form
+    (c.in-Ok.ensures.output names told) _ _ _ (rw c.as_slice.ensures at c.write_text-in-Ok.ensures.meets)
+
+pub returns-in-Err-NoMemory-clause-scanned : goal.returns-in-Err-NoMemory-clause-scanned
+returns-in-Err-NoMemory-clause-scanned g c names told file name bounds direction case n lists asked meant numbered fits judged =
+    given_up_scan c.reports_have_worth.ensures case names n bounds direction lists judged _ _ _ (inr c.status.ensures)
+
+pub returns-then-refused_memory-clause-scanned : goal.returns-then-refused_memory-clause-scanned
+returns-then-refused_memory-clause-scanned g c names told file name bounds direction case n lists asked meant numbered fits judged =
+    given_up_scan c.reports_have_worth.ensures case names n bounds direction lists judged _ _ _ (inr c.status-then-refused_memory.ensures)
+
+pub returns-else-refused_memory-clause-scanned : goal.returns-else-refused_memory-clause-scanned
+returns-else-refused_memory-clause-scanned g c names told file name bounds direction case n lists asked meant numbered fits judged =
+    given_up_scan c.reports_have_worth.ensures case names n bounds direction lists judged _ _ _ (inl c.status-else-refused_memory.ensures)
