@@ -17,6 +17,7 @@ use Rattle.bt_levels.specs.Lists.{is_quiet}
 use Rattle.bt_levels.proofs.LevelLaws.{empty_quiet, quiet_empty}
 use Rattle.bt_steps.proofs.Members.{none-in}
 use Rattle.heap_rows.specs.Rows.{rows_of}
+use Rattle.laws_built_index.specs.Items.{tids_of}
 use Rattle.bt_build.specs.Listed.{Listed}
 use Rattle.bt_build.specs.Outcome.{MayBeIndexed, is_too_large, large_among, large_tid, lowest_tid, tree_for}
 use Rattle.join_row_entries.specs.Entries.{AreDoubted, AreListed, doubts_of, rows_listed}
