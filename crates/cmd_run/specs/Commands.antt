@@ -129,7 +129,7 @@ ForReport words names P =
 abbrev pub ForGenerated : Option Form → ((seed rows : ℕ) → Type 0) → Type 0
 ForGenerated form P = (seed rows : ℕ) → form ≡ Some (Judge (Generated seed rows)) → P seed rows
 
--- the words ask nothing of the files: they have no form, or are those of `gen`
+-- the words ask nothing of the files: they have no form, or are those of `gen`, `--help` or `--version`
 abbrev pub AsksNoFiles : Option Form → Type 0
 AsksNoFiles None = Unit {0}
 AsksNoFiles (Some (Judge (Pages name))) = ⊥
@@ -141,6 +141,7 @@ AsksNoFiles (Some (Copy case)) = ⊥
 AsksNoFiles (Some (Reindex case name)) = ⊥
 AsksNoFiles (Some (Show kind name block)) = ⊥
 AsksNoFiles (Some (Scan case name bounds direction)) = ⊥
+AsksNoFiles (Some (Tell notice)) = Unit {0}
 
 pub record IsGenerated (seed rows : ℕ) (names : Names) (old new : Option (List ℕ)) (code : ℕ) : Type 0 where
   -- the lines and the report, or the refusal, are written and answered, but for faults and want of memory

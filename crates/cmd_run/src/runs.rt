@@ -94,8 +94,8 @@ pub fn run<F: Files, S: Sink>(
         × ((result.code ≡ 3) ⊎ (result.code ≡ 8)) }
     ensures usage { result.code ≡ 3 → form_of (map string_bytes words.now) ≡ None }
 
-    // Words without a form and those of `gen` leave the files as they are, whatever a call of theirs would change: none
-    // is looked for or read.
+    // Words without a form and those of `gen`, `--help` and `--version` leave the files as they are, whatever a call of
+    // theirs would change: none is looked for or read.
     ensures unasked { AsksNoFiles (form_of (map string_bytes words.now)) → files.new ≡ files.old }
 
     // The files hold what they held. When a run gives up, and what it leaves.
