@@ -3,7 +3,7 @@ ghost use Rattle.std.specs.Prelude.{◌≡◌, ◌+◌, ◌<◌, ◌≤◌, ◌�
 ghost use Rattle.std.specs.Prelude.{Some, None};
 ghost use Rattle.std.specs.Prelude.{IfOk, IfSome, OnErr, OnOk};
 ghost use Rattle.outside.specs.Counting.{one_more};
-ghost use Rattle.outside.specs.Outside.{Asked, IfTold, Names, Tells};
+ghost use Rattle.outside.specs.Outside.{Asked, AskedAtMost, IfTold, Names, Tells};
 ghost use Rattle.liveness.specs.LogFiles.{log_files_of};
 ghost use Rattle.rel_files.specs.Relation.{count_of};
 ghost use Rattle.case_file.specs.declared.case.Column.{Column as TableColumn};
@@ -87,6 +87,7 @@ impl<'a> RowCursor<'a> {
     ghost use Rattle.heap_rows.specs.RowCursor.{IsAtRow, IsCursorOf, IsPageDone, IsPlaceOfFirst, IsSameCursor};
     ghost use Rattle.heap_rows.specs.RowCursor.{asked_at, case_at, heap_at, line_pointers_of, next_in, rows_ahead};
     ghost use Rattle.heap_rows.specs.RowCursor.{rows_here, taken_in};
+    ghost use Rattle.heap_rows.specs.Reads.{block_reads, value_reads};
 
     // A cursor before the first row, which is asked for these columns. No block is read yet.
     pub(crate) fn asking(
@@ -159,7 +160,7 @@ impl<'a> RowCursor<'a> {
         ensures same { IsSameCursor self.old self.new }
         ensures next { self.new.next ≡ self.old.next }
         ensures taken { taken_in self.new ≡ taken_in self.old }
-        ensures asked { Asked F.seen files.old files.new result PageFault.ReadFault }
+        ensures asked { AskedAtMost (value_reads self.old) F.seen files.old files.new result PageFault.ReadFault }
     {
         let case = self.case;
         let heap = self.heap;
@@ -190,7 +191,8 @@ impl<'a> RowCursor<'a> {
         ensures same { IsSameCursor self.old self.new }
         ensures next { OnOk result (self.new.next ≡ self.old.next + 1) }
         ensures taken { taken_in self.new ≡ one_more (taken_in self.old) }
-        ensures asked { Asked F.seen files.old files.new result PageFault.ReadFault }
+        ensures asked { AskedAtMost (block_reads (heap_at self.old) (next_in self.old)) F.seen files.old files.new result
+            PageFault.ReadFault }
     {
         let case = self.case;
         let heap = self.heap;
@@ -218,7 +220,8 @@ impl<'a> RowCursor<'a> {
         ensures told { IfTold F.seen files.old (λ names. IsCursorOf names self.new) }
         ensures same { IsSameCursor self.old self.new }
         ensures next { OnOk result (self.new.next ≡ self.old.next + 1) }
-        ensures asked { Asked F.seen files.old files.new result PageFault.ReadFault }
+        ensures asked { AskedAtMost (block_reads (heap_at self.old) (next_in self.old) + value_reads self.old) F.seen
+            files.old files.new result PageFault.ReadFault }
     {
         self.take_next(files)?;
         self.find_in_hand(files)
@@ -332,7 +335,8 @@ impl<'a> RowCursor<'a> {
         ensures same { IsSameCursor self.old self.new }
         ensures next { OnOk result (next_in self.new ≡ next_in self.old + 1) }
         ensures taken { taken_in self.new ≡ one_more (taken_in self.old) }
-        ensures asked { Asked F.seen files.old files.new result PageFault.ReadFault }
+        ensures asked { AskedAtMost (block_reads (heap_at self.old) (next_in self.old)) F.seen files.old files.new result
+            PageFault.ReadFault }
     {
         self.take_next(files)?;
         Ok(self.page.count)
@@ -353,7 +357,7 @@ impl<'a> RowCursor<'a> {
         ensures next { next_in self.new ≡ next_in self.old }
         ensures taken { taken_in self.new ≡ taken_in self.old }
         ensures same { IsSameCursor self.old self.new }
-        ensures asked { Asked F.seen files.old files.new result PageFault.ReadFault }
+        ensures asked { AskedAtMost (value_reads self.old) F.seen files.old files.new result PageFault.ReadFault }
     {
         if self.find_in_hand(files)? {
             return Ok(Some(self.place()));

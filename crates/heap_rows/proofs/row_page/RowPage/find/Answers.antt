@@ -1,7 +1,9 @@
-use Rattle.std.proofs.Common.{◌≡◌, ℕ, ◌+◌, ◌≤◌, [], refl, sym, ap, subst, ◌∙◌, arith}
+use Rattle.std.proofs.Common.{◌≡◌, ℕ, ◌+◌, ◌≤◌, [], length, refl, sym, ap, subst, ◌∙◌, arith}
 use Rattle.heap_rows.specs.RowPages.{IsRowFound}
+use Rattle.heap_rows.specs.Reads.{row_reads}
+use Rattle.heap_rows.specs.RowValues.{count_asked}
 use Rattle.std.specs.Option.{option_copied}
-use Rattle.outside.proofs.Asking.{Passed-next}
+use Rattle.outside.proofs.Asking.{PassedAtMost-next}
 use Rattle.heap_rows.specs.Rows.{item_rows}
 use Rattle.heap_rows.proofs.RowSteps.{in_hand_done, in_hand_next, in_hand_same, known_same, same_as}
 use Rattle.heap_rows.proofs.row_page.RowPage.find.Goals as goal
@@ -43,7 +45,7 @@ loop-k-preserved g c =
           ∙ c.loop-k.invariant.left names told case known are;
       page = same_as c.args.self.now c.loop-k.self _ c.loop-k.invariant.page (record { block = page.block; bytes = page.bytes; count = page.count; plain = page.plain; states = page.states; roots = page.roots });
       done = refl;
-      asked = Passed-next c.loop-k.invariant.asked c.in_ok-find_at.ensures.asked;
+      asked = PassedAtMost-next (row_reads (option_copied c.args.from.now.toast) (count_asked (length c.args.from.now.columns.now) c.args.from.now.asked.now)) c.loop-k.k c.loop-k.invariant.asked c.in_ok-find_at.ensures.asked;
     }
 
 pub returns-clause-left : goal.returns-clause-left
