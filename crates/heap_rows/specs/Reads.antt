@@ -16,8 +16,8 @@ ReadAtMost n seen old new = (seen new).reads ≤ (seen old).reads + n
 
 -- Blocks
 
--- of the logs for the states of a page's items: never where the page is plain, and else at most 327690 times for each of
--- 2042 items
+-- of the logs for the states of a page's items: never where the page is plain, and else at most 327690 times for each
+-- of 2042 items
 abbrev pub state_reads : Bool → ℕ
 state_reads true = 0
 state_reads false = 669142980

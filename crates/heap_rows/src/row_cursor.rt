@@ -192,8 +192,8 @@ impl<'a> RowCursor<'a> {
         ensures next { OnOk result (self.new.next ≡ self.old.next + 1) }
         ensures onward { self.old.next ≤ self.new.next }
         ensures taken { taken_in self.new ≡ one_more (taken_in self.old) }
-        ensures asked { AskedAtMost (block_reads (heap_at self.old) (next_in self.old)) F.seen files.old files.new result
-            PageFault.ReadFault }
+        ensures asked { AskedAtMost (block_reads (heap_at self.old) (next_in self.old)) F.seen files.old files.new
+            result PageFault.ReadFault }
     {
         let case = self.case;
         let heap = self.heap;
@@ -238,8 +238,8 @@ impl<'a> RowCursor<'a> {
         ensures told { IfTold F.seen files.old (λ names. IsCursorOf names self.new) }
         ensures same { IsSameCursor self.old self.new }
         ensures next { next_in self.old ≤ next_in self.new }
-        ensures asked { AskedAtMost (way_reads self.old (next_in self.new - next_in self.old + 1)) F.seen files.old files.new
-            result PageFault.ReadFault }
+        ensures asked { AskedAtMost (way_reads self.old (next_in self.new - next_in self.old + 1)) F.seen files.old
+            files.new result PageFault.ReadFault }
         ensures most { OnOk result (ReadAtMost (way_reads self.old (next_in self.new - next_in self.old)) F.seen
             files.old files.new) }
     {
@@ -289,8 +289,8 @@ impl<'a> RowCursor<'a> {
         ensures told { IfTold F.seen files.old (λ names. IsCursorOf names self.new) }
         ensures same { IsSameCursor self.old self.new }
         ensures next { next_in self.old ≤ next_in self.new }
-        ensures asked { AskedAtMost (way_reads self.old (next_in self.new - next_in self.old + 1)) F.seen files.old files.new
-            result PageFault.ReadFault }
+        ensures asked { AskedAtMost (way_reads self.old (next_in self.new - next_in self.old + 1)) F.seen files.old
+            files.new result PageFault.ReadFault }
         ensures most { OnOk result (ReadAtMost (way_reads self.old (next_in self.new - next_in self.old)) F.seen
             files.old files.new) }
     {
@@ -347,8 +347,8 @@ impl<'a> RowCursor<'a> {
         ensures same { IsSameCursor self.old self.new }
         ensures next { OnOk result (next_in self.new ≡ next_in self.old + 1) }
         ensures taken { taken_in self.new ≡ one_more (taken_in self.old) }
-        ensures asked { AskedAtMost (block_reads (heap_at self.old) (next_in self.old)) F.seen files.old files.new result
-            PageFault.ReadFault }
+        ensures asked { AskedAtMost (block_reads (heap_at self.old) (next_in self.old)) F.seen files.old files.new
+            result PageFault.ReadFault }
     {
         self.take_next(files)?;
         Ok(self.page.count)

@@ -39,8 +39,8 @@ fn probe_in_turn<F: Files>(
     ensures visits { IfTold F.seen files.old (λ names. OnOk result (look_ups.new.visits.count
         ≤ look_ups.old.visits.count
         + length (rows_of at.entry.case.now names) * look_length names at.entry.tree.now)) }
-    ensures reads { IfTold F.seen files.old (λ names.
-        ReadAtMost (probe_reads names at.entry.case.now at.entry.heap.now at.entry.tree.now) F.seen files.old files.new) }
+    ensures reads { IfTold F.seen files.old (λ names. ReadAtMost
+        (probe_reads names at.entry.case.now at.entry.heap.now at.entry.tree.now) F.seen files.old files.new) }
     ensures of { IfTold F.seen files.old (λ names. AreOf names at.entry.tree.now look_ups.new) }
     ensures asked { Asked F.seen files.old files.new result PageFault.ReadFault }
 {
@@ -88,8 +88,8 @@ pub fn probe_rows<F: Files>(
     ensures visits { IfTold F.seen files.old (λ names. OnOk result (look_ups.new.visits.count
         ≤ look_ups.old.visits.count
         + length (rows_of at.entry.case.now names) * look_length names at.entry.tree.now)) }
-    ensures reads { IfTold F.seen files.old (λ names.
-        ReadAtMost (probe_reads names at.entry.case.now at.entry.heap.now at.entry.tree.now) F.seen files.old files.new) }
+    ensures reads { IfTold F.seen files.old (λ names. ReadAtMost
+        (probe_reads names at.entry.case.now at.entry.heap.now at.entry.tree.now) F.seen files.old files.new) }
     ensures most { IfTold F.seen files.old (λ names. OnOk result (look_ups.new.visits.count
         ≤ look_ups.old.visits.count
         + length (rows_of at.entry.case.now names) * most_visits at.entry.tree.now)) }
