@@ -1,5 +1,5 @@
-//! The bits and places of a B-tree's pages and tuples, named as in the server's headers. What other crates read or write
-//! is public.
+//! The bits and places of a B-tree's pages and tuples, named as in the server's headers. What other crates read or
+//! write is public.
 
 // Where the fields of a page's special space stand (access/nbtree.h, BTPageOpaqueData).
 pub(crate) const BTPO_PREV: usize = 8176;

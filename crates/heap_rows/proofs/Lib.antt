@@ -17,3 +17,4 @@ pub mod RowHeads
 pub mod PageRows
 pub mod RowCopies
 pub mod StateLaws
+pub mod ReadLaws

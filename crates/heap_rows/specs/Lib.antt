@@ -8,3 +8,4 @@ pub mod LiveRows
 pub mod RowLaws
 pub mod Places
 pub mod Roots
+pub mod Reads

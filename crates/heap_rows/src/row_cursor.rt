@@ -1,9 +1,9 @@
 //! A cursor over the live rows of a heap, which lends the values of the columns that are asked for.
-ghost use Rattle.std.specs.Prelude.{◌≡◌, ◌+◌, ◌<◌, ◌≤◌, ◌∷◌, [], All, List, false, true, drop, length, slice_get};
+ghost use Rattle.std.specs.Prelude.{◌≡◌, ◌+◌, ◌-◌, ◌<◌, ◌≤◌, ◌∷◌, [], All, List, false, true, drop, length, slice_get};
 ghost use Rattle.std.specs.Prelude.{Some, None};
 ghost use Rattle.std.specs.Prelude.{IfOk, IfSome, OnErr, OnOk};
 ghost use Rattle.outside.specs.Counting.{one_more};
-ghost use Rattle.outside.specs.Outside.{Asked, IfTold, Names, Tells};
+ghost use Rattle.outside.specs.Outside.{AskedAtMost, IfTold, Names, Tells};
 ghost use Rattle.liveness.specs.LogFiles.{log_files_of};
 ghost use Rattle.rel_files.specs.Relation.{count_of};
 ghost use Rattle.case_file.specs.declared.case.Column.{Column as TableColumn};
@@ -87,6 +87,7 @@ impl<'a> RowCursor<'a> {
     ghost use Rattle.heap_rows.specs.RowCursor.{IsAtRow, IsCursorOf, IsPageDone, IsPlaceOfFirst, IsSameCursor};
     ghost use Rattle.heap_rows.specs.RowCursor.{asked_at, case_at, heap_at, line_pointers_of, next_in, rows_ahead};
     ghost use Rattle.heap_rows.specs.RowCursor.{rows_here, taken_in};
+    ghost use Rattle.heap_rows.specs.Reads.{ReadAtMost, block_reads, value_reads, way_reads};
 
     // A cursor before the first row, which is asked for these columns. No block is read yet.
     pub(crate) fn asking(
@@ -159,7 +160,7 @@ impl<'a> RowCursor<'a> {
         ensures same { IsSameCursor self.old self.new }
         ensures next { self.new.next ≡ self.old.next }
         ensures taken { taken_in self.new ≡ taken_in self.old }
-        ensures asked { Asked F.seen files.old files.new result PageFault.ReadFault }
+        ensures asked { AskedAtMost (value_reads self.old) F.seen files.old files.new result PageFault.ReadFault }
     {
         let case = self.case;
         let heap = self.heap;
@@ -189,8 +190,10 @@ impl<'a> RowCursor<'a> {
         ensures told { IfTold F.seen files.old (λ names. IsCursorOf names self.new) }
         ensures same { IsSameCursor self.old self.new }
         ensures next { OnOk result (self.new.next ≡ self.old.next + 1) }
+        ensures onward { self.old.next ≤ self.new.next }
         ensures taken { taken_in self.new ≡ one_more (taken_in self.old) }
-        ensures asked { Asked F.seen files.old files.new result PageFault.ReadFault }
+        ensures asked { AskedAtMost (block_reads (heap_at self.old) (next_in self.old)) F.seen files.old files.new
+            result PageFault.ReadFault }
     {
         let case = self.case;
         let heap = self.heap;
@@ -218,7 +221,9 @@ impl<'a> RowCursor<'a> {
         ensures told { IfTold F.seen files.old (λ names. IsCursorOf names self.new) }
         ensures same { IsSameCursor self.old self.new }
         ensures next { OnOk result (self.new.next ≡ self.old.next + 1) }
-        ensures asked { Asked F.seen files.old files.new result PageFault.ReadFault }
+        ensures onward { self.old.next ≤ self.new.next }
+        ensures asked { AskedAtMost (block_reads (heap_at self.old) (next_in self.old) + value_reads self.old) F.seen
+            files.old files.new result PageFault.ReadFault }
     {
         self.take_next(files)?;
         self.find_in_hand(files)
@@ -232,7 +237,11 @@ impl<'a> RowCursor<'a> {
         ensures at { IfOk result (λ found. found ≡ true → IsAtRow self.new) }
         ensures told { IfTold F.seen files.old (λ names. IsCursorOf names self.new) }
         ensures same { IsSameCursor self.old self.new }
-        ensures asked { Asked F.seen files.old files.new result PageFault.ReadFault }
+        ensures next { next_in self.old ≤ next_in self.new }
+        ensures asked { AskedAtMost (way_reads self.old (next_in self.new - next_in self.old + 1)) F.seen files.old
+            files.new result PageFault.ReadFault }
+        ensures most { OnOk result (ReadAtMost (way_reads self.old (next_in self.new - next_in self.old)) F.seen
+            files.old files.new) }
     {
         if self.find_in_hand(files)? {
             return Ok(true);
@@ -266,7 +275,8 @@ impl<'a> RowCursor<'a> {
     }
 
     /// Goes to the next live row, by rising TID, and finds its values that are asked for; `None` exactly where
-    /// none is left. Until it is passed it stays the next.
+    /// none is left. Until it is passed it stays the next. Each block on the way is taken in hand once, the last one
+    /// perhaps in vain.
     ///
     /// `ReadFault` comes only where the count of the files' faults rose. After an error the same row is next.
     pub fn find<F: Files>(&mut self, files: &mut F) -> Result<Option<RowPlace>, PageFault>
@@ -278,7 +288,11 @@ impl<'a> RowCursor<'a> {
         ensures some { IfOk result (λ found. IfSome found (λ place. (1 ≤ place.tid.item) × (1 ≤ place.root.item))) }
         ensures told { IfTold F.seen files.old (λ names. IsCursorOf names self.new) }
         ensures same { IsSameCursor self.old self.new }
-        ensures asked { Asked F.seen files.old files.new result PageFault.ReadFault }
+        ensures next { next_in self.old ≤ next_in self.new }
+        ensures asked { AskedAtMost (way_reads self.old (next_in self.new - next_in self.old + 1)) F.seen files.old
+            files.new result PageFault.ReadFault }
+        ensures most { OnOk result (ReadAtMost (way_reads self.old (next_in self.new - next_in self.old)) F.seen
+            files.old files.new) }
     {
         if self.seek(files)? {
             return Ok(Some(self.place()));
@@ -315,7 +329,8 @@ impl<'a> RowCursor<'a> {
         self.next = block;
     }
 
-    /// Takes the next block in hand, and gives the number of its page's line pointers. It is read once.
+    /// Takes the next block in hand, and gives the number of its page's line pointers. It is read once, and the logs
+    /// only where its page isn't known to be plain.
     ///
     /// `ReadFault` comes only where the count of the files' faults rose. After an error no page is in hand, and the
     /// same block is next.
@@ -332,14 +347,16 @@ impl<'a> RowCursor<'a> {
         ensures same { IsSameCursor self.old self.new }
         ensures next { OnOk result (next_in self.new ≡ next_in self.old + 1) }
         ensures taken { taken_in self.new ≡ one_more (taken_in self.old) }
-        ensures asked { Asked F.seen files.old files.new result PageFault.ReadFault }
+        ensures asked { AskedAtMost (block_reads (heap_at self.old) (next_in self.old)) F.seen files.old files.new
+            result PageFault.ReadFault }
     {
         self.take_next(files)?;
         Ok(self.page.count)
     }
 
     /// Goes to the next live row of the block in hand, by rising TID, and finds its values that are asked for; `None`
-    /// exactly where none is left. Until it is passed it stays the next.
+    /// exactly where none is left. Until it is passed it stays the next. Files are read only for values in the TOAST
+    /// table.
     ///
     /// `ReadFault` comes only where the count of the files' faults rose. After an error the same row is next.
     pub fn find_in_block<F: Files>(&mut self, files: &mut F) -> Result<Option<RowPlace>, PageFault>
@@ -353,7 +370,7 @@ impl<'a> RowCursor<'a> {
         ensures next { next_in self.new ≡ next_in self.old }
         ensures taken { taken_in self.new ≡ taken_in self.old }
         ensures same { IsSameCursor self.old self.new }
-        ensures asked { Asked F.seen files.old files.new result PageFault.ReadFault }
+        ensures asked { AskedAtMost (value_reads self.old) F.seen files.old files.new result PageFault.ReadFault }
     {
         if self.find_in_hand(files)? {
             return Ok(Some(self.place()));

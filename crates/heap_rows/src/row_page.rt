@@ -1,8 +1,8 @@
 //! The page of a heap from which rows are taken.
-ghost use Rattle.std.specs.Prelude.{◌≡◌, ◌<◌, ◌≤◌, [], List, ℕ, All, false, true, map};
+ghost use Rattle.std.specs.Prelude.{◌≡◌, ◌*◌, ◌<◌, ◌≤◌, [], List, ℕ, All, false, length, true, map};
 ghost use Rattle.std.specs.Prelude.{IfOk, IfSome, OnErr, OnOk};
 ghost use Rattle.std.specs.Option.{IsSomeAnd, option_copied};
-ghost use Rattle.outside.specs.Outside.{Asked, IfTold, Tells};
+ghost use Rattle.outside.specs.Outside.{AskedAtMost, IfTold, Tells};
 ghost use Rattle.rel_files.specs.Relation.{IsAttached, count_of};
 ghost use Rattle.page_layout.specs.Page.{item_of};
 ghost use Rattle.varlena_attrs.specs.Forms.{Attribute};
@@ -15,7 +15,8 @@ ghost use Rattle.heap_page_check.specs.Table.{table_seen};
 ghost use Rattle.heap_table_check.specs.Files.{heap_in, is_plain_in};
 ghost use Rattle.heap_table_check.specs.TableFiles.{pages_in};
 ghost use Rattle.heap_rows.specs.RowPages.{HasAttributes, IsBodyOf};
-ghost use Rattle.heap_rows.specs.RowValues.{AreValuesOf, IsReadableValue};
+ghost use Rattle.heap_rows.specs.RowValues.{AreValuesOf, IsReadableValue, count_asked};
+ghost use Rattle.heap_rows.specs.Reads.{block_reads, row_reads, state_reads};
 ghost use Rattle.heap_rows.specs.Rows.{item_rows};
 
 use crate::roots::Roots;
@@ -136,7 +137,7 @@ impl RowPage {
         ensures few { self.new.count ≤ 2042 }
         ensures empty { OnErr result (self.new.count ≡ 0) }
         ensures page { IsSameBlock self.old self.new }
-        ensures asked { Asked F.seen files.old files.new result PageFault.ReadFault }
+        ensures asked { AskedAtMost (state_reads plain) F.seen files.old files.new result PageFault.ReadFault }
     {
         let page = PageView::new(&self.bytes);
         if page.page_rule(PageKind::Heap).is_some() {
@@ -177,7 +178,7 @@ impl RowPage {
             AreKnown (table_seen names table.now) block self.new)) }
         ensures few { self.new.count ≤ 2042 }
         ensures empty { OnErr result (self.new.count ≡ 0) }
-        ensures asked { Asked F.seen files.old files.new result PageFault.ReadFault }
+        ensures asked { AskedAtMost (block_reads heap.now block) F.seen files.old files.new result PageFault.ReadFault }
     {
         self.block = block;
         self.count = 0;
@@ -228,7 +229,9 @@ impl RowPage {
         ensures err { OnErr result (self.new.found ≡ false) }
         ensures page { IsSamePage self.old self.new }
         ensures done { self.new.done ≡ self.old.done }
-        ensures asked { Asked F.seen files.old files.new result PageFault.ReadFault }
+        ensures asked { AskedAtMost (row_reads (option_copied from.now.toast)
+            (count_asked (length from.now.columns.now) from.now.asked.now)) F.seen files.old files.new result
+            PageFault.ReadFault }
     {
         self.found = false;
         let pointer = line_pointer(&self.bytes, item);
@@ -275,7 +278,9 @@ impl RowPage {
         ensures found { IfOk result (λ found. self.new.found ≡ found) }
         ensures err { OnErr result (self.new.found ≡ false) }
         ensures page { IsSamePage self.old self.new }
-        ensures asked { Asked F.seen files.old files.new result PageFault.ReadFault }
+        ensures asked { AskedAtMost (row_reads (option_copied from.now.toast)
+            (count_asked (length from.now.columns.now) from.now.asked.now) * 2042) F.seen files.old files.new result
+            PageFault.ReadFault }
     {
         let count = self.count.min(MAX_ITEMS);
         for k in self.done..count {

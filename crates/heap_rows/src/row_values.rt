@@ -2,7 +2,7 @@
 ghost use Rattle.std.specs.Prelude.{◌↔◌, ◌≡◌, ◌+◌, ◌<◌, ◌≤◌, All, List, ℕ, None, Some, length, map, true, [], ◌∷◌};
 ghost use Rattle.std.specs.Prelude.{◌++◌, IfOk, IfSome, OnOk, slice_get};
 ghost use Rattle.std.specs.Option.{IsSomeAnd, option_copied};
-ghost use Rattle.outside.specs.Outside.{Asked, IfTold, Tells};
+ghost use Rattle.outside.specs.Outside.{AskedAtMost, IfTold, Tells};
 ghost use Rattle.key_orders.specs.Types.{HasAlignment, fixed_length};
 ghost use Rattle.key_orders.specs.declared.columns.ColType.{ColType as ColumnType};
 ghost use Rattle.case_file.specs.declared.case.Column.{Column as TableColumn};
@@ -16,6 +16,7 @@ ghost use Rattle.heap_rows.specs.Rows.{cell_at, cell_of, external_cell};
 ghost use Rattle.heap_rows.specs.RowValues.{AreCellsAsked, FitAsked, FitsPlace, FitsType, IsReadableValue};
 ghost use Rattle.heap_rows.specs.RowValues.{IsThere};
 ghost use Rattle.heap_rows.specs.RowValues.{AsksColumns, IsWholeIn, body_in, bytes_seen};
+ghost use Rattle.heap_rows.specs.Reads.{chunk_reads, row_reads};
 ghost use Rattle.heap_rows.specs.RowValues.{AreStarts, FitsColumnAt, IsStart};
 ghost use Rattle.heap_rows.specs.RowValues.{cell_shown, column_asked, count_asked, shown_by};
 
@@ -194,7 +195,8 @@ impl RowValues {
             → FitsPlace (length self.new.joined.items) ctype at)) }
         ensures grows { Grows self.old.joined.items self.new.joined.items }
         ensures places { self.new.places.items ≡ self.old.places.items }
-        ensures asked { Asked F.seen files.old files.new result PageFault.ReadFault }
+        ensures asked { AskedAtMost (chunk_reads (option_copied from.now.toast)) F.seen files.old files.new result
+            PageFault.ReadFault }
     {
         let Some(toast) = from.toast else {
             return Ok(None);
@@ -245,7 +247,8 @@ impl RowValues {
             FitsPlace (length self.new.joined.items) at.entry.column.now.ctype place)) }
         ensures grows { Grows self.old.joined.items self.new.joined.items }
         ensures places { self.new.places.items ≡ self.old.places.items }
-        ensures asked { Asked F.seen files.old files.new result PageFault.ReadFault }
+        ensures asked { AskedAtMost (chunk_reads (option_copied from.now.toast)) F.seen files.old files.new result
+            PageFault.ReadFault }
     {
         let body = tuple.body();
         match at.attr {
@@ -292,7 +295,8 @@ impl RowValues {
         ensures grows { Grows self.old.joined.items self.new.joined.items }
         ensures places { self.new.places.items ≡ self.old.places.items }
         ensures attrs { attrs.new ≡ attrs.old }
-        ensures asked { Asked F.seen files.old files.new result PageFault.ReadFault }
+        ensures asked { AskedAtMost (chunk_reads (option_copied from.now.toast)) F.seen files.old files.new result
+            PageFault.ReadFault }
     {
         let a = from.asked.column(k);
         if from.columns.len() <= a {
@@ -351,7 +355,9 @@ impl RowValues {
             from.now.asked.now self.new.places.items (count_asked (length from.now.columns.now) from.now.asked.now)) }
         ensures count { IfOk result (λ found. found ≡ true →
             length self.new.places.items ≡ count_asked (length from.now.columns.now) from.now.asked.now) }
-        ensures asked { Asked F.seen files.old files.new result PageFault.ReadFault }
+        ensures asked { AskedAtMost (row_reads (option_copied from.now.toast)
+            (count_asked (length from.now.columns.now) from.now.asked.now)) F.seen files.old files.new result
+            PageFault.ReadFault }
     {
         self.places.clear();
         self.joined.clear();

@@ -1,6 +1,6 @@
 //! The items of a page of a heap in which nothing is found: where they lie, and their states.
-ghost use Rattle.std.specs.Prelude.{◌≡◌, ◌≤◌, false, true, length, OnOk};
-ghost use Rattle.outside.specs.Outside.{Asked, IfTold, Tells};
+ghost use Rattle.std.specs.Prelude.{◌≡◌, ◌*◌, ◌≤◌, false, true, length, OnOk};
+ghost use Rattle.outside.specs.Outside.{AskedAtMost, IfTold, Tells};
 ghost use Rattle.page_layout.specs.Items.{is_misplaced_heap_item, is_normal};
 ghost use Rattle.page_layout.specs.Page.{HasItems, count_of, item_of, piece_of, upper_of};
 ghost use Rattle.page_layout.specs.View.{page_bytes};
@@ -39,7 +39,7 @@ fn tuple_state<F: Transactions>(
     requires { 24 ≤ length tuple.now }
     ensures told { Tells F.seen files.old result (λ state names. state ≡ Tuple (tuple_head_of tuple.now)
         (judged_of (logs_of names (log_files_of logs.now)) (tuple_head_of tuple.now))) }
-    ensures asked { Asked F.seen files.old files.new result PageFault.ReadFault }
+    ensures asked { AskedAtMost 327690 F.seen files.old files.new result PageFault.ReadFault }
 {
     let head = heap_head(tuple);
     let judged = life_in(files, logs, &head)?;
@@ -58,7 +58,7 @@ fn normal_state<F: Transactions>(
         → state ≡ Tuple (tuple_head_of (piece_of (page_bytes page.entry) pointer.off pointer.len))
         (judged_of (logs_of names (log_files_of logs.now))
         (tuple_head_of (piece_of (page_bytes page.entry) pointer.off pointer.len)))) }
-    ensures asked { Asked F.seen files.old files.new result PageFault.ReadFault }
+    ensures asked { AskedAtMost 327690 F.seen files.old files.new result PageFault.ReadFault }
 {
     match tuple_in(page, pointer) {
         Some(tuple) => tuple_state(files, logs, tuple),
@@ -79,7 +79,7 @@ fn state_of<F: Transactions>(
     ensures told { Tells F.seen files.old result (λ state names. (table : Table)
         → logs_in table ≡ logs_of names (log_files_of logs.now) → AreInPlace (page_bytes page.entry)
         → IsStateOf table (page_bytes page.entry) item state) }
-    ensures asked { Asked F.seen files.old files.new result PageFault.ReadFault }
+    ensures asked { AskedAtMost 327690 F.seen files.old files.new result PageFault.ReadFault }
 {
     let pointer = page.item(item);
     match pointer.flag {
@@ -102,7 +102,8 @@ fn fill_states<F: Transactions>(
         → logs_in table ≡ logs_of names (log_files_of logs.now) → AreInPlace (page_bytes page.entry)
         → AreStatesOf table (page_bytes page.entry) states.new.items)) }
     ensures count { OnOk result (length states.new.items ≡ count_of (page_bytes page.entry)) }
-    ensures asked { Asked F.seen files.old files.new result PageFault.ReadFault }
+    ensures asked { AskedAtMost (327690 * count_of (page_bytes page.entry)) F.seen files.old files.new result
+        PageFault.ReadFault }
 {
     states.clear();
     for k in 0..page.item_count() {
@@ -126,7 +127,8 @@ pub fn find_states<F: Files>(
         → logs_in table ≡ logs_of names (log_files_of logs.now) → AreInPlace (page_bytes page.entry)
         → AreStatesOf table (page_bytes page.entry) states.new.items)) }
     ensures count { OnOk result (length states.new.items ≡ count_of (page_bytes page.entry)) }
-    ensures asked { Asked F.seen files.old files.new result PageFault.ReadFault }
+    ensures asked { AskedAtMost (327690 * count_of (page_bytes page.entry)) F.seen files.old files.new result
+        PageFault.ReadFault }
 {
     let mut memory = Memory::new(alloc, logs)?;
     let mut files = Remembering::new(files, &mut memory);

@@ -7,6 +7,7 @@ ghost use Rattle.key_orders.specs.Values.{value_shown};
 ghost use Rattle.bt_levels.specs.declared.sound.SoundTree.{SoundTree as Sound};
 ghost use Rattle.bt_levels.specs.Sound.{HoldsTree, more_of, specs_of};
 ghost use Rattle.bt_search.specs.Lookups.{IsLookedUp, way_length};
+ghost use Rattle.heap_rows.specs.Reads.{ReadAtMost};
 ghost use Rattle.join_look_ups.specs.Looking.{AreOf, has_entry, look_length};
 
 use bt_levels::{SoundTree, sound_trees_are_searchable};
@@ -64,6 +65,8 @@ impl LookUps {
             IsLookedUp names tree.now sought.entry.key.now sought.entry.tid found) }
         ensures visits { IfTold F.seen files.old (λ names.
             self.new.visits.count ≤ self.old.visits.count + way_length names tree.now) }
+        ensures reads { IfTold F.seen files.old (λ names.
+            ReadAtMost (way_length names tree.now) F.seen files.old files.new) }
         ensures of { IfTold F.seen files.old (λ names. AreOf names tree.now self.new) }
         ensures asked { Asked F.seen files.old files.new result read_fault }
     {
@@ -93,6 +96,8 @@ impl LookUps {
             row.entry.place.root) }
         ensures visits { IfTold F.seen files.old (λ names.
             self.new.visits.count ≤ self.old.visits.count + look_length names tree.now) }
+        ensures reads { IfTold F.seen files.old (λ names.
+            ReadAtMost (look_length names tree.now) F.seen files.old files.new) }
         ensures of { IfTold F.seen files.old (λ names. AreOf names tree.now self.new) }
         ensures asked { Asked F.seen files.old files.new result read_fault }
     {

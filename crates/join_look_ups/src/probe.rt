@@ -6,10 +6,11 @@ ghost use Rattle.reports.specs.Added.{report_lists};
 ghost use Rattle.bt_levels.specs.Files.{number_of};
 ghost use Rattle.bt_levels.specs.Sound.{file_of};
 ghost use Rattle.bt_search.specs.Lookups.{most_visits};
+ghost use Rattle.heap_rows.specs.Reads.{ReadAtMost};
 ghost use Rattle.heap_rows.specs.Rows.{rows_of};
 ghost use Rattle.join_rules.specs.Lists.{rows_lists};
 ghost use Rattle.join_row_keys.specs.Joined.{BelongTogether, HoldTogether};
-ghost use Rattle.join_look_ups.specs.Looking.{AreOf, look_length};
+ghost use Rattle.join_look_ups.specs.Looking.{AreOf, look_length, probe_reads};
 
 use crate::joined::LookUps;
 use crate::row_judge::RowJudge;
@@ -38,6 +39,8 @@ fn probe_in_turn<F: Files>(
     ensures visits { IfTold F.seen files.old (λ names. OnOk result (look_ups.new.visits.count
         ≤ look_ups.old.visits.count
         + length (rows_of at.entry.case.now names) * look_length names at.entry.tree.now)) }
+    ensures reads { IfTold F.seen files.old (λ names. ReadAtMost
+        (probe_reads names at.entry.case.now at.entry.heap.now at.entry.tree.now) F.seen files.old files.new) }
     ensures of { IfTold F.seen files.old (λ names. AreOf names at.entry.tree.now look_ups.new) }
     ensures asked { Asked F.seen files.old files.new result PageFault.ReadFault }
 {
@@ -65,7 +68,8 @@ fn probe_in_turn<F: Files>(
 /// Each row is looked up by itself, as it comes. Pages of the index are looked at through the cache, and each look is a
 /// visit: for each row no more than its way from the fast root has pages, which is at most `fastlevel` + 1 +
 /// `right_halves` + `half_dead` of the index; and where the index includes columns, one more for the values that it
-/// includes.
+/// includes. So files are read at most as often as it takes to go over the heap once, with the values that are asked
+/// for, and to look up each row.
 ///
 /// `ReadFault` comes only where the count of the files' faults rose. After an error
 /// the report has a first part of what it would have got.
@@ -84,6 +88,8 @@ pub fn probe_rows<F: Files>(
     ensures visits { IfTold F.seen files.old (λ names. OnOk result (look_ups.new.visits.count
         ≤ look_ups.old.visits.count
         + length (rows_of at.entry.case.now names) * look_length names at.entry.tree.now)) }
+    ensures reads { IfTold F.seen files.old (λ names. ReadAtMost
+        (probe_reads names at.entry.case.now at.entry.heap.now at.entry.tree.now) F.seen files.old files.new) }
     ensures most { IfTold F.seen files.old (λ names. OnOk result (look_ups.new.visits.count
         ≤ look_ups.old.visits.count
         + length (rows_of at.entry.case.now names) * most_visits at.entry.tree.now)) }

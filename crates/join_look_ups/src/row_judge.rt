@@ -10,7 +10,8 @@ ghost use Rattle.bt_levels.specs.Sound.{file_of, index_columns, more_of, specs_o
 ghost use Rattle.reports.specs.Added.{doubt_at, report_lists};
 ghost use Rattle.bt_levels.specs.Files.{number_of};
 ghost use Rattle.heap_table_check.specs.Files.{heap_in};
-ghost use Rattle.heap_rows.specs.RowCursor.{IsAtRow, IsSameCursor, next_in, rows_here, taken_in};
+ghost use Rattle.heap_rows.specs.RowCursor.{IsAtRow, IsSameCursor, heap_at, next_in, rows_here, taken_in};
+ghost use Rattle.heap_rows.specs.Reads.{ReadAtMost, columns_at, page_reads, value_reads};
 ghost use Rattle.heap_rows.specs.Rows.{block_rows};
 ghost use Rattle.heap_rows.specs.declared.rows.LiveRow.{LiveRow as Row};
 ghost use Rattle.join_rules.specs.Lists.{missing_rule};
@@ -61,6 +62,8 @@ impl RowJudge<'_> {
             row.entry.place.root) }
         ensures visits { IfTold F.seen files.old (λ names. look_ups.new.visits.count
             ≤ look_ups.old.visits.count + look_length names self.entry.index.at.tree.now) }
+        ensures reads { IfTold F.seen files.old (λ names.
+            ReadAtMost (look_length names self.entry.index.at.tree.now) F.seen files.old files.new) }
         ensures ready { IfTold F.seen files.old (λ names. IsReady names self.entry look_ups.new) }
         ensures asked { Asked F.seen files.old files.new result read_fault }
     {
@@ -93,6 +96,8 @@ impl RowJudge<'_> {
             (lists_of_row names self.entry.index.at.tree.now live)) }
         ensures visits { IfTold F.seen files.old (λ names. look_ups.new.visits.count
             ≤ look_ups.old.visits.count + look_length names self.entry.index.at.tree.now) }
+        ensures reads { IfTold F.seen files.old (λ names.
+            ReadAtMost (look_length names self.entry.index.at.tree.now) F.seen files.old files.new) }
         ensures ready { IfTold F.seen files.old (λ names. IsReady names self.entry look_ups.new) }
         ensures asked { Asked F.seen files.old files.new result PageFault.ReadFault }
     {
@@ -130,6 +135,8 @@ impl RowJudge<'_> {
             (lists_of_row names self.entry.index.at.tree.now row)) }
         ensures visits { IfTold F.seen files.old (λ names. look_ups.new.visits.count
             ≤ look_ups.old.visits.count + look_length names self.entry.index.at.tree.now) }
+        ensures reads { IfTold F.seen files.old (λ names.
+            ReadAtMost (look_length names self.entry.index.at.tree.now) F.seen files.old files.new) }
         ensures ready { IfTold F.seen files.old (λ names. IsReady names self.entry look_ups.new) }
         ensures asked { Asked F.seen files.old files.new result PageFault.ReadFault }
     {
@@ -176,6 +183,13 @@ impl RowJudge<'_> {
             + length (rows_here names cursor.new) * look_length names self.entry.index.at.tree.now
             ≤ look_ups.old.visits.count
             + length (rows_here names cursor.old) * look_length names self.entry.index.at.tree.now)) }
+        ensures spent { IfTold F.seen files.old (λ names. OnOk result ((F.seen files.new).reads
+            + length (rows_here names cursor.new) * look_length names self.entry.index.at.tree.now
+            ≤ (F.seen files.old).reads + (value_reads cursor.old
+            + length (rows_here names cursor.old) * look_length names self.entry.index.at.tree.now))) }
+        ensures reads { IfTold F.seen files.old (λ names. ReadAtMost (value_reads cursor.old
+            + length (rows_here names cursor.old) * look_length names self.entry.index.at.tree.now) F.seen files.old
+            files.new) }
         ensures told { IfTold F.seen files.old (λ names. IsWithin names self.entry look_ups.new cursor.new) }
         ensures next_block { next_in cursor.new ≡ next_in cursor.old }
         ensures taken { taken_in cursor.new ≡ taken_in cursor.old }
@@ -207,6 +221,9 @@ impl RowJudge<'_> {
         ensures visits { IfTold F.seen files.old (λ names. OnOk result (look_ups.new.visits.count
             ≤ look_ups.old.visits.count
             + length (rows_here names cursor.old) * look_length names self.entry.index.at.tree.now)) }
+        ensures reads { IfTold F.seen files.old (λ names. ReadAtMost (value_reads cursor.old * 2042
+            + length (rows_here names cursor.old) * look_length names self.entry.index.at.tree.now) F.seen files.old
+            files.new) }
         ensures told { IfTold F.seen files.old (λ names. IsWithin names self.entry look_ups.new cursor.new) }
         ensures next_block { next_in cursor.new ≡ next_in cursor.old }
         ensures taken { taken_in cursor.new ≡ taken_in cursor.old }
@@ -238,6 +255,10 @@ impl RowJudge<'_> {
         ensures visits { IfTold F.seen files.old (λ names. OnOk result (look_ups.new.visits.count
             ≤ look_ups.old.visits.count + length (block_rows self.entry.index.at.case.now names (next_in cursor.old))
             * look_length names self.entry.index.at.tree.now)) }
+        ensures reads { IfTold F.seen files.old (λ names. ReadAtMost
+            (page_reads (heap_at cursor.old) (columns_at cursor.old)
+            + length (block_rows self.entry.index.at.case.now names (next_in cursor.old))
+            * look_length names self.entry.index.at.tree.now) F.seen files.old files.new) }
         ensures ready { IfTold F.seen files.old (λ names. IsReady names self.entry look_ups.new) }
         ensures told { IfTold F.seen files.old (λ names. OnOk result
             (IsBetween names self.entry look_ups.new cursor.new)) }
@@ -251,7 +272,8 @@ impl RowJudge<'_> {
     }
 
     /// Judges the rows of the blocks from a cursor's next up to another: adds each that has no entry (X1), and each of
-    /// which a value in the index is compressed (U6). Each of these blocks is taken in hand once at most.
+    /// which a value in the index is compressed (U6). Each of these blocks is taken in hand once at most, and each of
+    /// their rows is looked up once at most, which bounds how often files are read.
     pub fn judge_blocks<F: Files>(
         self,
         files: &mut F,
@@ -270,6 +292,10 @@ impl RowJudge<'_> {
             ≤ look_ups.old.visits.count
             + length (rows_from self.entry.index.at.case.now names (next_in cursor.old) (end - next_in cursor.old))
             * look_length names self.entry.index.at.tree.now)) }
+        ensures reads { IfTold F.seen files.old (λ names. ReadAtMost
+            (page_reads (heap_at cursor.old) (columns_at cursor.old) * (end - next_in cursor.old)
+            + length (rows_from self.entry.index.at.case.now names (next_in cursor.old) (end - next_in cursor.old))
+            * look_length names self.entry.index.at.tree.now) F.seen files.old files.new) }
         ensures ready { IfTold F.seen files.old (λ names. IsReady names self.entry look_ups.new) }
         ensures told { IfTold F.seen files.old (λ names. OnOk result
             (IsBetween names self.entry look_ups.new cursor.new)) }

@@ -23,7 +23,7 @@ use Rattle.join_rules.specs.Lists.{row_lists, row_lists_by}
 use Rattle.join_rules.specs.Rows.{key_of, more_of}
 use Rattle.join_row_keys.specs.Rows.{AreAskedFrom, columns_in}
 use Rattle.join_row_entries.specs.declared.gather.Gathered.{Gathered}
-use Rattle.join_row_entries.specs.declared.reader.RowReader.{RowReader}
+use Rattle.join_row_entries.specs.declared.index.IndexReader.{IndexReader}
 use Rattle.join_row_entries.specs.Entries.{AreDoubted, AreListed, doubts_in, doubts_of, entry_by, entry_of}
 use Rattle.join_row_entries.specs.Gathering.{AreFree, AreLeft, IsEmpty, IsListOf}
 use Rattle.join_row_entries.specs.Reading.{IsAskedFor}
@@ -163,10 +163,10 @@ pub none-there : {X : Type 0} (xs : List X) → length xs ≤ 0 → xs ≡ []
 none-there xs le = nil_from_length xs (omega arith)
 
 -- a cursor of the same heap that is asked for the same columns
-pub same-asked : (reader : RowReader) (old new : RowCursor) → IsSameCursor old new → IsAskedFor reader old → IsAskedFor reader new
+pub same-asked : (reader : IndexReader) (old new : RowCursor) → IsSameCursor old new → IsAskedFor reader old → IsAskedFor reader new
 same-asked reader old new same at = record {
   case = same.case ∙ at.case;
-  asked = subst (AreAskedFrom 0 (columns_in (tree_columns reader.columns))) (sym same.asked) at.asked;
+  asked = subst (AreAskedFrom 0 (columns_in (tree_columns reader.rows.columns))) (sym same.asked) at.asked;
 }
 
 -- what follows of three facts after a call that was done

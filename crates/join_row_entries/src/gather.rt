@@ -16,7 +16,7 @@ ghost use Rattle.join_row_entries.specs.Gathering.{AreLeft, AreTaken, IsEmpty, I
 ghost use Rattle.join_row_entries.specs.Reading.{IsAskedFor, IsReader};
 ghost use Rattle.join_row_entries.specs.Roots.{IsNoneTaken, IsOnlyTaken, may_take};
 
-use crate::reader::RowReader;
+use crate::index::IndexReader;
 use crate::roots::TakenRoots;
 use bt_build::EntryList;
 use case_file::Case;
@@ -52,14 +52,14 @@ struct Gathered {
 
 impl Gathered {
     // Nothing yet.
-    fn new(alloc: Global, reader: RowReader<'_>) -> Result<Gathered, NoMemory>
+    fn new(alloc: Global, reader: IndexReader<'_>) -> Result<Gathered, NoMemory>
         requires { IsReader reader }
         ensures list { IfOk result (λ g. IsListOf reader.entry.case.now reader.entry.index g) }
         ensures empty { IfOk result (λ g. IsEmpty g) }
         ensures none { IfOk result (λ g. IsNoneTaken g.roots) }
     {
         reader.case.sound();
-        let list = EntryList::new(alloc, reader.columns.specs, reader.columns.more)?;
+        let list = EntryList::new(alloc, reader.rows.columns.specs, reader.rows.columns.more)?;
         Ok(Gathered {
             list,
             roots: TakenRoots::new(),
@@ -94,7 +94,7 @@ impl Gathered {
     // Adds the entry of the row at which a cursor is, or that it is in doubt. Where some row is, entries aren't added.
     fn add_row(
         &mut self,
-        reader: RowReader<'_>,
+        reader: IndexReader<'_>,
         cursor: &RowCursor<'_>,
         place: RowPlace,
     ) -> Result<(), NoMemory>
@@ -128,7 +128,7 @@ impl Gathered {
     fn add_next<F: Files>(
         &mut self,
         files: &mut F,
-        reader: RowReader<'_>,
+        reader: IndexReader<'_>,
         cursor: &mut RowCursor<'_>,
     ) -> Result<bool, PageFault>
         requires reader { IsReader reader }
@@ -158,7 +158,7 @@ impl Gathered {
     fn add_rows<F: Files>(
         &mut self,
         files: &mut F,
-        reader: RowReader<'_>,
+        reader: IndexReader<'_>,
         cursor: &mut RowCursor<'_>,
         most: u64,
     ) -> Result<(), PageFault>
@@ -218,8 +218,8 @@ pub fn row_entries<F: Files>(
 {
     rows_are_live_tuples();
     case.sound();
-    let reader = RowReader::new(case, index);
-    let numbers = columns_of(alloc, &reader.columns)?;
+    let reader = IndexReader::new(case, index);
+    let numbers = columns_of(alloc, &reader.rows.columns)?;
     let mut cursor = RowCursor::new(alloc, case, heap, &numbers)?;
     let mut gathered = Gathered::new(alloc, reader)?;
     let most = heap.heap().blocks() as u64 * MAX_ITEMS as u64;

@@ -2,7 +2,7 @@
 #![tactic(auto)]
 
 mod gather;
-mod reader;
+mod index;
 mod roots;
 
 pub use gather::{RowEntries, row_entries};

@@ -16,7 +16,7 @@ use Rattle.key_orders.specs.declared.columns.Value.{Value}
 use Rattle.key_orders.specs.declared.more.MoreSpec.{MoreSpec}
 use Rattle.key_orders.specs.Keys.{fits_columns}
 use Rattle.key_orders.specs.Orders.{fits_type}
-use Rattle.key_attrs.specs.Columns.{TreeColumns}
+use Rattle.key_attrs.specs.Columns.{TreeColumns, tree_columns}
 use Rattle.case_file.specs.Record.{CaseRecord, IndexRecord}
 use Rattle.case_file.specs.Sound.{IsSound, IsSoundIndex, IsSoundKey, IsSoundMore}
 use Rattle.case_file.specs.declared.case.Column.{Column}
@@ -31,7 +31,13 @@ use Rattle.heap_rows.specs.RowCursor.{AreAsked}
 use Rattle.heap_rows.specs.RowFits.{FitsColumn}
 use Rattle.heap_rows.specs.RowValues.{column_asked, count_asked}
 use Rattle.join_rules.specs.Rows.{key_numbers, more_numbers, values_at, with_value}
-use Rattle.join_row_keys.specs.Rows.{AreAskedFrom, columns_in}
+use Rattle.heap_rows.specs.declared.row_cursor.RowCursor.{RowCursor}
+use Rattle.heap_rows.specs.RowCursor.{asked_at, case_at}
+use Rattle.bt_levels.specs.Files.{number_of}
+use Rattle.bt_levels.specs.Sound.{file_of}
+use Rattle.join_row_keys.specs.declared.keys.KeyedHeap.{KeyedHeap}
+use Rattle.join_row_keys.specs.declared.reader.RowReader.{RowReader}
+use Rattle.join_row_keys.specs.Rows.{AreAskedFrom, AreColumnsOf, IsIndexAt, IsReaderOf, columns_in}
 
 -- what stands past a list's end
 pub any-spec : KeySpec
@@ -111,7 +117,7 @@ one-more : (values : List Value) (v : Value) (o : Option (List Value)) → optio
 one-more values v None = refl
 one-more values v (Some vs) = ap Some (append_assoc values (v ∷ []) vs)
 
-dropped : {X : Type 0} (xs : List X) (k : ℕ) (d : X) → k < length xs → drop k xs ≡ get_or xs k d ∷ drop (k + 1) xs
+pub dropped : {X : Type 0} (xs : List X) (k : ℕ) (d : X) → k < length xs → drop k xs ≡ get_or xs k d ∷ drop (k + 1) xs
 dropped xs k d lt = drop-cons xs k d lt ∙ ap (λ n. get_or xs k d ∷ drop n xs) (sym (add-one k))
 
 -- one more value
@@ -190,12 +196,12 @@ fit-all specs k key was = ap (fits_columns specs) (sym (append-nil key)) ∙ was
 
 -- The value of a key's column
 
-record HasColumn (columns : List Column) (number : ℕ) (ctype : ColType) : Type 0 where
-  column : Column
-  there : slice_get columns number ≡ Some column
-  type_is : column.ctype ≡ ctype
+pub record HasColumn (columns : List Column) (number : ℕ) (ctype : ColType) : Type 0 where
+  pub column : Column
+  pub there : slice_get columns number ≡ Some column
+  pub type_is : column.ctype ≡ ctype
 
-has-column : (columns : List Column) (number : ℕ) (ctype : ColType) → option_map (λ c. c.ctype) (slice_get columns number) ≡ Some ctype → HasColumn columns number ctype
+pub has-column : (columns : List Column) (number : ℕ) (ctype : ColType) → option_map (λ c. c.ctype) (slice_get columns number) ≡ Some ctype → HasColumn columns number ctype
 has-column columns number ctype sound = go (slice_get columns number) refl sound
   where
     go : (o : Option Column) → slice_get columns number ≡ o → option_map (λ c. c.ctype) o ≡ Some ctype → HasColumn columns number ctype
@@ -210,7 +216,7 @@ value-fits columns specs k d v sound lt fits =
 
 -- The columns of an index of a case
 
-sound-index : (case : CaseRecord) (n : ℕ) → IsSound case → 1 ≤ n → n ≤ length case.indexes → IsSoundIndex case.columns (index_of case n)
+pub sound-index : (case : CaseRecord) (n : ℕ) → IsSound case → 1 ≤ n → n ≤ length case.indexes → IsSoundIndex case.columns (index_of case n)
 sound-index case n sound first last =
     let within : n - 1 < length case.indexes = omega arith in
     let at : get_or case.indexes (n - 1) no_index ≡ index_of case n = sym (ap (λ (o : Option IndexRecord). unwrap_or o no_index) (slice_get-get_or case.indexes (n - 1) no_index within)) in
@@ -229,14 +235,32 @@ sound-more case n tree sound index =
     subst (AllByRecursion (IsSoundMore case.columns)) (sym (ap (λ (c : TreeColumns). c.more) index.columns)) (sound-index case n sound first last).more
 
 -- they are columns of the case
+pub columns-within : (columns : List Column) (t : TreeColumns) → AreColumnsOf columns t → All (λ k. k < length columns) (columns_in t)
+columns-within columns t are =
+    All-append (λ k. k < length columns) (key_numbers t) (more_numbers t)
+    (All-map (λ k. k < length columns) (λ (s : KeySpec). s.column) t.specs (λ k d lt.
+    let spec : KeySpec = get_or t.specs k d in
+    let has = has-column columns spec.column spec.ctype (All-from_recursion (IsSoundKey columns) t.specs are.keys k d lt).is_there in
+    slice_get_within columns spec.column has.column has.there))
+    (All-map (λ k. k < length columns) (λ (m : MoreSpec). m.column) t.more (λ k d lt.
+    let spec : MoreSpec = get_or t.more k d in
+    let has = has-column columns spec.column spec.ctype (All-from_recursion (IsSoundMore columns) t.more are.more k d lt).is_there in
+    slice_get_within columns spec.column has.column has.there))
+
+columns-of : (case : CaseRecord) (n : ℕ) (tree : SoundTree) → IsSound case → IsSoundIndexOf case n tree → AreColumnsOf case.columns (index_columns tree)
+columns-of case n tree sound index = record { keys = sound-keys case n tree sound index; more = sound-more case n tree sound index }
+
 pub columns-there : (case : CaseRecord) (n : ℕ) (tree : SoundTree) → IsSound case → IsSoundIndexOf case n tree → All (λ k. k < length case.columns) (columns_in (index_columns tree))
-columns-there case n tree sound index =
-    All-append (λ k. k < length case.columns) (key_numbers (index_columns tree)) (more_numbers (index_columns tree))
-    (All-map (λ k. k < length case.columns) (λ (s : KeySpec). s.column) (specs_of tree) (λ k d lt.
-    let spec : KeySpec = get_or (specs_of tree) k d in
-    let has = has-column case.columns spec.column spec.ctype (All-from_recursion (IsSoundKey case.columns) (specs_of tree) (sound-keys case n tree sound index) k d lt).is_there in
-    slice_get_within case.columns spec.column has.column has.there))
-    (All-map (λ k. k < length case.columns) (λ (m : MoreSpec). m.column) (index_columns tree).more (λ k d lt.
-    let spec : MoreSpec = get_or (index_columns tree).more k d in
-    let has = has-column case.columns spec.column spec.ctype (All-from_recursion (IsSoundMore case.columns) (index_columns tree).more (sound-more case n tree sound index) k d lt).is_there in
-    slice_get_within case.columns spec.column has.column has.there))
+columns-there case n tree sound index = columns-within case.columns (index_columns tree) (columns-of case n tree sound index)
+
+-- a heap and an index of it, read by the columns of the index
+pub reader-of : (index : KeyedHeap) (cursor : RowCursor) (reader : RowReader) → IsSound index.at.case.now → IsIndexAt index cursor
+    → tree_columns reader.columns ≡ index_columns index.at.tree.now → reader.first ≡ index.first → IsReaderOf reader cursor
+reader-of index cursor reader sound at same first =
+    let tree = index.at.tree.now in
+    let are = columns-of index.at.case.now (number_of (file_of tree)) tree sound at.belong.index in
+    let here : AreColumnsOf (case_at cursor).columns (index_columns tree) = subst (λ (case : CaseRecord). AreColumnsOf case.columns (index_columns tree)) (sym at.case) are in
+    record {
+      columns = subst (AreColumnsOf (case_at cursor).columns) (sym same) here;
+      asked = subst (λ (w : ℕ × TreeColumns). AreAskedFrom w.0 (columns_in w.1) (asked_at cursor)) (λ i. (sym first i, sym same i)) at.asked;
+    }

@@ -1,5 +1,6 @@
 pub mod Ahead
 pub mod KeyLaws
+mod MoreLaws
 pub mod Pages
 pub mod Places
 pub mod HeapRoots

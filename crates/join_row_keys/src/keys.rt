@@ -13,6 +13,7 @@ ghost use Rattle.join_rules.specs.Rows.{key_numbers, more_numbers, values_at};
 ghost use Rattle.join_row_keys.specs.Rows.{IsIndexAt, columns_in};
 
 use crate::joined::IndexedHeap;
+use crate::reader::RowReader;
 use heap_rows::{CellRef, RowCursor};
 use key_attrs::IndexColumns;
 use key_orders::{KeyRefs, MoreRefs};
@@ -37,7 +38,18 @@ pub fn columns_of(alloc: Global, columns: &IndexColumns<'_>) -> Result<Vec<u16>,
     Ok(numbers)
 }
 
-impl KeyedHeap<'_> {
+impl<'a> KeyedHeap<'a> {
+    // What reads the values of rows in the index.
+    fn reader(self) -> RowReader<'a>
+        ensures columns { tree_columns result.columns ≡ index_columns self.entry.at.tree.now }
+        ensures first { result.first ≡ self.entry.first }
+    {
+        RowReader {
+            columns: self.at.tree.columns(),
+            first: self.first,
+        }
+    }
+
     /// Reads the key of the row at which a cursor is into a place at hand; false where a value of it is compressed.
     pub fn read_key<'c>(self, cursor: &'c RowCursor<'_>, key: &mut KeyRefs<'c>) -> bool
         requires index { IsIndexAt self cursor.now }
@@ -49,15 +61,7 @@ impl KeyedHeap<'_> {
         ensures fits { OnTrue result (IsKey (specs_of self.entry.at.tree.now) key.new) }
     {
         self.at.case.sound();
-        let columns = self.at.tree.columns();
-        key.clear();
-        for k in 0..columns.specs.len() {
-            match cursor.value(self.first + k) {
-                CellRef::Held(v) => key.push(v),
-                CellRef::Packed => return false,
-            }
-        }
-        true
+        self.reader().read_key(cursor, key)
     }
 
     /// How many values a row has in the index: those of its key, and those of the columns that it includes.
@@ -100,14 +104,7 @@ impl KeyedHeap<'_> {
             ≡ values_at (more_numbers (index_columns self.entry.at.tree.now)) row.cells }
         ensures count { OnTrue result (length more.new ≡ length (more_of self.entry.at.tree.now)) }
     {
-        let columns = self.at.tree.columns();
-        let first = self.first + columns.specs.len();
-        for k in 0..columns.more.len() {
-            match cursor.value(first + k) {
-                CellRef::Held(v) => more.push(v),
-                CellRef::Packed => return false,
-            }
-        }
-        true
+        self.at.case.sound();
+        self.reader().read_more(cursor, more)
     }
 }

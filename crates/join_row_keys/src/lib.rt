@@ -3,6 +3,8 @@
 
 mod joined;
 mod keys;
+mod reader;
 
 pub use joined::{IndexedHeap, IndexedTable};
 pub use keys::{KeyedHeap, columns_of};
+pub use reader::RowReader;

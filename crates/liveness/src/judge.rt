@@ -1,6 +1,6 @@
 //! The table of lives, over the logs in files.
 ghost use Rattle.std.specs.Prelude.{◌≡◌};
-ghost use Rattle.outside.specs.Outside.{Asked, Tells};
+ghost use Rattle.outside.specs.Outside.{AskedAtMost, Tells};
 ghost use Rattle.rel_files.specs.Faults.{read_fault};
 ghost use Rattle.liveness.specs.LogFiles.{log_files_of, logs_of};
 ghost use Rattle.liveness.specs.Logs.{is_normal};
@@ -41,7 +41,7 @@ fn inserter_life<F: Transactions>(
 ) -> Result<Option<Life>, ReadFault>
     ensures told { Tells F.seen files.old result (λ life names.
         life ≡ inserter_life (logs_of names (log_files_of logs.now)) head.now) }
-    ensures asked { Asked F.seen files.old files.new result read_fault }
+    ensures asked { AskedAtMost 1 F.seen files.old files.new result read_fault }
 {
     let x = head.xmin_seen();
     if head.old_form() {
@@ -76,7 +76,7 @@ fn remover_judged<F: Transactions>(
 ) -> Result<Judged, ReadFault>
     ensures told { Tells F.seen files.old result (λ judged names.
         judged ≡ remover_judged (logs_of names (log_files_of logs.now)) hinted x) }
-    ensures asked { Asked F.seen files.old files.new result read_fault }
+    ensures asked { AskedAtMost 1 F.seen files.old files.new result read_fault }
 {
     let dead = Judged {
         life: Life::Dead,
@@ -112,7 +112,7 @@ fn judged_by_multi<F: Transactions>(
 ) -> Result<Judged, ReadFault>
     ensures told { Tells F.seen files.old result (λ judged names.
         judged ≡ judged_by_multi (logs_of names (log_files_of logs.now)) multi) }
-    ensures asked { Asked F.seen files.old files.new result read_fault }
+    ensures asked { AskedAtMost 1 F.seen files.old files.new result read_fault }
 {
     match multi {
         MultiState::Missing => Ok(plain(Life::Broken(Rule::H13))),
@@ -132,7 +132,7 @@ fn deleter_judged<F: Transactions>(
 ) -> Result<Judged, ReadFault>
     ensures told { Tells F.seen files.old result (λ judged names.
         judged ≡ deleter_judged (logs_of names (log_files_of logs.now)) head.now) }
-    ensures asked { Asked F.seen files.old files.new result read_fault }
+    ensures asked { AskedAtMost 327689 F.seen files.old files.new result read_fault }
 {
     if head.is_xmax_invalid() || head.locked_only() {
         return Ok(plain(Life::Live));
@@ -161,7 +161,7 @@ pub fn life_in<F: Transactions>(
         SaysTrue names (log_files_of logs.now) head.now judged.life) }
     ensures update_says_true { Tells F.seen files.old result (λ judged names.
         UpdateSaysTrue names (log_files_of logs.now) head.now judged.update) }
-    ensures asked { Asked F.seen files.old files.new result read_fault }
+    ensures asked { AskedAtMost 327690 F.seen files.old files.new result read_fault }
 {
     match inserter_life(files, logs, head)? {
         Some(life) => Ok(plain(life)),
@@ -189,6 +189,7 @@ pub fn life_in<F: Transactions>(
 /// A server decides the same for a snapshot that sees all that committed (`heapam_visibility.c`). Only
 /// the hints of `access/htup_details.h` are believed, never written.
 ///
+/// It reads at most 327690 times: once for each of two transactions, and at most 327688 times for a multixact.
 /// `ReadFault` comes only where a file can't be read. It takes no memory.
 pub fn life<F: Files>(
     files: &mut F,
@@ -201,7 +202,7 @@ pub fn life<F: Files>(
         SaysTrue names (log_files_of logs.now) head.now judged.life) }
     ensures update_says_true { Tells F.seen files.old result (λ judged names.
         UpdateSaysTrue names (log_files_of logs.now) head.now judged.update) }
-    ensures asked { Asked F.seen files.old files.new result read_fault }
+    ensures asked { AskedAtMost 327690 F.seen files.old files.new result read_fault }
 {
     life_in(
         &mut Remembering::new(files, &mut Memory::none()),

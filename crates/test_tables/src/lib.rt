@@ -9,3 +9,5 @@ mod joins;
 mod rows;
 #[cfg(test)]
 mod sound;
+#[cfg(test)]
+mod table_reads;

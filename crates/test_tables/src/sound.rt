@@ -23,17 +23,29 @@ pub fn sound_heap(alloc: Global, files: &mut UntoldFiles, case: &Case) -> Result
     }
 }
 
-/// Its first index, of which nothing may be found.
-pub fn sound_tree(alloc: Global, files: &mut UntoldFiles, case: &Case) -> Result<SoundTree, Fail>
-    ensures { IfOk result (IsSoundIndexOf case.now 1) }
+/// An index of it by its number, counted from 1, of which nothing may be found.
+pub fn sound_index(
+    alloc: Global,
+    files: &mut UntoldFiles,
+    case: &Case,
+    n: u16,
+) -> Result<SoundTree, Fail>
+    ensures { IfOk result (IsSoundIndexOf case.now n) }
 {
-    if case.index_count() == 0 {
+    if n == 0 || case.index_count() < n {
         return Err("no index".into());
     }
-    let at = TreeFile::attach(alloc, files, case, 1)?;
+    let at = TreeFile::attach(alloc, files, case, n)?;
     let mut report = Report::new(alloc);
     match check_tree(alloc, files, case, at, &mut report)? {
         Some(sound) => Ok(sound),
         None => Err("no sound index".into()),
     }
+}
+
+/// Its first index, of which nothing may be found.
+pub fn sound_tree(alloc: Global, files: &mut UntoldFiles, case: &Case) -> Result<SoundTree, Fail>
+    ensures { IfOk result (IsSoundIndexOf case.now 1) }
+{
+    sound_index(alloc, files, case, 1)
 }

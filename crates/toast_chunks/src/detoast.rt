@@ -1,9 +1,10 @@
 //! The value of a pointer.
 ghost use Rattle.std.specs.Prelude.{◌≡◌, ◌++◌, ◌≤◌, true, IfOk, OnOk};
-ghost use Rattle.outside.specs.Outside.{Asked, IfTold, Tells};
+ghost use Rattle.outside.specs.Outside.{AskedAtMost, IfTold, Tells};
 ghost use Rattle.rel_files.specs.Relation.{IsAttached};
 ghost use Rattle.toast_chunks.specs.Chunks.{is_whole};
 ghost use Rattle.toast_chunks.specs.InHand.{Grows};
+ghost use Rattle.toast_chunks.specs.Pointer.{chunk_count, stored_size};
 ghost use Rattle.toast_chunks.specs.Stored.{AllStand};
 ghost use Rattle.toast_chunks.specs.Value.{HasBytes, IsState, value_of_pointer};
 
@@ -45,8 +46,8 @@ impl ChunkReader {
     }
 }
 
-/// Adds the bytes of a whole value's chunks to others, joined by their numbers. After an error a part of
-/// them may stand there.
+/// Adds the bytes of a whole value's chunks to others, joined by their numbers, with one read for each of them at most.
+/// After an error a part of them may stand there.
 pub fn push_value<F: Files>(
     files: &mut F,
     toast: &Relation,
@@ -61,7 +62,8 @@ pub fn push_value<F: Files>(
     ensures bytes { OnOk result (IfTold F.seen files.old (λ names.
         bytes.new.items ≡ bytes.old.items ++ value_of_pointer names toast.now map.now p)) }
     ensures grows { Grows bytes.old.items bytes.new.items }
-    ensures asked { Asked F.seen files.old files.new result ToastFault.ReadFault }
+    ensures asked { AskedAtMost (chunk_count (stored_size p)) F.seen files.old files.new result
+        ToastFault.ReadFault }
 {
     let mut in_hand = None;
     for k in 0..chunk_count(stored_size(p)) {
@@ -93,7 +95,8 @@ fn joined<F: Files>(
     requires stand { IfTold F.seen files.old (λ names. AllStand names toast.now map.now) }
     requires whole { is_whole map.now p ≡ true }
     ensures bytes { Tells F.seen files.old result (λ bytes names. bytes ≡ value_of_pointer names toast.now map.now p) }
-    ensures asked { Asked F.seen files.old files.new result ToastFault.ReadFault }
+    ensures asked { AskedAtMost (chunk_count (stored_size p)) F.seen files.old files.new result
+        ToastFault.ReadFault }
 {
     let mut reader = ChunkReader::new(alloc);
     let mut bytes = Vec::new(alloc);
@@ -103,8 +106,8 @@ fn joined<F: Files>(
 
 /// The value of a pointer, by the chunks of a map, which stand in the TOAST table that is given. `Broken`
 /// comes exactly where `ToastMap::whole` is false, and `Packed` exactly where it is true and the value is
-/// compressed. Otherwise the chunks are read and joined by their numbers. It is asked of pointers that
-/// keep H20; of others the same holds by their sizes as they stand.
+/// compressed. Otherwise the chunks are read and joined by their numbers, with one read for each of them at most. It is
+/// asked of pointers that keep H20; of others the same holds by their sizes as they stand.
 ///
 /// `ReadFault` comes only where the files couldn't be read. Where files don't tell what they hold, a
 /// row that isn't where the map says adds no bytes.
@@ -120,7 +123,8 @@ pub fn value<F: Files>(
     ensures state { IfOk result (IsState map.now p) }
     ensures bytes { Tells F.seen files.old result (λ state names.
         HasBytes state (value_of_pointer names toast.now map.now p)) }
-    ensures asked { Asked F.seen files.old files.new result ToastFault.ReadFault }
+    ensures asked { AskedAtMost (chunk_count (stored_size p)) F.seen files.old files.new result
+        ToastFault.ReadFault }
 {
     if !map.whole(p) {
         return Ok(ToastState::Broken);

@@ -1,6 +1,6 @@
 //! Reads chunks from the pages of a relation.
 ghost use Rattle.std.specs.Prelude.{◌≡◌, ◌<◌, OnOk, Some};
-ghost use Rattle.outside.specs.Outside.{Asked, IfTold};
+ghost use Rattle.outside.specs.Outside.{AskedAtMost, IfTold};
 ghost use Rattle.rel_files.specs.Relation.{IsAttached, count_of};
 ghost use Rattle.toast_chunks.specs.InHand.{Grows, IsInHand, PushesChunk};
 
@@ -24,7 +24,7 @@ fn take_page<F: Files>(
     requires hand { IfTold F.seen files.old (λ names. IsInHand names toast.now in_hand.old page.old) }
     ensures hand { IfTold F.seen files.old (λ names. IsInHand names toast.now in_hand.new page.new) }
     ensures ok { OnOk result (in_hand.new ≡ Some b) }
-    ensures asked { Asked F.seen files.old files.new result ToastFault.ReadFault }
+    ensures asked { AskedAtMost 1 F.seen files.old files.new result ToastFault.ReadFault }
 {
     if *in_hand == Some(b) {
         return Ok(());
@@ -51,7 +51,7 @@ pub(crate) fn push_chunk<F: Files>(
     ensures bytes { OnOk result (IfTold F.seen files.old (λ names.
         PushesChunk names toast.now tid bytes.old.items bytes.new.items)) }
     ensures grows { Grows bytes.old.items bytes.new.items }
-    ensures asked { Asked F.seen files.old files.new result ToastFault.ReadFault }
+    ensures asked { AskedAtMost 1 F.seen files.old files.new result ToastFault.ReadFault }
 {
     if toast.blocks() <= tid.block {
         return Ok(());

@@ -1,6 +1,6 @@
 use Rattle.std.proofs.Common.{◌+◌, ◌∷◌, [], ◌∙◌, ℕ, List, length, ap, arith}
 use Rattle.std.proofs.lemmas.List.{length-append}
-use Rattle.outside.proofs.Asking.{Passed-next, Passed-none}
+use Rattle.outside.proofs.Asking.{PassedAtMost-next, PassedAtMost-none}
 use Rattle.page_layout.specs.View.{page_bytes}
 use Rattle.liveness.specs.declared.states.ItemState.{ItemState}
 use Rattle.heap_rows.proofs.StateLaws.{next_upto, none_upto}
@@ -10,7 +10,7 @@ pub loop-k-init : goal.loop-k-init
 loop-k-init g c = record {
   told = λ names told table same placed. none_upto table (page_bytes c.args.page) _;
   count = ap (λ (s : List ItemState). length s) c.clear.ensures.items;
-  asked = Passed-none;
+  asked = PassedAtMost-none;
 }
 
 pub loop-k-preserved : goal.loop-k-preserved
@@ -22,7 +22,7 @@ loop-k-preserved g c =
           next_upto table (page_bytes c.args.page) c.loop-k.states.items c.push_state.new.states.items c.in_ok-state.state c.loop-k.k before.count pushed
           (before.told names told table same placed) (c.in_ok-state.ensures.told names (before.asked.same ∙ told) table same placed);
       count = ap (λ (s : List ItemState). length s) pushed ∙ length-append c.loop-k.states.items (c.in_ok-state.state ∷ []) ∙ ap (λ (n : ℕ). n + 1) before.count;
-      asked = Passed-next before.asked c.in_ok-state.ensures.asked;
+      asked = PassedAtMost-next 327690 c.loop-k.k before.asked c.in_ok-state.ensures.asked;
     }
 
 pub returns-clause-told : goal.returns-clause-told

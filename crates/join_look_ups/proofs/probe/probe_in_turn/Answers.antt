@@ -6,10 +6,15 @@ use Rattle.reports.specs.Added.{report_lists}
 use Rattle.reports.specs.Lists.{Lists}
 use Rattle.bt_levels.specs.Files.{number_of}
 use Rattle.bt_levels.specs.Sound.{file_of, index_columns}
-use Rattle.join_look_ups.specs.Looking.{look_length}
+use Rattle.join_look_ups.specs.Looking.{look_length, probe_reads}
 use Rattle.rel_files.specs.Relation.{count_of}
 use Rattle.heap_table_check.specs.Case.{heap_blocks}
-use Rattle.heap_rows.specs.RowCursor.{next_in}
+use Rattle.heap_table_check.specs.Files.{heap_in}
+use Rattle.heap_rows.specs.declared.row_values.AskedColumns.{AskedColumns}
+use Rattle.heap_rows.specs.declared.row_values.AskedColumns.TheVariants.{All as AllColumns, Only}
+use Rattle.heap_rows.specs.RowCursor.{AreAsked, case_at, heap_at, next_in}
+use Rattle.heap_rows.specs.RowValues.{count_asked}
+use Rattle.heap_rows.specs.Reads.{columns_at, page_reads}
 use Rattle.heap_rows.specs.Rows.{rows_of}
 use Rattle.heap_rows.specs.declared.rows.LiveRow.{LiveRow}
 use Rattle.join_rules.specs.Lists.{rows_lists}
@@ -96,3 +101,31 @@ returns-clause-visits g c = λ names told.
 
 pub returns-clause-of : goal.returns-clause-of
 returns-clause-of g c = λ names told. (c.judge_blocks.ensures.ready names told).pages
+
+-- so many columns are asked for
+asked-count : (columns : List ℕ) (asked : AskedColumns) (n : ℕ) → AreAsked columns asked → count_asked n asked ≡ length columns
+asked-count columns AllColumns n are = absurd are
+asked-count columns (Only numbers) n are = ap length are
+
+pub returns-clause-reads : goal.returns-clause-reads
+unfolding probe_reads
+returns-clause-reads g c = λ names told.
+    let case = c.args.at.case.now in
+    let heap = c.args.at.heap.now in
+    let tree = c.args.at.tree.now in
+    let cursor = c.in_ok-cursor.cursor in
+    let L = look_length names tree in
+    let hold = c.requires.hold names told in
+    let blocks = count-is case names heap c.requires.belong.heap hold.heap in
+    let own : c.blocks-2.result ≡ count_of (heap_in heap) = c.blocks-2.ensures ∙ ap count_of c.heap.ensures in
+    let count : c.blocks-2.result - 0 ≡ heap_blocks case names = omega (arith, own, blocks) in
+    let rows : rows_from case names (next_in cursor) (c.blocks-2.result - next_in cursor) ≡ rows_of case names =
+    (λ i. rows_from case names (c.in_ok-cursor.ensures.begun i) (c.blocks-2.result - c.in_ok-cursor.ensures.begun i)) ∙ ap (rows_from case names 0) count ∙ rows-all case names in
+    let columns : c.deref.result.now ≡ columns_in (index_columns tree) = c.deref.ensures.value ∙ c.in_ok-columns.ensures ∙ ap columns_in c.columns.ensures.lists in
+    let many : columns_at cursor ≡ length (columns_in (index_columns tree)) =
+    asked-count c.deref.result.now cursor.asked (length (case_at cursor).columns) c.in_ok-cursor.ensures.asked ∙ ap length columns in
+    let turns : c.blocks-2.result - next_in cursor ≡ count_of (heap_in heap) = omega (arith, own, c.in_ok-cursor.ensures.begun) in
+    let all : page_reads (heap_at cursor) (columns_at cursor) * (c.blocks-2.result - next_in cursor) ≡ page_reads heap (length (columns_in (index_columns tree))) * count_of (heap_in heap) =
+    (λ i. page_reads (c.in_ok-cursor.ensures.heap i) (many i) * turns i) in
+    let spent = subst (λ (rs : List LiveRow). (g.F.Files.seen c.judge_blocks.new.files).reads ≤ (g.F.Files.seen c.args.files.now).reads + (page_reads (heap_at cursor) (columns_at cursor) * (c.blocks-2.result - next_in cursor) + length rs * L)) rows (c.judge_blocks.ensures.reads names told) in
+    subst (λ (m : ℕ). (g.F.Files.seen c.judge_blocks.new.files).reads ≤ (g.F.Files.seen c.args.files.now).reads + (m + length (rows_of case names) * L)) all spent

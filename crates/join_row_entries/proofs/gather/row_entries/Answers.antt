@@ -19,7 +19,7 @@ pub new-requires-clause-asked : goal.new-requires-clause-asked
 new-requires-clause-asked g c =
     let case : CaseRecord = c.args.case.now in
     let n = c.args.index in
-    let columns : tree_columns c.new-reader.result.columns ≡ case_columns case n =
+    let columns : tree_columns c.new-reader.result.rows.columns ≡ case_columns case n =
     c.new-reader.ensures.reader.columns ∙ (λ i. case_columns (c.new-reader.ensures.case i) (c.new-reader.ensures.index i)) in
     let numbers = c.deref.ensures.value ∙ c.in_ok-numbers.ensures ∙ ap (λ (t : TreeColumns). columns_in t) columns in
     subst (λ (ks : List ℕ). All (λ k. k < length case.columns) ks) (sym numbers) (columns-there case n c.sound.ensures c.requires.first c.requires.last)

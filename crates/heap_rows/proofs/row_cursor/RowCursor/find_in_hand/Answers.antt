@@ -1,7 +1,10 @@
 use Rattle.std.proofs.Common.{ℕ, ◌≤◌, refl, sym, subst}
+use Rattle.std.specs.Option.{option_copied}
+use Rattle.outside.proofs.Asking.{AskedAtMost-more}
 use Rattle.heap_table_check.specs.Files.{chunks_in, toast_in}
 use Rattle.heap_rows.specs.declared.row_values.ValueSources.{ValueSources}
 use Rattle.heap_rows.specs.RowCursor.{heap_at}
+use Rattle.heap_rows.proofs.ReadLaws.{value-from}
 use Rattle.heap_rows.proofs.RowSources.{ahead_same, at_row_by, columns_readable, done_by, in_hand, moved, next_by, readable, values_are}
 use Rattle.heap_rows.proofs.RowSteps.{known_same}
 use Rattle.heap_rows.proofs.row_cursor.RowCursor.find_in_hand.Goals as goal
@@ -38,3 +41,6 @@ returns-clause-here g c = λ names told.
     let here = c.requires.told names told in
     let from : ValueSources = record { columns = c.columns.result; toast = c.toast.result; chunks = c.chunks.result; asked = _; starts = _ } in
     c.find.ensures.left names told c.args.self.now.case.now (in_hand names c.args.self.now from c.toast.ensures c.chunks.ensures here) (values_are names c.args.self.now from c.toast.ensures c.chunks.ensures c.columns.ensures refl c.deref.ensures.value here)
+
+pub returns-clause-asked : goal.returns-clause-asked
+returns-clause-asked g c = AskedAtMost-more (value-from c.args.self.now (option_copied c.toast.result) c.columns.result.now c.toast.ensures c.columns.ensures) c.find.ensures.asked

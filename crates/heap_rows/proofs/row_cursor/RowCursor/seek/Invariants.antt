@@ -1,6 +1,7 @@
-use Rattle.std.proofs.Common.{◌≡◌}
-use Rattle.outside.specs.Outside.{IfTold, Passed}
-use Rattle.heap_rows.specs.RowCursor.{IsCursorOf, IsPageDone, IsSameCursor, rows_ahead}
+use Rattle.std.proofs.Common.{◌≡◌, ◌≤◌, ◌+◌, ◌-◌, ◌*◌}
+use Rattle.outside.specs.Outside.{IfTold, PassedAtMost}
+use Rattle.heap_rows.specs.RowCursor.{IsCursorOf, IsPageDone, IsSameCursor, heap_at, rows_ahead}
+use Rattle.heap_rows.specs.Reads.{most_block_reads, value_reads}
 use Rattle.heap_rows.proofs.row_cursor.RowCursor.seek.Given as goal
 
 -- the blocks so far were read, and no row was left in them
@@ -11,5 +12,7 @@ invariant-loop g l = record {
   done : IfTold g.F.Files.seen l.initial.files (λ names. IsPageDone names l.self);
   same : IsSameCursor l.initial.self l.self;
   next : l.self.next ≡ l.counter;
-  asked : Passed g.F.Files.seen l.initial.files l.files;
+  from : IsSameCursor l.fn.self l.self;
+  onward : l.fn.self.next ≤ l.self.next;
+  asked : PassedAtMost ((most_block_reads (heap_at l.fn.self) + value_reads l.fn.self) * (l.self.next - l.fn.self.next)) g.F.Files.seen l.initial.files l.files;
 }

@@ -1,8 +1,12 @@
-use Rattle.std.proofs.Common.{◌≡◌, ℕ, ◌+◌, ◌≤◌, [], refl, sym, ap, subst, ◌∙◌, arith}
+use Rattle.std.proofs.Common.{rules, ◌≡◌, ℕ, ◌+◌, ◌-◌, ◌*◌, ◌≤◌, [], length, refl, sym, ap, subst, ◌∙◌, arith}
+use Rattle.std.proofs.Math.Nat.{mul-le-mul_left}
 use Rattle.heap_rows.specs.RowPages.{IsRowFound}
+use Rattle.heap_rows.specs.Reads.{row_reads}
+use Rattle.heap_rows.specs.RowValues.{count_asked}
 use Rattle.std.specs.Option.{option_copied}
-use Rattle.outside.proofs.Asking.{Passed-next}
+use Rattle.outside.proofs.Asking.{AskedAtMost-more, AskedAtMost-then, PassedAtMost-next}
 use Rattle.heap_rows.specs.Rows.{item_rows}
+use Rattle.heap_rows.proofs.ReadLaws.{asked-ok, turn-after, turns-most}
 use Rattle.heap_rows.proofs.RowSteps.{in_hand_done, in_hand_next, in_hand_same, known_same, same_as}
 use Rattle.heap_rows.proofs.row_page.RowPage.find.Goals as goal
 
@@ -34,6 +38,9 @@ loop-k-preserved g c =
     let same = c.loop-k.invariant.page.count in
     let last : c.loop-k.k + 1 ≤ c.loop-k.self.count = omega (arith, same, c.loop-k-test.true, c.loop-k.auto.k-end, c.min-count.ensures) in
     let page = c.in_ok-find_at.ensures.page in
+    let each = row_reads (option_copied c.args.from.now.toast) (count_asked (length c.args.from.now.columns.now) c.args.from.now.asked.now) in
+    let turns : ℕ = c.loop-k.k - c.args.self.now.done in
+    let more : each * (turns + 1) ≤ each * (c.loop-k.k + 1 - c.args.self.now.done) = mul-le-mul_left each (omega (arith, c.loop-k.invariant.from)) in
     record {
       left = λ names told case known are.
           let before = known_same case names (option_copied c.args.from.now.toast) c.args.from.now.chunks.now c.args.self.now c.loop-k.self c.loop-k.invariant.page known in
@@ -43,7 +50,9 @@ loop-k-preserved g c =
           ∙ c.loop-k.invariant.left names told case known are;
       page = same_as c.args.self.now c.loop-k.self _ c.loop-k.invariant.page (record { block = page.block; bytes = page.bytes; count = page.count; plain = page.plain; states = page.states; roots = page.roots });
       done = refl;
-      asked = Passed-next c.loop-k.invariant.asked c.in_ok-find_at.ensures.asked;
+      from = omega (arith, c.loop-k.invariant.from);
+      few = omega (arith, c.loop-k-test.true, c.loop-k.auto.k-end, c.min-count.ensures);
+      asked = AskedAtMost-more more (PassedAtMost-next each turns c.loop-k.invariant.asked c.in_ok-find_at.ensures.asked);
     }
 
 pub returns-clause-left : goal.returns-clause-left
@@ -56,3 +65,21 @@ returns-clause-none g c = λ names told case not few.
     let same = c.loop-k.invariant.page.count in
     let most : c.loop-k.self.count ≤ c.loop-k.self.done = omega (arith, few, same, c.loop-k-test.false, c.loop-k.auto.k-end, c.min-count.ensures, c.loop-k.invariant.done) in
     in_hand_done case names _ most
+
+pub returns-in_err-find_at-clause-asked : goal.returns-in_err-find_at-clause-asked
+returns-in_err-find_at-clause-asked g c =
+    let each = row_reads (option_copied c.args.from.now.toast) (count_asked (length c.args.from.now.columns.now) c.args.from.now.asked.now) in
+    let few = turn-after each (c.loop-k.k - c.args.self.now.done) (omega (arith, c.loop-k-test.true, c.loop-k.auto.k-end, c.min-count.ensures)) in
+    let all = AskedAtMost-more few (AskedAtMost-then c.loop-k.invariant.asked c.in_err-find_at.ensures.asked) in
+    search rules
+
+pub returns-then-branch-clause-asked : goal.returns-then-branch-clause-asked
+returns-then-branch-clause-asked g c =
+    let each = row_reads (option_copied c.args.from.now.toast) (count_asked (length c.args.from.now.columns.now) c.args.from.now.asked.now) in
+    let few = turn-after each (c.loop-k.k - c.args.self.now.done) (omega (arith, c.loop-k-test.true, c.loop-k.auto.k-end, c.min-count.ensures)) in
+    asked-ok few (AskedAtMost-then c.loop-k.invariant.asked c.in_ok-find_at.ensures.asked)
+
+pub returns-clause-asked : goal.returns-clause-asked
+returns-clause-asked g c =
+    let each = row_reads (option_copied c.args.from.now.toast) (count_asked (length c.args.from.now.columns.now) c.args.from.now.asked.now) in
+    asked-ok (turns-most each (c.loop-k.k - c.args.self.now.done) c.loop-k.invariant.few) c.loop-k.invariant.asked

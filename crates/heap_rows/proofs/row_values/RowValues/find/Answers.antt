@@ -3,9 +3,10 @@ use Rattle.std.proofs.lemmas.List.{length-append}
 use Rattle.std.specs.Prelude.{slice_get}
 use Rattle.std.specs.Option.{option_copied}
 use Rattle.std.specs.Global.{Vec}
-use Rattle.outside.proofs.Asking.{Passed-next}
+use Rattle.outside.proofs.Asking.{PassedAtMost-next}
 use Rattle.varlena_attrs.specs.InTurn.{AreRead, TupleParts}
 use Rattle.heap_rows.specs.declared.row_values.ValuePlace.{ValuePlace}
+use Rattle.heap_rows.specs.Reads.{chunk_reads}
 use Rattle.heap_rows.specs.RowValues.{AreCellsAsked, FitAsked, FitsColumnAt, bytes_seen, column_asked, shown_by}
 use Rattle.heap_rows.specs.Rows.{cell_at}
 use Rattle.heap_rows.proofs.RowValues.{found_is, has_value, next_asked, next_fit, none_missing}
@@ -51,7 +52,7 @@ loop-k-preserved g c =
           (next_fit (length old) (length (old ++ more)) columns asked c.loop-k.self.places.items c.in-Some.place k c.loop-k.invariant.count le c.loop-k.invariant.fits is));
       count = ap length ps ∙ length-append c.loop-k.self.places.items (c.in-Some.place ∷ []) ∙ ap (λ (n : ℕ). n + 1) c.loop-k.invariant.count;
       attrs = c.in_ok-place.ensures.attrs ∙ c.loop-k.invariant.attrs;
-      asked = Passed-next c.loop-k.invariant.asked c.in_ok-place.ensures.asked;
+      asked = PassedAtMost-next (chunk_reads (option_copied c.args.from.now.toast)) c.loop-k.k c.loop-k.invariant.asked c.in_ok-place.ensures.asked;
     }
 
 pub place_asked-requires-clause-body : goal.place_asked-requires-clause-body

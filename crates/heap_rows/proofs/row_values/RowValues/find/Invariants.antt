@@ -1,9 +1,10 @@
-use Rattle.std.proofs.Common.{◌≡◌, All, List, length, map}
+use Rattle.std.proofs.Common.{◌≡◌, ◌*◌, All, List, length, map}
 use Rattle.std.specs.Option.{option_copied}
-use Rattle.outside.specs.Outside.{IfTold, Passed}
+use Rattle.outside.specs.Outside.{IfTold, PassedAtMost}
 use Rattle.varlena_attrs.specs.Forms.{Attribute}
 use Rattle.varlena_attrs.specs.InTurn.{AreRead}
 use Rattle.heap_rows.specs.Rows.{cell_at}
+use Rattle.heap_rows.specs.Reads.{chunk_reads}
 use Rattle.heap_rows.specs.RowValues.{AreCellsAsked, AreStarts, FitAsked, IsThere, bytes_seen}
 use Rattle.heap_rows.proofs.row_values.RowValues.find.Given as goal
 
@@ -15,5 +16,5 @@ invariant-loop-k g l = record {
   fits : FitAsked (length l.self.joined.items) l.from.columns.now l.from.asked.now l.self.places.items l.k;
   count : length l.self.places.items ≡ l.k;
   attrs : l.attrs ≡ l.initial.attrs;
-  asked : Passed g.F.Files.seen l.initial.files l.files;
+  asked : PassedAtMost (chunk_reads (option_copied l.from.toast) * l.k) g.F.Files.seen l.initial.files l.files;
 }

@@ -7,6 +7,7 @@ use Rattle.join_look_ups.specs.Looking.{look_length}
 use Rattle.heap_rows.specs.declared.row_cursor.RowPlace.{RowPlace}
 use Rattle.heap_rows.specs.declared.rows.LiveRow.{LiveRow}
 use Rattle.heap_rows.specs.RowCursor.{IsPlaceOfFirst, rows_here}
+use Rattle.heap_rows.specs.Reads.{value_reads}
 use Rattle.join_look_ups.specs.Rows.{owed_for}
 use Rattle.join_look_ups.proofs.Owed.{Settles-exit, found-row, left-is, row-cut, row-step}
 use Rattle.join_row_keys.proofs.Places.{same-index}
@@ -88,3 +89,37 @@ returns-clause-told g c = λ names told. record {
   ready = c.judge_row.ensures.ready names (c.find_in_block.ensures.asked.same ∙ told);
   cursor_of = c.pass.ensures.told names (c.find_in_block.ensures.told names told);
 }
+
+-- a row's values and its look-up
+read-by : (a b d V n L : ℕ) → b ≤ a + V → d ≤ b + L → d + n * L ≤ a + (V + (n + 1) * L)
+read-by a b d V n L first look =
+    let turn : (n + 1) * L ≡ n * L + L = omega arith in
+    omega (arith, first, look, turn)
+
+pub returns-clause-spent : goal.returns-clause-spent
+returns-clause-spent g c = λ names told.
+    let L = look_length names c.args.self.index.at.tree.now in
+    let V = value_reads c.args.cursor.now in
+    let n = length (rows_here names c.pass.new.self) in
+    let more : length (rows_here names c.args.cursor.now) ≡ n + 1 = returns-clause-next g c names told refl in
+    let first : (g.F.Files.seen c.find_in_block.new.files).reads ≤ (g.F.Files.seen c.args.files.now).reads + V = c.find_in_block.ensures.asked.most in
+    subst (λ (m : ℕ). (g.F.Files.seen c.judge_row.new.files).reads + n * L ≤ (g.F.Files.seen c.args.files.now).reads + (V + m * L)) (sym more)
+    (read-by (g.F.Files.seen c.args.files.now).reads (g.F.Files.seen c.find_in_block.new.files).reads (g.F.Files.seen c.judge_row.new.files).reads V n L first (c.judge_row.ensures.reads names (c.find_in_block.ensures.asked.same ∙ told)))
+
+pub returns-clause-reads : goal.returns-clause-reads
+returns-clause-reads g c = λ names told.
+    let spent = returns-clause-spent g c names told in
+    omega (arith, spent)
+
+pub returns-in_err-judge_row-clause-reads : goal.returns-in_err-judge_row-clause-reads
+returns-in_err-judge_row-clause-reads g c = λ names told.
+    let L = look_length names c.args.self.index.at.tree.now in
+    let V = value_reads c.args.cursor.now in
+    let cursor = c.find_in_block.new.self in
+    let found = found-row names cursor c.in-Some.place (c.find_in_block.ensures.told names told) (subst (λ (o : Option RowPlace). IsPlaceOfFirst o (rows_here names cursor)) c.in-Some.is (c.in_ok-place.ensures.first names told)) in
+    let was : rows_here names c.args.cursor.now ≡ found.0 ∷ found.1.rows = sym (c.find_in_block.ensures.here names told) ∙ found.1.here in
+    let n = length found.1.rows in
+    let more : length (rows_here names c.args.cursor.now) ≡ n + 1 = ap length was ∙ omega arith in
+    let first : (g.F.Files.seen c.find_in_block.new.files).reads ≤ (g.F.Files.seen c.args.files.now).reads + V = c.find_in_block.ensures.asked.most in
+    let all = read-by (g.F.Files.seen c.args.files.now).reads (g.F.Files.seen c.find_in_block.new.files).reads (g.F.Files.seen c.judge_row.new.files).reads V n L first (c.judge_row.ensures.reads names (c.find_in_block.ensures.asked.same ∙ told)) in
+    subst (λ (m : ℕ). (g.F.Files.seen c.judge_row.new.files).reads ≤ (g.F.Files.seen c.args.files.now).reads + (V + m * L)) (sym more) (omega (arith, all))

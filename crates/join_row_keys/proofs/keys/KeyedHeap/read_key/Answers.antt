@@ -1,63 +1,20 @@
-use Rattle.std.proofs.Common.{◌∙◌, ◌∷◌, ◌+◌, ◌<◌, ◌≤◌, ℕ, [], length, sym, ap, subst, arith, length-append}
-use Rattle.std.specs.Prelude.{slice_get}
-use Rattle.std.proofs.Math.ListN.{drop_of_length-le}
-use Rattle.std.specs.List.{AllByRecursion}
-use Rattle.key_orders.specs.Values.{value_shown}
-use Rattle.case_file.specs.Record.{CaseRecord}
-use Rattle.case_file.specs.Sound.{IsSoundKey}
-use Rattle.bt_levels.specs.Files.{number_of}
-use Rattle.bt_levels.specs.Sound.{file_of, index_columns, specs_of}
+use Rattle.std.proofs.Common.{◌∙◌, ap, subst}
+use Rattle.std.specs.Bool.{OnTrue}
+use Rattle.key_orders.specs.Keys.{IsKey}
+use Rattle.key_attrs.specs.Columns.{TreeColumns}
 use Rattle.join_rules.specs.Rows.{key_numbers, values_at}
-use Rattle.join_row_keys.specs.declared.keys.KeyedHeap.{KeyedHeap}
 use Rattle.join_row_keys.proofs.Ahead.{ahead}
-use Rattle.join_row_keys.proofs.KeyLaws.{FitSoFar, IsSoFar, any-spec, fit-all, fit-next, key-column, key-count, so-far-all, so-far-next, so-far-packed, sound-keys, spec-column, value-fits}
+use Rattle.join_row_keys.proofs.KeyLaws.{reader-of}
 use Rattle.join_row_keys.proofs.keys.KeyedHeap.read_key.Goals as goal
 
-pub returns-in-Packed-clause-key : goal.returns-in-Packed-clause-key
-returns-in-Packed-clause-key c = λ names row rows are is.
-    let columns = index_columns c.args.self.at.tree.now in
-    let k = c.loop-k.k in
-    let lt : k < length columns.specs = omega (arith, ap length c.columns-columns.ensures.specs) in
-    so-far-packed (key_numbers columns) row.cells k c.loop-k.key (omega (arith, key-count columns))
-    (ap (slice_get row.cells) (sym (key-column c.args.self.first columns _ k c.requires.index.asked lt)) ∙ c.in-Packed.ensures.cell names row _ are (ahead names c.args.cursor.now row rows is))
-    (c.loop-k.invariant.values names row rows are is)
-
-pub loop-k-preserved : goal.loop-k-preserved
-loop-k-preserved c =
-    let index : KeyedHeap = c.args.self in
-    let tree = index.at.tree.now in
-    let columns = index_columns tree in
-    let specs = specs_of tree in
-    let k = c.loop-k.k in
-    let v = value_shown c.in-Held.v in
-    let lt : k < length specs = omega (arith, ap length c.columns-columns.ensures.specs) in
-    let at = key-column index.first columns _ k c.requires.index.asked lt in
-    let keys = sound-keys index.at.case.now (number_of (file_of tree)) tree c.sound.ensures c.requires.index.belong.index in
-    let sound : AllByRecursion (IsSoundKey c.args.cursor.now.case.now.columns) specs = subst (λ (case : CaseRecord). AllByRecursion (IsSoundKey case.columns) specs) (sym c.requires.index.case) keys in
-    record {
-      each = ap length c.push.ensures ∙ length-append c.loop-k.key (v ∷ []) ∙ ap (λ (n : ℕ). n + 1) c.loop-k.invariant.each;
-      values = λ names row rows are is.
-          subst (IsSoFar (values_at (key_numbers columns) row.cells) (key_numbers columns) row.cells (k + 1)) (sym c.push.ensures)
-          (so-far-next (key_numbers columns) row.cells k c.loop-k.key v (omega (arith, key-count columns)) (ap (slice_get row.cells) (sym at) ∙ c.in-Held.ensures.cell names row _ are (ahead names c.args.cursor.now row rows is))
-          (c.loop-k.invariant.values names row rows are is));
-      fits =
-          subst (FitSoFar specs (k + 1)) (sym c.push.ensures)
-          (fit-next specs k any-spec c.loop-k.key v lt
-          (value-fits c.args.cursor.now.case.now.columns specs k any-spec v sound lt (λ column there. c.in-Held.ensures.fits column (ap (slice_get c.args.cursor.now.case.now.columns) (at ∙ spec-column columns k) ∙ there)))
-          c.loop-k.invariant.fits);
-    }
+pub read_key-requires-clause-reader : goal.read_key-requires-clause-reader
+read_key-requires-clause-reader c =
+    reader-of c.args.self c.args.cursor.now c.reader.result c.sound.ensures c.requires.index c.reader.ensures.columns c.reader.ensures.first
 
 pub returns-clause-key : goal.returns-clause-key
 returns-clause-key c = λ names row rows are is.
-    let columns = index_columns c.args.self.at.tree.now in
-    let end : length (key_numbers columns) ≤ c.loop-k.k = omega (arith, key-count columns, ap length c.columns-columns.ensures.specs) in
-    so-far-all (key_numbers columns) row.cells c.loop-k.k c.loop-k.key (drop_of_length-le (key_numbers columns) end) (c.loop-k.invariant.values names row rows are is)
+    c.read_key.ensures.key names row _ are (ahead names c.args.cursor.now row rows is)
+    ∙ ap (λ (t : TreeColumns). values_at (key_numbers t) row.cells) c.reader.ensures.columns
 
 pub returns-clause-fits : goal.returns-clause-fits
-returns-clause-fits c =
-    let specs = specs_of c.args.self.at.tree.now in
-    let end : length specs ≤ c.loop-k.k = omega (arith, ap length c.columns-columns.ensures.specs) in
-    record {
-      fits = fit-all specs c.loop-k.k c.loop-k.key c.loop-k.invariant.fits;
-      whole = omega (arith, c.loop-k.invariant.each, ap length c.columns-columns.ensures.specs);
-    }
+returns-clause-fits c = subst (λ (t : TreeColumns). OnTrue c.read_key.result (IsKey t.specs c.read_key.new.key)) c.reader.ensures.columns c.read_key.ensures.fits

@@ -1,32 +1,12 @@
 use Rattle.std.proofs.Common.{◌∙◌, ◌∷◌, ◌+◌, ◌<◌, ◌≤◌, ℕ, List, [], length, sym, ap, subst, arith, length-append}
 use Rattle.std.specs.Prelude.{slice_get}
-use Rattle.std.specs.List.{AllByRecursion}
 use Rattle.std.proofs.Math.ListN.{drop_of_length-le}
 use Rattle.key_orders.specs.declared.columns.KeySpec.{KeySpec}
 use Rattle.key_orders.specs.Values.{value_shown}
-use Rattle.key_attrs.specs.Columns.{TreeColumns, tree_columns}
-use Rattle.case_file.specs.Record.{CaseRecord}
-use Rattle.case_file.specs.Sound.{IsSoundKey}
+use Rattle.key_attrs.specs.Columns.{tree_columns}
 use Rattle.join_rules.specs.Rows.{key_numbers, values_at}
-use Rattle.join_row_keys.proofs.KeyLaws.{FitSoFar, IsSoFar, any-spec, fit-all, fit-next, key-count, so-far-all, so-far-next, so-far-none, so-far-packed, spec-column, value-fits}
-use Rattle.join_row_entries.proofs.ColumnLaws.{asked-many, index-sound, key-at}
-use Rattle.join_row_entries.proofs.reader.RowReader.read_key.Goals as goal
-
-pub loop-k-init : goal.loop-k-init
-loop-k-init c =
-    let columns = tree_columns c.args.self.columns in
-    record {
-      each = ap length c.requires.none;
-      values = λ names row rows are is. subst (IsSoFar (values_at (key_numbers columns) row.cells) (key_numbers columns) row.cells 0) (sym c.requires.none) (so-far-none (key_numbers columns) row.cells);
-      fits = subst (FitSoFar columns.specs 0) (sym c.requires.none) (λ vs fits. fits);
-    }
-
-pub value-requires-clause-inside : goal.value-requires-clause-inside
-value-requires-clause-inside c =
-    asked-many (length c.args.cursor.now.case.now.columns) (tree_columns c.args.self.columns) c.args.cursor.now.asked c.loop-k.k c.requires.asked.asked (omega arith)
-
-pub push-requires : goal.push-requires
-push-requires c = omega (arith, c.loop-k.invariant.each, c.args.self.columns.few)
+use Rattle.join_row_keys.proofs.KeyLaws.{FitSoFar, IsSoFar, any-spec, fit-all, fit-next, key-column, key-count, so-far-all, so-far-next, so-far-packed, spec-column, value-fits}
+use Rattle.join_row_keys.proofs.reader.RowReader.read_key.Goals as goal
 
 pub returns-in-Packed-clause-key : goal.returns-in-Packed-clause-key
 returns-in-Packed-clause-key c = λ names row rows are is.
@@ -34,22 +14,17 @@ returns-in-Packed-clause-key c = λ names row rows are is.
     let k = c.loop-k.k in
     let lt : k < length columns.specs = omega arith in
     so-far-packed (key_numbers columns) row.cells k c.loop-k.key (omega (arith, key-count columns))
-    (ap (slice_get row.cells) (sym (key-at columns _ k c.requires.asked.asked lt)) ∙ c.in-Packed.ensures.cell names row rows are is)
+    (ap (slice_get row.cells) (sym (key-column c.args.self.first columns _ k c.requires.reader.asked lt)) ∙ c.in-Packed.ensures.cell names row rows are is)
     (c.loop-k.invariant.values names row rows are is)
 
 pub loop-k-preserved : goal.loop-k-preserved
 loop-k-preserved c =
-    let reader = c.args.self in
-    let columns = tree_columns reader.columns in
+    let columns = tree_columns c.args.self.columns in
     let specs = columns.specs in
-    let case : CaseRecord = reader.case.now in
     let k = c.loop-k.k in
     let v = value_shown c.in-Held.v in
     let lt : k < length specs = omega arith in
-    let at = key-at columns _ k c.requires.asked.asked lt in
-    let index = index-sound case reader.index c.sound.ensures c.requires.reader.first c.requires.reader.last in
-    let keys : AllByRecursion (IsSoundKey case.columns) specs = subst (AllByRecursion (IsSoundKey case.columns)) (sym (ap (λ (t : TreeColumns). t.specs) c.requires.reader.columns)) index.keys in
-    let sound : AllByRecursion (IsSoundKey c.args.cursor.now.case.now.columns) specs = subst (λ (case : CaseRecord). AllByRecursion (IsSoundKey case.columns) specs) (sym c.requires.asked.case) keys in
+    let at = key-column c.args.self.first columns _ k c.requires.reader.asked lt in
     record {
       each = ap length c.push.ensures ∙ length-append c.loop-k.key (v ∷ []) ∙ ap (λ (n : ℕ). n + 1) c.loop-k.invariant.each;
       values = λ names row rows are is.
@@ -59,7 +34,7 @@ loop-k-preserved c =
       fits =
           subst (FitSoFar specs (k + 1)) (sym c.push.ensures)
           (fit-next specs k any-spec c.loop-k.key v lt
-          (value-fits c.args.cursor.now.case.now.columns specs k any-spec v sound lt (λ column there. c.in-Held.ensures.fits column (ap (slice_get c.args.cursor.now.case.now.columns) (at ∙ spec-column columns k) ∙ there)))
+          (value-fits c.args.cursor.now.case.now.columns specs k any-spec v c.requires.reader.columns.keys lt (λ column there. c.in-Held.ensures.fits column (ap (slice_get c.args.cursor.now.case.now.columns) (at ∙ spec-column columns k) ∙ there)))
           c.loop-k.invariant.fits);
     }
 

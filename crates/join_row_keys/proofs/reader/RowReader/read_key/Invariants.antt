@@ -5,7 +5,7 @@ use Rattle.join_rules.specs.Rows.{key_numbers, values_at}
 use Rattle.heap_rows.specs.declared.rows.LiveRow.{LiveRow}
 use Rattle.heap_rows.specs.RowCursor.{IsCursorOf, rows_ahead}
 use Rattle.join_row_keys.proofs.KeyLaws.{FitSoFar, IsSoFar}
-use Rattle.join_row_entries.proofs.reader.RowReader.read_key.Given as goal
+use Rattle.join_row_keys.proofs.reader.RowReader.read_key.Given as goal
 
 -- the values of the columns so far begin the key, and fit it
 abbrev pub invariant-loop-k : goal.invariant-loop-k

@@ -5,8 +5,8 @@ use Rattle.join_rules.specs.Rows.{more_numbers, values_at}
 use Rattle.heap_rows.specs.declared.rows.LiveRow.{LiveRow}
 use Rattle.heap_rows.specs.RowCursor.{IsCursorOf, rows_ahead}
 use Rattle.join_row_keys.proofs.KeyLaws.{IsSoFar}
-use Rattle.join_row_entries.proofs.ColumnLaws.{FitMore}
-use Rattle.join_row_entries.proofs.reader.RowReader.read_more.Given as goal
+use Rattle.join_row_keys.proofs.MoreLaws.{FitMore}
+use Rattle.join_row_keys.proofs.reader.RowReader.read_more.Given as goal
 
 -- the values of the columns so far begin all, and fit them
 abbrev pub invariant-loop-k : goal.invariant-loop-k

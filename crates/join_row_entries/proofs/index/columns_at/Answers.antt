@@ -5,7 +5,7 @@ use Rattle.key_orders.specs.declared.more.MoreSpec.{MoreSpec}
 use Rattle.key_orders.specs.Types.{HasAlignment}
 use Rattle.key_attrs.specs.Keyed.{key_types, more_types}
 use Rattle.bt_levels.proofs.Keys.{aligned-keys, aligned-more, few-keys, few-more, index-has}
-use Rattle.join_row_entries.proofs.reader.columns_at.Goals as goal
+use Rattle.join_row_entries.proofs.index.columns_at.Goals as goal
 
 pub new-requires-clause-few : goal.new-requires-clause-few
 new-requires-clause-few c =
