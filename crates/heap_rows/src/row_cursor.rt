@@ -190,7 +190,7 @@ impl<'a> RowCursor<'a> {
         ensures told { IfTold F.seen files.old (λ names. IsCursorOf names self.new) }
         ensures same { IsSameCursor self.old self.new }
         ensures next { OnOk result (self.new.next ≡ self.old.next + 1) }
-        ensures onward { self.old.next ≤ self.new.next }
+        ensures onward { (self.old.next ≤ self.new.next) × (self.new.next ≤ self.old.next + 1) }
         ensures taken { taken_in self.new ≡ one_more (taken_in self.old) }
         ensures asked { AskedAtMost (block_reads (heap_at self.old) (next_in self.old)) F.seen files.old files.new
             result PageFault.ReadFault }
@@ -221,7 +221,7 @@ impl<'a> RowCursor<'a> {
         ensures told { IfTold F.seen files.old (λ names. IsCursorOf names self.new) }
         ensures same { IsSameCursor self.old self.new }
         ensures next { OnOk result (self.new.next ≡ self.old.next + 1) }
-        ensures onward { self.old.next ≤ self.new.next }
+        ensures onward { (self.old.next ≤ self.new.next) × (self.new.next ≤ self.old.next + 1) }
         ensures asked { AskedAtMost (block_reads (heap_at self.old) (next_in self.old) + value_reads self.old) F.seen
             files.old files.new result PageFault.ReadFault }
     {
@@ -238,6 +238,8 @@ impl<'a> RowCursor<'a> {
         ensures told { IfTold F.seen files.old (λ names. IsCursorOf names self.new) }
         ensures same { IsSameCursor self.old self.new }
         ensures next { next_in self.old ≤ next_in self.new }
+        ensures within { next_in self.old ≤ count_of (heap_in (heap_at self.old))
+            → next_in self.new ≤ count_of (heap_in (heap_at self.old)) }
         ensures asked { AskedAtMost (way_reads self.old (next_in self.new - next_in self.old + 1)) F.seen files.old
             files.new result PageFault.ReadFault }
         ensures most { OnOk result (ReadAtMost (way_reads self.old (next_in self.new - next_in self.old)) F.seen
@@ -289,6 +291,8 @@ impl<'a> RowCursor<'a> {
         ensures told { IfTold F.seen files.old (λ names. IsCursorOf names self.new) }
         ensures same { IsSameCursor self.old self.new }
         ensures next { next_in self.old ≤ next_in self.new }
+        ensures within { next_in self.old ≤ count_of (heap_in (heap_at self.old))
+            → next_in self.new ≤ count_of (heap_in (heap_at self.old)) }
         ensures asked { AskedAtMost (way_reads self.old (next_in self.new - next_in self.old + 1)) F.seen files.old
             files.new result PageFault.ReadFault }
         ensures most { OnOk result (ReadAtMost (way_reads self.old (next_in self.new - next_in self.old)) F.seen

@@ -20,6 +20,7 @@ loop-init g c = record {
   next = refl;
   from = c.find_in_hand.ensures.same;
   onward = omega (arith, c.find_in_hand.ensures.next);
+  within = λ few. omega (arith, few, c.find_in_hand.ensures.next);
   asked = AskedAtMost-more (omega arith) PassedAtMost-none;
 }
 
@@ -56,6 +57,9 @@ loop-preserved g c =
       next = c.in_ok-find_in_next.ensures.next ∙ ap (λ (k : ℕ). k + 1) c.loop.invariant.next;
       from = record { case = next.same.case ∙ from.case; heap = next.same.heap ∙ from.heap; asked = next.same.asked ∙ from.asked };
       onward = omega (arith, c.loop.invariant.onward, next.next);
+      within = λ few.
+          let whole = c.blocks-end.ensures ∙ ap count_of c.heap.ensures ∙ ap (λ (h : SoundHeap). count_of (heap_in h)) c.find_in_hand.ensures.same.heap in
+          omega (arith, whole, c.loop-test.true, c.loop.invariant.next, next.next);
       asked = AskedAtMost-more turns (PassedAtMost-next each n c.loop.invariant.asked (AskedAtMost-more most next.asked));
     }
 
@@ -86,7 +90,7 @@ returns-in_err-find_in_next-clause-asked g c =
     let old = c.args.self.now in
     let n : ℕ = c.loop.self.next - old.next in
     let here = inside c.blocks-end.result c.loop.counter c.loop.self.next c.find_in_hand.new.self c.loop.self (c.blocks-end.ensures ∙ ap count_of c.heap.ensures) c.loop.invariant.same c.loop-test.true c.loop.invariant.next in
-    let few = way-next old c.loop.self c.loop.self.next n (c.find_in_next.new.self.next - old.next + 1) c.loop.invariant.from here (omega (arith, c.find_in_next.ensures.onward)) in
+    let few = way-next old c.loop.self c.loop.self.next n (c.find_in_next.new.self.next - old.next + 1) c.loop.invariant.from here (omega (arith, c.find_in_next.ensures.onward.0)) in
     let all = AskedAtMost-more few (AskedAtMost-then (AskedAtMost-then c.in_ok-find_in_hand.ensures.asked c.loop.invariant.asked) c.in_err-find_in_next.ensures.asked) in
     search rules
 
@@ -95,7 +99,7 @@ returns-then-branch-2-clause-asked g c =
     let old = c.args.self.now in
     let n : ℕ = c.loop.self.next - old.next in
     let here = inside c.blocks-end.result c.loop.counter c.loop.self.next c.find_in_hand.new.self c.loop.self (c.blocks-end.ensures ∙ ap count_of c.heap.ensures) c.loop.invariant.same c.loop-test.true c.loop.invariant.next in
-    let few = way-next old c.loop.self c.loop.self.next n (c.find_in_next.new.self.next - old.next + 1) c.loop.invariant.from here (omega (arith, c.find_in_next.ensures.onward)) in
+    let few = way-next old c.loop.self c.loop.self.next n (c.find_in_next.new.self.next - old.next + 1) c.loop.invariant.from here (omega (arith, c.find_in_next.ensures.onward.0)) in
     asked-ok few (AskedAtMost-then (AskedAtMost-then c.in_ok-find_in_hand.ensures.asked c.loop.invariant.asked) c.in_ok-find_in_next.ensures.asked)
 
 pub returns-then-branch-2-clause-most : goal.returns-then-branch-2-clause-most
@@ -118,3 +122,22 @@ pub returns-clause-most : goal.returns-clause-most
 returns-clause-most g c =
     let old = c.args.self.now in
     read-most (way-all old (c.loop.self.next - old.next)) (AskedAtMost-then c.in_ok-find_in_hand.ensures.asked c.loop.invariant.asked)
+
+pub returns-then-branch-clause-within : goal.returns-then-branch-clause-within
+returns-then-branch-clause-within g c = λ few. omega (arith, few, c.find_in_hand.ensures.next)
+
+pub returns-in_err-find_in_hand-clause-within : goal.returns-in_err-find_in_hand-clause-within
+returns-in_err-find_in_hand-clause-within g c = λ few. omega (arith, few, c.find_in_hand.ensures.next)
+
+pub returns-in_err-find_in_next-clause-within : goal.returns-in_err-find_in_next-clause-within
+returns-in_err-find_in_next-clause-within g c = λ few.
+    let whole = c.blocks-end.ensures ∙ ap count_of c.heap.ensures ∙ ap (λ (h : SoundHeap). count_of (heap_in h)) c.find_in_hand.ensures.same.heap in
+    omega (arith, whole, c.loop-test.true, c.loop.invariant.next, c.find_in_next.ensures.onward.1)
+
+pub returns-then-branch-2-clause-within : goal.returns-then-branch-2-clause-within
+returns-then-branch-2-clause-within g c = λ few.
+    let whole = c.blocks-end.ensures ∙ ap count_of c.heap.ensures ∙ ap (λ (h : SoundHeap). count_of (heap_in h)) c.find_in_hand.ensures.same.heap in
+    omega (arith, whole, c.loop-test.true, c.loop.invariant.next, c.find_in_next.ensures.onward.1)
+
+pub returns-clause-within : goal.returns-clause-within
+returns-clause-within g c = λ few. c.loop.invariant.within few
