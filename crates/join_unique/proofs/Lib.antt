@@ -3,6 +3,7 @@ pub mod HeapRows
 pub mod Ordered
 pub mod Sorting
 pub mod Listing
+pub mod Reading
 pub mod Steps
 pub mod Fitting
 pub mod Adding

@@ -1,4 +1,5 @@
 pub mod Groups
 pub mod Later
+pub mod Reads
 pub mod Roots
 pub mod Tables

@@ -1,11 +1,14 @@
 //! The check of the keys of a unique index.
-ghost use Rattle.std.specs.Prelude.{◌≡◌, ◌<◌, ◌≤◌, ◌^◌, ◌⊎◌, All, IfOk, OnOk, false, length, true};
+ghost use Rattle.std.specs.Prelude.{◌≡◌, ◌+◌, ◌*◌, ◌<◌, ◌≤◌, ◌^◌, ◌⊎◌, All, IfOk, OnOk, false, length, true};
 ghost use Rattle.outside.specs.Adds.{AddsIn};
-ghost use Rattle.outside.specs.Outside.{Asked, IfTold, Names, Tells};
+ghost use Rattle.outside.specs.Outside.{Asked, AskedAtMost, IfTold, Names, Tells};
+ghost use Rattle.rel_files.specs.Relation.{count_of};
 ghost use Rattle.reports.specs.Added.{nothing, report_lists};
 ghost use Rattle.bt_levels.specs.Files.{number_of};
 ghost use Rattle.bt_levels.specs.Sound.{file_of};
-ghost use Rattle.heap_rows.specs.RowCursor.{IsCursorOf, rows_ahead};
+ghost use Rattle.heap_table_check.specs.Files.{heap_in};
+ghost use Rattle.heap_rows.specs.Reads.{ReadAtMost, most_block_reads, value_reads};
+ghost use Rattle.heap_rows.specs.RowCursor.{IsCursorOf, heap_at, next_in, rows_ahead};
 ghost use Rattle.heap_rows.specs.Rows.{rows_of};
 ghost use Rattle.join_rules.specs.Broken.{AreJoined};
 ghost use Rattle.join_rules.specs.Lists.{duplicates_lists};
@@ -14,6 +17,7 @@ ghost use Rattle.join_row_keys.specs.Joined.{BelongTogether, HoldTogether};
 ghost use Rattle.join_distinct.specs.Apart.{AreApart};
 ghost use Rattle.join_unique.specs.Groups.{is_asked};
 ghost use Rattle.join_unique.specs.Later.{later_lists};
+ghost use Rattle.join_unique.specs.Reads.{duplicate_reads, group_reads};
 ghost use Rattle.join_unique.specs.Roots.{is_root_in};
 ghost use Rattle.join_unique.specs.Tables.{AreFewLooks, AreLooks, IsDone};
 
@@ -84,10 +88,13 @@ fn add_roots<F: Files>(
     cursor: &mut RowCursor<'_>,
     roots: &mut Roots,
 ) -> Result<(), PageFault>
+    requires begun { next_in cursor.old ≡ 0 }
+    requires none { value_reads cursor.old ≡ 0 }
     requires told { IfTold F.seen files.old (λ names. IsCursorOf names cursor.old) }
     ensures roots { IfTold F.seen files.old (λ names. OnOk result
         (All (λ row. is_root_in roots.new row.root ≡ true) (rows_ahead names cursor.old))) }
-    ensures asked { Asked F.seen files.old files.new result PageFault.ReadFault }
+    ensures asked { AskedAtMost (most_block_reads (heap_at cursor.old) * (count_of (heap_in (heap_at cursor.old)) + 1))
+        F.seen files.old files.new result PageFault.ReadFault }
 {
     for k in 0..u64::MAX {
         let Some(place) = cursor.find(files)? else {
@@ -105,7 +112,8 @@ fn roots_of<F: Files>(alloc: Global, files: &mut F, at: IndexedHeap<'_>) -> Resu
     requires hold { IfTold F.seen files.old (λ names. HoldTogether names at.case.now at.heap.now at.tree.now) }
     ensures roots { Tells F.seen files.old result (λ roots names.
         All (λ row. is_root_in roots row.root ≡ true) (rows_of at.entry.case.now names)) }
-    ensures asked { Asked F.seen files.old files.new result PageFault.ReadFault }
+    ensures asked { AskedAtMost (most_block_reads at.entry.heap.now * (count_of (heap_in at.entry.heap.now) + 1)) F.seen
+        files.old files.new result PageFault.ReadFault }
 {
     let mut roots = Roots::new(alloc, at.heap.heap().blocks())?;
     let mut cursor = RowCursor::new(alloc, at.case, at.heap, &[])?;
@@ -125,6 +133,7 @@ fn group_rows<F: Files>(
     requires hold { IfTold F.seen files.old (λ names. HoldTogether names at.case.now at.heap.now at.tree.now) }
     ensures done { Tells F.seen files.old result (λ group names. IsDone names at.entry unique roots.now group) }
     ensures asked { Asked F.seen files.old files.new result PageFault.ReadFault }
+    ensures reads { IfTold F.seen files.old (λ names. ReadAtMost (group_reads names at.entry) F.seen files.old files.new) }
 {
     at.case.sound();
     let columns = columns_of(alloc, &at.tree.columns())?;
@@ -173,6 +182,7 @@ fn later_rows<F: Files>(
     ensures few { Tells F.seen files.old result (λ later names. AreFewLooks names at.entry later.looks) }
     ensures looks { Tells F.seen files.old result (λ later names. AreLooks names at.entry unique later.looks) }
     ensures asked { Asked F.seen files.old files.new result PageFault.ReadFault }
+    ensures reads { IfTold F.seen files.old (λ names. ReadAtMost (duplicate_reads names at.entry) F.seen files.old files.new) }
 {
     rows_are_live_tuples();
     key_orders_are_total();
@@ -219,7 +229,10 @@ pub fn check_duplicates<F: Files>(
         → AreLooks names at.entry (unique_of at.entry.case.now (number_of (file_of at.entry.tree.now))) looks) }
     ensures none { IfOk result (λ looks. apart ≡ true
         ⊎ is_asked (unique_of at.entry.case.now (number_of (file_of at.entry.tree.now))) ≡ false → looks ≡ 0) }
+    ensures unread { apart ≡ true ⊎ is_asked (unique_of at.entry.case.now (number_of (file_of at.entry.tree.now))) ≡ false
+        → AskedAtMost 0 F.seen files.old files.new result PageFault.ReadFault }
     ensures asked { Asked F.seen files.old files.new result PageFault.ReadFault }
+    ensures reads { IfTold F.seen files.old (λ names. ReadAtMost (duplicate_reads names at.entry) F.seen files.old files.new) }
 {
     searches_go_in_steps();
     if apart {

@@ -1,17 +1,19 @@
 //! The entries of an index one after another, and the rows that have the same key as each other.
-ghost use Rattle.std.specs.Prelude.{◌≡◌, ◌≢◌, ◌∷◌, ◌≤◌, ◌<◌, ◌+◌, ◌^◌, [], List, OnOk, false, length, map, true};
+ghost use Rattle.std.specs.Prelude.{◌≡◌, ◌≢◌, ◌∷◌, ◌≤◌, ◌<◌, ◌+◌, ◌*◌, ◌^◌, [], List, OnOk, false, length, map, true};
+ghost use Rattle.std.specs.Prelude.{ℕ as Count};
 ghost use Rattle.outside.specs.Counting.{one_more};
-ghost use Rattle.outside.specs.Outside.{Asked, IfTold, Names, Tells};
+ghost use Rattle.outside.specs.Outside.{Asked, AskedAtMost, IfTold, Names, Tells};
 ghost use Rattle.rel_files.specs.Relation.{count_of};
 ghost use Rattle.laws_search.specs.Keys.{Entry as Item};
 ghost use Rattle.key_orders.specs.declared.columns.Value.{Value as Shown};
 ghost use Rattle.key_orders.specs.declared.Tid.{Tid as Place};
 ghost use Rattle.key_orders.specs.Scans.{FitsKey};
 ghost use Rattle.key_orders.specs.Values.{value_shown};
-ghost use Rattle.bt_levels.specs.Sound.{HoldsTree, specs_of};
-ghost use Rattle.bt_search.specs.Spots.{StandsAt};
+ghost use Rattle.bt_levels.specs.Sound.{HoldsTree, block_count, specs_of};
+ghost use Rattle.bt_search.specs.Spots.{StandsAt, rest_at};
 ghost use Rattle.heap_table_check.specs.Files.{heap_in};
-ghost use Rattle.heap_rows.specs.RowCursor.{IsAtRow, IsCursorOf, IsSameCursor, next_in, rows_here};
+ghost use Rattle.heap_rows.specs.RowCursor.{IsAtRow, IsCursorOf, IsSameCursor, heap_at, next_in, rows_here};
+ghost use Rattle.heap_rows.specs.Reads.{ReadAtMost, columns_at, page_reads, value_reads};
 ghost use Rattle.heap_rows.specs.declared.rows.LiveRow.{LiveRow as Row};
 ghost use Rattle.join_row_keys.specs.Rows.{IsFound, IsIndexAt};
 
@@ -39,6 +41,7 @@ pub(crate) struct Grouping<'a> {
 
 impl Grouping<'_> {
     ghost use Rattle.join_unique.specs.Groups.{block_met, closed, entry_met, opened, row_met, tid_met};
+    ghost use Rattle.join_unique.specs.Reads.{AreTaken, yielded};
     ghost use Rattle.join_unique.specs.Tables.{IsWalked, TakesLeaf, group_after, table_seen};
 
     // Meets the row at which a cursor is, if it has the key of the group.
@@ -81,7 +84,7 @@ impl Grouping<'_> {
         ensures end { Tells F.seen files.old result (λ found names. found ≡ false → rows_here names cursor.new ≡ []) }
         ensures told { IfTold F.seen files.old (λ names. IsCursorOf names cursor.new) }
         ensures same { IsSameCursor cursor.old cursor.new }
-        ensures asked { Asked F.seen files.old files.new result PageFault.ReadFault }
+        ensures asked { AskedAtMost (value_reads cursor.old) F.seen files.old files.new result PageFault.ReadFault }
     {
         let Some(place) = cursor.find_in_block(files)? else {
             return Ok(false);
@@ -105,7 +108,7 @@ impl Grouping<'_> {
             group.new ≡ group_after (table_seen names self.entry) group.old (rows_here names cursor.old))) }
         ensures told { IfTold F.seen files.old (λ names. IsCursorOf names cursor.new) }
         ensures same { IsSameCursor cursor.old cursor.new }
-        ensures asked { Asked F.seen files.old files.new result PageFault.ReadFault }
+        ensures asked { AskedAtMost (value_reads cursor.old * 2042) F.seen files.old files.new result PageFault.ReadFault }
     {
         for k in 0..MAX_ITEMS {
             if !self.meet_next(files, cursor, group)? {
@@ -131,7 +134,8 @@ impl Grouping<'_> {
             })) }
         ensures told { IfTold F.seen files.old (λ names. IsCursorOf names cursor.new) }
         ensures same { IsSameCursor cursor.old cursor.new }
-        ensures asked { Asked F.seen files.old files.new result PageFault.ReadFault }
+        ensures asked { AskedAtMost (page_reads (heap_at cursor.old) (columns_at cursor.old)) F.seen files.old files.new
+            result PageFault.ReadFault }
     {
         let blocks = self.index.at.heap.heap().blocks();
         let block = group.block();
@@ -157,7 +161,8 @@ impl Grouping<'_> {
             group.new ≡ closed (table_seen names self.entry) group.old)) }
         ensures told { IfTold F.seen files.old (λ names. IsCursorOf names cursor.new) }
         ensures same { IsSameCursor cursor.old cursor.new }
-        ensures asked { Asked F.seen files.old files.new result PageFault.ReadFault }
+        ensures asked { AskedAtMost (page_reads (heap_at cursor.old) (columns_at cursor.old)) F.seen files.old files.new
+            result PageFault.ReadFault }
     {
         if group.is_several() {
             self.meet_block(files, cursor, group)?;
@@ -180,7 +185,8 @@ impl Grouping<'_> {
             group.new ≡ opened (table_seen names self.entry) (map value_shown key.now) group.old)) }
         ensures told { IfTold F.seen files.old (λ names. IsCursorOf names cursor.new) }
         ensures same { IsSameCursor cursor.old cursor.new }
-        ensures asked { Asked F.seen files.old files.new result PageFault.ReadFault }
+        ensures asked { AskedAtMost (page_reads (heap_at cursor.old) (columns_at cursor.old)) F.seen files.old files.new
+            result PageFault.ReadFault }
     {
         if group.has_key(key) {
             return Ok(());
@@ -205,7 +211,8 @@ impl Grouping<'_> {
             group.new ≡ tid_met (table_seen names self.entry) tid group.old)) }
         ensures told { IfTold F.seen files.old (λ names. IsCursorOf names cursor.new) }
         ensures same { IsSameCursor cursor.old cursor.new }
-        ensures asked { Asked F.seen files.old files.new result PageFault.ReadFault }
+        ensures asked { AskedAtMost (page_reads (heap_at cursor.old) (columns_at cursor.old)) F.seen files.old files.new
+            result PageFault.ReadFault }
     {
         if !group.is_counted() {
             return Ok(());
@@ -235,7 +242,8 @@ impl Grouping<'_> {
             → e.values ≡ key.now → tid ≡ e.tid → group.new ≡ entry_met (table_seen names self.entry) e group.old)) }
         ensures told { IfTold F.seen files.old (λ names. IsCursorOf names cursor.new) }
         ensures same { IsSameCursor cursor.old cursor.new }
-        ensures asked { Asked F.seen files.old files.new result PageFault.ReadFault }
+        ensures asked { AskedAtMost (page_reads (heap_at cursor.old) (columns_at cursor.old) * 2) F.seen files.old
+            files.new result PageFault.ReadFault }
     {
         self.open(files, cursor, group, key.as_slice())?;
         self.take_tid(files, cursor, group, tid)
@@ -262,6 +270,12 @@ impl Grouping<'_> {
         ensures told { IfTold F.seen files.old (λ names. IsCursorOf names cursor.new) }
         ensures same { IsSameCursor cursor.old cursor.new }
         ensures asked { Asked F.seen files.old files.new result PageFault.ReadFault }
+        ensures reads { IfTold F.seen files.old (λ names. ReadAtMost (page_reads (heap_at cursor.old) (columns_at cursor.old)
+            * (2 * length (rest_at names self.entry.index.at.tree.now self.entry.scan.now spot.old))) F.seen files.old
+            files.new) }
+        ensures taken { Tells F.seen files.old result (λ next names. (n : Count)
+            × AreTaken names self.entry spot.old next n × ReadAtMost
+            (page_reads (heap_at cursor.old) (columns_at cursor.old) * (2 * n)) F.seen files.old files.new) }
     {
         let search = Search {
             tree: self.index.at.tree,
@@ -298,6 +312,9 @@ impl Grouping<'_> {
         ensures told { IfTold F.seen files.old (λ names. IsCursorOf names cursor.new) }
         ensures same { IsSameCursor cursor.old cursor.new }
         ensures asked { Asked F.seen files.old files.new result PageFault.ReadFault }
+        ensures reads { IfTold F.seen files.old (λ names. ReadAtMost (block_count self.entry.index.at.tree.now
+            + page_reads (heap_at cursor.old) (columns_at cursor.old)
+            * (2 * yielded names self.entry.index.at.tree.now self.entry.scan.now)) F.seen files.old files.new) }
     {
         let tree = self.index.at.tree;
         let limit = u64::from(tree.blocks());

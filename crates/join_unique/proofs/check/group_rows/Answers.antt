@@ -1,11 +1,15 @@
-use Rattle.std.proofs.Common.{◌∙◌, ◌<◌, ◌≡◌, ℕ, List, ap, length, sym, subst}
+use Rattle.std.proofs.Common.{◌∙◌, ◌<◌, ◌≡◌, ◌+◌, ◌*◌, ℕ, List, ap, arith, length, sym, subst}
 use Rattle.std.specs.Prelude.{All}
 use Rattle.bt_levels.specs.Files.{number_of}
-use Rattle.bt_levels.specs.Sound.{file_of, index_columns}
+use Rattle.bt_levels.specs.Sound.{block_count, file_of, index_columns}
 use Rattle.join_row_keys.specs.Rows.{AreAskedFrom, columns_in}
 use Rattle.join_row_keys.proofs.KeyLaws.{asked-all, columns-there}
 use Rattle.join_row_keys.proofs.Places.{same-index}
+use Rattle.key_orders.specs.Scans.{Bounds}
+use Rattle.heap_rows.proofs.ReadLaws.{page-same}
+use Rattle.join_unique.specs.Reads.{key_page_reads, unkilled, yielded}
 use Rattle.join_unique.proofs.Done.{done}
+use Rattle.join_unique.proofs.Reading.{group-sum, key-page, pages-for}
 use Rattle.join_unique.proofs.check.group_rows.Goals as goal
 
 pub new-requires-clause-asked : goal.new-requires-clause-asked
@@ -55,3 +59,43 @@ pub returns-clause-done : goal.returns-clause-done
 returns-clause-done g c = λ names told.
     done names c.args.at c.args.unique c.args.roots _ (c.in-Ok.ensures.ok) c.new-group.result c.walk.new.group c.close.new.group c.new-group.ensures
     (c.in_ok-walk.ensures.met names told) (c.in_ok-close.ensures.met names (c.walk.ensures.asked.same ∙ told))
+
+-- How often files are read
+
+pub returns-clause-reads : goal.returns-clause-reads
+returns-clause-reads g c = λ names told.
+    let at = c.args.at in
+    let tree = at.tree.now in
+    let cursor = c.in_ok-cursor.cursor in
+    let columns : c.deref.result.now ≡ columns_in (index_columns tree) = c.deref.ensures.value ∙ c.in_ok-columns.ensures ∙ ap columns_in c.columns.ensures.lists in
+    let page = key-page at cursor c.deref.result.now c.in_ok-cursor.ensures.heap c.in_ok-cursor.ensures.asked columns in
+    let free = ap (λ (b : Bounds). yielded names tree b) c.in-Ok.ensures.ok in
+    let walked = pages-for page free in
+    let sum = group-sum (block_count tree) (key_page_reads at) (unkilled names tree) in
+    let last = page-same cursor c.walk.new.cursor c.walk.ensures.same ∙ page in
+    omega (arith, sum, walked, last, c.walk.ensures.reads names told, c.close.ensures.asked.most)
+
+pub returns-in_err-close-clause-reads : goal.returns-in_err-close-clause-reads
+returns-in_err-close-clause-reads g c = λ names told.
+    let at = c.args.at in
+    let tree = at.tree.now in
+    let cursor = c.in_ok-cursor.cursor in
+    let columns : c.deref.result.now ≡ columns_in (index_columns tree) = c.deref.ensures.value ∙ c.in_ok-columns.ensures ∙ ap columns_in c.columns.ensures.lists in
+    let page = key-page at cursor c.deref.result.now c.in_ok-cursor.ensures.heap c.in_ok-cursor.ensures.asked columns in
+    let free = ap (λ (b : Bounds). yielded names tree b) c.in-Ok.ensures.ok in
+    let walked = pages-for page free in
+    let sum = group-sum (block_count tree) (key_page_reads at) (unkilled names tree) in
+    let last = page-same cursor c.walk.new.cursor c.walk.ensures.same ∙ page in
+    omega (arith, sum, walked, last, c.walk.ensures.reads names told, c.close.ensures.asked.most)
+
+pub returns-in_err-walk-clause-reads : goal.returns-in_err-walk-clause-reads
+returns-in_err-walk-clause-reads g c = λ names told.
+    let at = c.args.at in
+    let tree = at.tree.now in
+    let cursor = c.in_ok-cursor.cursor in
+    let columns : c.deref.result.now ≡ columns_in (index_columns tree) = c.deref.ensures.value ∙ c.in_ok-columns.ensures ∙ ap columns_in c.columns.ensures.lists in
+    let page = key-page at cursor c.deref.result.now c.in_ok-cursor.ensures.heap c.in_ok-cursor.ensures.asked columns in
+    let free = ap (λ (b : Bounds). yielded names tree b) c.in-Ok.ensures.ok in
+    let walked = pages-for page free in
+    let sum = group-sum (block_count tree) (key_page_reads at) (unkilled names tree) in
+    omega (arith, sum, walked, c.walk.ensures.reads names told)

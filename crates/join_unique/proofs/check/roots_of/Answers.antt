@@ -1,11 +1,19 @@
-use Rattle.std.proofs.Common.{List, subst}
-use Rattle.std.specs.Prelude.{All, true, ◌≡◌}
+use Rattle.std.proofs.Common.{◌∙◌, List, [], ap, refl, subst}
+use Rattle.std.specs.Prelude.{All, true, ◌≡◌, ◌+◌, ◌*◌}
+use Rattle.rel_files.specs.Relation.{count_of}
+use Rattle.heap_table_check.specs.declared.files.SoundHeap.{SoundHeap}
+use Rattle.heap_table_check.specs.Files.{heap_in}
+use Rattle.heap_rows.specs.Reads.{most_block_reads}
 use Rattle.heap_rows.specs.declared.rows.LiveRow.{LiveRow}
 use Rattle.join_unique.specs.Roots.{is_root_in}
+use Rattle.join_unique.proofs.Reading.{as-many, no-values}
 use Rattle.join_unique.proofs.check.roots_of.Goals as goal
 
-pub add_roots-requires : goal.add_roots-requires
-add_roots-requires g c = record { told = λ names told. let hold = c.requires.hold names told in c.in_ok-cursor.ensures.told names hold.heap hold.quiet }
+pub add_roots-requires-clause-none : goal.add_roots-requires-clause-none
+add_roots-requires-clause-none g c = no-values c.in_ok-cursor.cursor [] c.in_ok-cursor.ensures.asked refl
+
+pub add_roots-requires-clause-told : goal.add_roots-requires-clause-told
+add_roots-requires-clause-told g c = λ names told. let hold = c.requires.hold names told in c.in_ok-cursor.ensures.told names hold.heap hold.quiet
 
 pub returns-clause-roots : goal.returns-clause-roots
 returns-clause-roots g c = λ names told.

@@ -1,8 +1,13 @@
-use Rattle.std.proofs.Common.{◌∙◌, ◌≡◌, ◌≤◌, ◌<◌, List, length, ap, sym, subst, arith}
+use Rattle.std.proofs.Common.{rules, ◌∙◌, ◌≡◌, ◌+◌, ◌*◌, ◌≤◌, ◌<◌, ℕ, List, length, ap, refl, sym, subst, arith}
+use Rattle.outside.proofs.Asking.{AskedAtMost-more, AskedAtMost-then}
+use Rattle.heap_table_check.specs.declared.files.SoundHeap.{SoundHeap}
+use Rattle.heap_rows.specs.declared.row_cursor.RowCursor.{RowCursor}
+use Rattle.heap_rows.specs.Reads.{block_reads, columns_at, page_reads}
+use Rattle.join_unique.proofs.Reading.{page-sum}
 use Rattle.std.proofs.lemmas.Result.{on_ok_weaker}
 use Rattle.rel_files.specs.Relation.{count_of}
 use Rattle.heap_table_check.specs.Files.{heap_in}
-use Rattle.heap_rows.specs.RowCursor.{case_at, next_in, rows_here}
+use Rattle.heap_rows.specs.RowCursor.{case_at, heap_at, next_in, rows_here}
 use Rattle.heap_rows.specs.Rows.{block_rows}
 use Rattle.heap_rows.specs.declared.rows.LiveRow.{LiveRow}
 use Rattle.join_row_keys.proofs.Pages.{block-few}
@@ -40,3 +45,27 @@ returns-clause-met g c =
 
 pub returns-clause-told : goal.returns-clause-told
 returns-clause-told g c = λ names told. c.meet_rows.ensures.told names (c.take_block.ensures.asked.same ∙ told)
+
+-- the block is one of the heap
+inside : (blocks block next : ℕ) (heap now : SoundHeap) → blocks ≡ count_of (heap_in heap) → now ≡ heap → next ≡ block → block < blocks → next < count_of (heap_in now)
+inside blocks block next heap now count same at lt =
+    let whole = ap (λ (h : SoundHeap). count_of (heap_in h)) same in
+    omega (arith, count, whole, at, lt)
+
+pub returns-in_err-take_block-clause-asked : goal.returns-in_err-take_block-clause-asked
+returns-in_err-take_block-clause-asked g c =
+    let blocks = c.blocks-blocks.ensures ∙ ap count_of c.heap.ensures in
+    let at = c.go_to.new.self in
+    let here = inside c.blocks-blocks.result c.block-block.result (next_in at) c.args.self.index.at.heap.now (heap_at at) blocks (c.go_to.ensures.same.heap ∙ c.requires.index.heap) c.go_to.ensures.next (omega (arith, c.if-blocks-block.false)) in
+    let page = page-sum c.args.cursor.now at at (next_in at) c.go_to.ensures.same (record { case = refl; heap = refl; asked = refl }) here in
+    let few : block_reads (heap_at at) (next_in at) ≤ page_reads (heap_at c.args.cursor.now) (columns_at c.args.cursor.now) = omega (arith, page) in
+    let all = AskedAtMost-more few c.in_err-take_block.ensures.asked in
+    search rules
+
+pub returns-clause-asked : goal.returns-clause-asked
+returns-clause-asked g c =
+    let blocks = c.blocks-blocks.ensures ∙ ap count_of c.heap.ensures in
+    let at = c.go_to.new.self in
+    let here = inside c.blocks-blocks.result c.block-block.result (next_in at) c.args.self.index.at.heap.now (heap_at at) blocks (c.go_to.ensures.same.heap ∙ c.requires.index.heap) c.go_to.ensures.next (omega (arith, c.if-blocks-block.false)) in
+    AskedAtMost-more (page-sum c.args.cursor.now at c.take_block.new.self (next_in at) c.go_to.ensures.same c.take_block.ensures.same here)
+    (AskedAtMost-then c.in_ok-take_block.ensures.asked c.meet_rows.ensures.asked)

@@ -1,8 +1,11 @@
 use Rattle.std.proofs.Common.{◌≡◌, ◌∙◌, [], refl, sym, arith}
-use Rattle.outside.proofs.Asking.{Passed-next, Passed-none}
+use Rattle.outside.proofs.Asking.{PassedAtMost-next}
+use Rattle.heap_rows.specs.Reads.{value_reads}
 use Rattle.heap_rows.specs.RowCursor.{rows_here}
 use Rattle.join_row_keys.proofs.Places.{same-index, same-then}
 use Rattle.join_unique.specs.Tables.{table_seen}
+use Rattle.heap_rows.proofs.ReadLaws.{value-same}
+use Rattle.join_unique.proofs.Reading.{as-many, none-read}
 use Rattle.join_unique.proofs.Steps.{after-none, none-left}
 use Rattle.join_unique.proofs.grouping.Grouping.meet_rows.Goals as goal
 
@@ -19,7 +22,7 @@ loop-k-init g c = record {
   met = λ names told. refl;
   few = λ names told. omega arith;
   same = record { case = refl; heap = refl; asked = refl };
-  asked = Passed-none;
+  asked = none-read (value_reads c.args.cursor.now);
 }
 
 pub loop-k-preserved : goal.loop-k-preserved
@@ -35,7 +38,7 @@ loop-k-preserved g c =
           let before = inv.few names told in
           omega arith;
       same = same-then c.args.cursor.now c.loop-k.cursor c.meet_next.new.cursor inv.same next.same;
-      asked = Passed-next inv.asked next.asked;
+      asked = PassedAtMost-next (value_reads c.args.cursor.now) c.loop-k.k inv.asked (as-many (value-same _ _ inv.same) next.asked);
     }
 
 pub returns-in_err-meet_next-clause-told : goal.returns-in_err-meet_next-clause-told

@@ -1,14 +1,20 @@
-use Rattle.std.proofs.Common.{◌≡◌, ◌∙◌, [], List, ℕ, ap, arith, refl, subst, sym}
+use Rattle.std.proofs.Common.{◌≡◌, ◌∙◌, ◌+◌, ◌*◌, ◌≤◌, [], List, ℕ, length, ap, arith, refl, subst, sym, mul-zero}
 use Rattle.std.specs.Prelude.{Option}
 use Rattle.outside.proofs.Asking.{Passed-next, Passed-none}
 use Rattle.laws_search.specs.Keys.{Entry}
 use Rattle.key_orders.specs.declared.columns.Value.{Value}
 use Rattle.key_orders.specs.declared.Tid.{Tid}
+use Rattle.bt_levels.specs.Sound.{block_count}
 use Rattle.bt_search.specs.Spots.{rest_at}
 use Rattle.bt_search.proofs.Arriving.{nowhere-rest}
+use Rattle.heap_rows.specs.Reads.{columns_at, page_reads}
+use Rattle.heap_rows.specs.RowCursor.{heap_at}
 use Rattle.join_row_keys.proofs.Places.{same-index, same-then}
 use Rattle.join_unique.specs.Groups.{entries_met}
 use Rattle.join_unique.specs.Tables.{TakesLeaf, table_seen}
+use Rattle.join_unique.specs.Reads.{AreTaken, yielded}
+use Rattle.heap_rows.proofs.ReadLaws.{page-same}
+use Rattle.join_unique.proofs.Reading.{walk-most, walk-twice, yields-all}
 use Rattle.join_unique.proofs.grouping.Grouping.walk.Goals as goal
 
 pub loop-spot-init : goal.loop-spot-init
@@ -26,6 +32,9 @@ loop-spot-init g c =
       met = λ names told. refl;
       same = record { case = refl; heap = refl; asked = refl };
       asked = Passed-next Passed-none c.in_ok-spot.ensures.asked;
+      reads = λ names told.
+          let zero = mul-zero (page_reads (heap_at c.args.cursor.now) (columns_at c.args.cursor.now)) in
+          (0, omega arith, omega (arith, zero, c.descend.ensures.asked.most));
     }
 
 pub take_leaf-requires-clause-told : goal.take_leaf-requires-clause-told
@@ -83,6 +92,15 @@ loop-spot-preserved g c =
           ∙ (took.met ∙ inv.met names told);
       same = same-then c.args.cursor.now c.loop-spot.cursor c.take_leaf.new.cursor inv.same c.take_leaf.ensures.same;
       asked = Passed-next (Passed-next inv.asked c.in_ok-take_leaf.ensures.asked) came.asked;
+      reads = λ names told.
+          let at = inv.asked.same ∙ told in
+          let before = inv.reads names told in
+          let took = c.in_ok-take_leaf.ensures.taken names at in
+          let taken = subst (λ (o : Option ℕ). AreTaken names c.args.self c.loop-spot.spot o took.0) c.in-Some.is took.1 in
+          let went = ap length (came.goes names (c.take_leaf.ensures.asked.same ∙ at)).rest in
+          let pages = ap (λ (p : ℕ). p * (2 * took.0)) (page-same c.args.cursor.now c.loop-spot.cursor inv.same) in
+          let next = walk-twice (page_reads (heap_at c.args.cursor.now) (columns_at c.args.cursor.now)) before.0 took.0 in
+          (before.0 + took.0, omega (arith, before.1, taken, went), omega (arith, before.2, took.2, pages, next, came.asked.most, c.arrive.ensures.onward));
     }
 
 pub returns-in-None-clause-met : goal.returns-in-None-clause-met
@@ -117,3 +135,65 @@ returns-in_err-spot-in-Some-clause-told g c = λ names told. c.take_leaf.ensures
 
 pub returns-in-None-clause-told : goal.returns-in-None-clause-told
 returns-in-None-clause-told g c = λ names told. c.take_leaf.ensures.told names (c.loop-spot.invariant.asked.same ∙ told)
+
+-- How often files are read
+
+pub returns-in_err-spot-clause-reads : goal.returns-in_err-spot-clause-reads
+returns-in_err-spot-clause-reads g c = λ names told. omega (arith, c.descend.ensures.limit, c.descend.ensures.asked.most)
+
+pub returns-in_err-take_leaf-clause-reads : goal.returns-in_err-take_leaf-clause-reads
+returns-in_err-take_leaf-clause-reads g c = λ names told.
+    let inv = c.loop-spot.invariant in
+    let tree = c.args.self.index.at.tree.now in
+    let scan = c.args.self.scan.now in
+    let before = inv.reads names told in
+    let left = length (rest_at names tree scan c.loop-spot.spot) in
+    let took = c.take_leaf.ensures.reads names (inv.asked.same ∙ told) in
+    let pages = ap (λ (p : ℕ). p * (2 * left)) (page-same c.args.cursor.now c.loop-spot.cursor inv.same) in
+    let all = ap length (yields-all names tree scan _ (c.in_ok-spot.ensures.answer names told)) in
+    let limit = c.blocks-2.ensures in
+    let most = walk-most c.loop-spot.visits.count (block_count tree) (page_reads (heap_at c.args.cursor.now) (columns_at c.args.cursor.now)) before.0 left (yielded names tree scan)
+    (omega (arith, inv.limit, limit, c.from-limit.ensures)) (omega (arith, before.1, all)) in
+    omega (arith, before.2, took, pages, most)
+
+pub returns-in-None-clause-reads : goal.returns-in-None-clause-reads
+returns-in-None-clause-reads g c = λ names told.
+    let inv = c.loop-spot.invariant in
+    let tree = c.args.self.index.at.tree.now in
+    let scan = c.args.self.scan.now in
+    let before = inv.reads names told in
+    let left = length (rest_at names tree scan c.loop-spot.spot) in
+    let took = c.take_leaf.ensures.reads names (inv.asked.same ∙ told) in
+    let pages = ap (λ (p : ℕ). p * (2 * left)) (page-same c.args.cursor.now c.loop-spot.cursor inv.same) in
+    let all = ap length (yields-all names tree scan _ (c.in_ok-spot.ensures.answer names told)) in
+    let limit = c.blocks-2.ensures in
+    let most = walk-most c.loop-spot.visits.count (block_count tree) (page_reads (heap_at c.args.cursor.now) (columns_at c.args.cursor.now)) before.0 left (yielded names tree scan)
+    (omega (arith, inv.limit, limit, c.from-limit.ensures)) (omega (arith, before.1, all)) in
+    omega (arith, before.2, took, pages, most)
+
+pub returns-in_err-spot-in-Some-clause-reads : goal.returns-in_err-spot-in-Some-clause-reads
+returns-in_err-spot-in-Some-clause-reads g c = λ names told.
+    let inv = c.loop-spot.invariant in
+    let tree = c.args.self.index.at.tree.now in
+    let scan = c.args.self.scan.now in
+    let before = inv.reads names told in
+    let took = c.in_ok-take_leaf.ensures.taken names (inv.asked.same ∙ told) in
+    let taken = subst (λ (o : Option ℕ). AreTaken names c.args.self c.loop-spot.spot o took.0) c.in-Some.is took.1 in
+    let pages = ap (λ (p : ℕ). p * (2 * took.0)) (page-same c.args.cursor.now c.loop-spot.cursor inv.same) in
+    let all = ap length (yields-all names tree scan _ (c.in_ok-spot.ensures.answer names told)) in
+    let limit = c.blocks-2.ensures in
+    let most = walk-most c.arrive.new.visits.count (block_count tree) (page_reads (heap_at c.args.cursor.now) (columns_at c.args.cursor.now)) before.0 took.0 (yielded names tree scan)
+    (omega (arith, c.arrive.ensures.limit, limit, c.from-limit.ensures)) (omega (arith, before.1, taken, all)) in
+    omega (arith, before.2, took.2, pages, most, c.arrive.ensures.asked.most, c.arrive.ensures.onward)
+
+pub returns-clause-reads : goal.returns-clause-reads
+returns-clause-reads g c = λ names told.
+    let inv = c.loop-spot.invariant in
+    let tree = c.args.self.index.at.tree.now in
+    let scan = c.args.self.scan.now in
+    let before = inv.reads names told in
+    let all = ap length (yields-all names tree scan _ (c.in_ok-spot.ensures.answer names told)) in
+    let limit = c.blocks-2.ensures in
+    let most = walk-most c.loop-spot.visits.count (block_count tree) (page_reads (heap_at c.args.cursor.now) (columns_at c.args.cursor.now)) before.0 0 (yielded names tree scan)
+    (omega (arith, inv.limit, limit, c.from-limit.ensures)) (omega (arith, before.1, all)) in
+    omega (arith, before.2, most)
