@@ -1,30 +1,17 @@
 -- The roots of the live rows of a heap in which nothing was found may be taken, one after another.
-use Rattle.std.proofs.Common.{◌≡◌, ◌≢◌, ◌∙◌, ◌<◌, ◌≤◌, ◌-◌, ℕ, zero, suc, Bool, true, List, [], ◌∷◌, get_or, length, sym, ap, subst, arith, inl, inr}
-use Rattle.std.specs.Prelude.{Contains, not, ◌==◌, nat_lt, if◌then◌else◌}
-use Rattle.std.proofs.lemmas.Bool.{and_from, cases_eq, false≢true, lt-ltb, ne_eqb, not_from_false}
-use Rattle.std.proofs.lemmas.List.Elements.{All-contains, Contains-get_or}
+use Rattle.std.proofs.Common.{◌≡◌, ◌<◌, ◌≤◌, ℕ, true, get_or, length, sym, ap, arith}
+use Rattle.std.specs.Prelude.{Contains, not, nat_lt}
+use Rattle.std.proofs.lemmas.Bool.{and_from, lt-ltb, not_from_false}
+use Rattle.std.proofs.lemmas.List.Elements.{Contains-get_or}
 use Rattle.outside.specs.Outside.{Names}
-use Rattle.page_layout.specs.Items.{is_normal}
 use Rattle.page_layout.specs.Page.{count_of}
 use Rattle.key_orders.specs.declared.Tid.{Tid}
 use Rattle.case_file.specs.Record.{CaseRecord}
-use Rattle.liveness.specs.declared.states.ItemState.{ItemState}
-use Rattle.liveness.specs.declared.states.ItemState.TheVariants.{Unused}
-use Rattle.hot_chains.specs.Chains.{Reaches, is_live, is_live_tuple, is_root, item_at}
-use Rattle.hot_chains.specs.Quiet.{IsLiveItem}
-use Rattle.hot_chains.proofs.Law.{one_live}
-use Rattle.heap_page_check.specs.declared.verdict.ItemVerdict.TheVariants.{Passes}
-use Rattle.heap_page_check.specs.Broken.{HoldsLiveTuple}
-use Rattle.heap_page_check.specs.States.{IsStateOf, dead, redirect, tuple as of_tuple, unused}
-use Rattle.heap_page_check.specs.Table.{Table}
-use Rattle.heap_page_check.specs.Verdicts.{item_verdict}
-use Rattle.heap_page_check.proofs.ItemLaws.{live_passes}
-use Rattle.heap_page_check.proofs.PageLaws.{each_passes}
-use Rattle.heap_page_check.proofs.StateLaws.{EachPasses, passes_there, states_are_there}
+use Rattle.heap_page_check.proofs.StateLaws.{states_are_there}
 use Rattle.heap_table_check.specs.Case.{heap_blocks, table_of}
 use Rattle.heap_table_check.specs.Found.{IsQuiet}
 use Rattle.heap_rows.specs.declared.rows.LiveRow.{LiveRow}
-use Rattle.heap_rows.specs.RowLaws.{AreLiveTuples, IsBefore, IsLiveAt, IsWholeRow, in_lower_block, in_same_block, states_at}
+use Rattle.heap_rows.specs.RowLaws.{AreLiveTuples, IsBefore, in_lower_block, in_same_block, states_at}
 use Rattle.heap_rows.specs.Rows.{heap_page, rows_of}
 use Rattle.heap_rows.proofs.QuietHeap.{page_passes}
 use Rattle.join_row_keys.proofs.HeapRoots.{each-of, of-row, root-inside, roots-apart}
