@@ -1,7 +1,7 @@
 -- How often files are read: a cursor of the same heap reads as often, and calls one after another.
 use Rattle.std.proofs.lemmas.Grind.{common_steps}
-use Rattle.std.proofs.Common.{◌≡◌, ◌∙◌, ◌+◌, ◌*◌, ◌≤◌, ◌<◌, ℕ, List, [], length, refl, sym, subst, ap, ◌-◌, arith, add-zero, zero-add, mul-zero, mul-one, mul-add, mul_assoc, mul-le-mul_left}
-use Rattle.std.specs.Prelude.{Option, Some, None, Result, Ok, Err, IsErrOf}
+use Rattle.std.proofs.Common.{◌≡◌, ◌∙◌, ◌+◌, ◌*◌, ◌≤◌, ◌<◌, ℕ, List, [], length, sym, subst, ap, ◌-◌, arith, add-zero, zero-add, mul-zero, mul-one, mul-add, mul_assoc, mul-le-mul_left}
+use Rattle.std.specs.Prelude.{Option, Some, Result, Ok, IsErrOf}
 use Rattle.outside.specs.Outside.{AskedWithin, Names, Rose, Seen, failed}
 use Rattle.outside.specs.declared.files.Failed.{Failed}
 use Rattle.laws_search.specs.Keys.{Entry}

@@ -133,7 +133,8 @@ fn group_rows<F: Files>(
     requires hold { IfTold F.seen files.old (λ names. HoldTogether names at.case.now at.heap.now at.tree.now) }
     ensures done { Tells F.seen files.old result (λ group names. IsDone names at.entry unique roots.now group) }
     ensures asked { Asked F.seen files.old files.new result PageFault.ReadFault }
-    ensures reads { IfTold F.seen files.old (λ names. ReadAtMost (group_reads names at.entry) F.seen files.old files.new) }
+    ensures reads { IfTold F.seen files.old (λ names.
+        ReadAtMost (group_reads names at.entry) F.seen files.old files.new) }
 {
     at.case.sound();
     let columns = columns_of(alloc, &at.tree.columns())?;
@@ -182,7 +183,8 @@ fn later_rows<F: Files>(
     ensures few { Tells F.seen files.old result (λ later names. AreFewLooks names at.entry later.looks) }
     ensures looks { Tells F.seen files.old result (λ later names. AreLooks names at.entry unique later.looks) }
     ensures asked { Asked F.seen files.old files.new result PageFault.ReadFault }
-    ensures reads { IfTold F.seen files.old (λ names. ReadAtMost (duplicate_reads names at.entry) F.seen files.old files.new) }
+    ensures reads { IfTold F.seen files.old (λ names.
+        ReadAtMost (duplicate_reads names at.entry) F.seen files.old files.new) }
 {
     rows_are_live_tuples();
     key_orders_are_total();
@@ -204,6 +206,7 @@ fn later_rows<F: Files>(
 ///
 /// The heap is read once for the roots of its rows, and the leaves of the index once along their chain. Of the entries
 /// that have one key and may be of a row, where they are more than one, each block that they name is read once more.
+/// In all there are at most as many reads as `duplicate_reads` says.
 /// The answer is how many times the rows of a block were gone over so: at most once for each unkilled entry of the
 /// index, and 0 where nothing is read.
 ///
@@ -229,10 +232,12 @@ pub fn check_duplicates<F: Files>(
         → AreLooks names at.entry (unique_of at.entry.case.now (number_of (file_of at.entry.tree.now))) looks) }
     ensures none { IfOk result (λ looks. apart ≡ true
         ⊎ is_asked (unique_of at.entry.case.now (number_of (file_of at.entry.tree.now))) ≡ false → looks ≡ 0) }
-    ensures unread { apart ≡ true ⊎ is_asked (unique_of at.entry.case.now (number_of (file_of at.entry.tree.now))) ≡ false
+    ensures unread { apart ≡ true
+        ⊎ is_asked (unique_of at.entry.case.now (number_of (file_of at.entry.tree.now))) ≡ false
         → AskedAtMost 0 F.seen files.old files.new result PageFault.ReadFault }
     ensures asked { Asked F.seen files.old files.new result PageFault.ReadFault }
-    ensures reads { IfTold F.seen files.old (λ names. ReadAtMost (duplicate_reads names at.entry) F.seen files.old files.new) }
+    ensures reads { IfTold F.seen files.old (λ names.
+        ReadAtMost (duplicate_reads names at.entry) F.seen files.old files.new) }
 {
     searches_go_in_steps();
     if apart {

@@ -108,7 +108,8 @@ impl Grouping<'_> {
             group.new ≡ group_after (table_seen names self.entry) group.old (rows_here names cursor.old))) }
         ensures told { IfTold F.seen files.old (λ names. IsCursorOf names cursor.new) }
         ensures same { IsSameCursor cursor.old cursor.new }
-        ensures asked { AskedAtMost (value_reads cursor.old * 2042) F.seen files.old files.new result PageFault.ReadFault }
+        ensures asked { AskedAtMost (value_reads cursor.old * 2042) F.seen files.old files.new result
+            PageFault.ReadFault }
     {
         for k in 0..MAX_ITEMS {
             if !self.meet_next(files, cursor, group)? {
@@ -270,7 +271,8 @@ impl Grouping<'_> {
         ensures told { IfTold F.seen files.old (λ names. IsCursorOf names cursor.new) }
         ensures same { IsSameCursor cursor.old cursor.new }
         ensures asked { Asked F.seen files.old files.new result PageFault.ReadFault }
-        ensures reads { IfTold F.seen files.old (λ names. ReadAtMost (page_reads (heap_at cursor.old) (columns_at cursor.old)
+        ensures reads { IfTold F.seen files.old (λ names. ReadAtMost
+            (page_reads (heap_at cursor.old) (columns_at cursor.old)
             * (2 * length (rest_at names self.entry.index.at.tree.now self.entry.scan.now spot.old))) F.seen files.old
             files.new) }
         ensures taken { Tells F.seen files.old result (λ next names. (n : Count)

@@ -1,4 +1,4 @@
-use Rattle.std.proofs.Common.{◌∙◌, ◌<◌, ◌≡◌, ◌+◌, ◌*◌, ℕ, List, ap, arith, length, sym, subst}
+use Rattle.std.proofs.Common.{◌∙◌, ◌<◌, ◌≡◌, ℕ, List, ap, arith, length, sym, subst}
 use Rattle.std.specs.Prelude.{All}
 use Rattle.bt_levels.specs.Files.{number_of}
 use Rattle.bt_levels.specs.Sound.{block_count, file_of, index_columns}

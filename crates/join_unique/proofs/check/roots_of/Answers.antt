@@ -1,12 +1,8 @@
-use Rattle.std.proofs.Common.{◌∙◌, List, [], ap, refl, subst}
-use Rattle.std.specs.Prelude.{All, true, ◌≡◌, ◌+◌, ◌*◌}
-use Rattle.rel_files.specs.Relation.{count_of}
-use Rattle.heap_table_check.specs.declared.files.SoundHeap.{SoundHeap}
-use Rattle.heap_table_check.specs.Files.{heap_in}
-use Rattle.heap_rows.specs.Reads.{most_block_reads}
+use Rattle.std.proofs.Common.{List, [], refl, subst}
+use Rattle.std.specs.Prelude.{All, true, ◌≡◌}
 use Rattle.heap_rows.specs.declared.rows.LiveRow.{LiveRow}
 use Rattle.join_unique.specs.Roots.{is_root_in}
-use Rattle.join_unique.proofs.Reading.{as-many, no-values}
+use Rattle.join_unique.proofs.Reading.{no-values}
 use Rattle.join_unique.proofs.check.roots_of.Goals as goal
 
 pub add_roots-requires-clause-none : goal.add_roots-requires-clause-none

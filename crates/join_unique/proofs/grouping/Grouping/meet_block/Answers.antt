@@ -1,7 +1,6 @@
-use Rattle.std.proofs.Common.{rules, ◌∙◌, ◌≡◌, ◌+◌, ◌*◌, ◌≤◌, ◌<◌, ℕ, List, length, ap, refl, sym, subst, arith}
+use Rattle.std.proofs.Common.{rules, ◌∙◌, ◌≡◌, ◌≤◌, ◌<◌, ℕ, List, length, ap, refl, sym, subst, arith}
 use Rattle.outside.proofs.Asking.{AskedAtMost-more, AskedAtMost-then}
 use Rattle.heap_table_check.specs.declared.files.SoundHeap.{SoundHeap}
-use Rattle.heap_rows.specs.declared.row_cursor.RowCursor.{RowCursor}
 use Rattle.heap_rows.specs.Reads.{block_reads, columns_at, page_reads}
 use Rattle.join_unique.proofs.Reading.{page-sum}
 use Rattle.std.proofs.lemmas.Result.{on_ok_weaker}

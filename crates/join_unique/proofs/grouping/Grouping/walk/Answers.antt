@@ -1,4 +1,4 @@
-use Rattle.std.proofs.Common.{◌≡◌, ◌∙◌, ◌+◌, ◌*◌, ◌≤◌, [], List, ℕ, length, ap, arith, refl, subst, sym, mul-zero}
+use Rattle.std.proofs.Common.{◌≡◌, ◌∙◌, ◌+◌, ◌*◌, [], List, ℕ, length, ap, arith, refl, subst, sym, mul-zero}
 use Rattle.std.specs.Prelude.{Option}
 use Rattle.outside.proofs.Asking.{Passed-next, Passed-none}
 use Rattle.laws_search.specs.Keys.{Entry}
