@@ -6,4 +6,6 @@ pub mod KeptLaws
 pub mod MetLaws
 pub mod Places
 mod RootLaws
+mod Rounds
 mod Taken
+mod WorkLaws

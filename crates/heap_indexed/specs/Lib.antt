@@ -1,1 +1,3 @@
 pub mod Meetings
+pub mod Reads
+pub mod Works

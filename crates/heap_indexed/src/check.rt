@@ -1,13 +1,16 @@
 //! The check of a heap against an index of it by look-ups.
 ghost use Rattle.std.specs.Prelude.{◌≡◌, ◌↔◌, OnOk, length, true};
 ghost use Rattle.outside.specs.Adds.{AddsIn};
-ghost use Rattle.outside.specs.Outside.{Asked, IfTold, Tells};
+ghost use Rattle.outside.specs.Outside.{Asked, AskedAtMost, IfTold, Tells};
 ghost use Rattle.reports.specs.Added.{report_lists};
 ghost use Rattle.bt_levels.specs.Files.{number_of};
-ghost use Rattle.bt_levels.specs.Sound.{file_of};
+ghost use Rattle.bt_levels.specs.Sound.{block_count, file_of};
+ghost use Rattle.heap_rows.specs.Reads.{ReadAtMost};
 ghost use Rattle.join_distinct.specs.Apart.{AreApart};
 ghost use Rattle.join_rules.specs.Lists.{entries_lists, indexed_lists, joined_lists};
 ghost use Rattle.join_row_keys.specs.Joined.{BelongTogether, HoldTogether};
+ghost use Rattle.join_unique.specs.Reads.{duplicate_reads};
+ghost use Rattle.heap_indexed.specs.Reads.{looking_reads};
 
 use heap_targets::set_tells_of_pages;
 use join_leaf_pass::{Leaves, Spans};
@@ -32,7 +35,8 @@ fn check_strays<F: Files>(
     requires hold { IfTold F.seen files.old (λ names. HoldTogether names at.case.now at.heap.now at.tree.now) }
     ensures lists { IfTold F.seen files.old (λ names. AddsIn report_lists result report.old report.new
         (entries_lists at.entry.case.now names (number_of (file_of at.entry.tree.now)))) }
-    ensures asked { Asked F.seen files.old files.new result PageFault.ReadFault }
+    ensures asked { AskedAtMost (block_count at.entry.tree.now) F.seen files.old files.new result
+        PageFault.ReadFault }
 {
     set_tells_of_pages();
     let mut slots = RowSlots::new(alloc, 0)?;
@@ -71,6 +75,8 @@ pub(crate) fn add_duplicates<F: Files>(
     ensures lists { IfTold F.seen files.old (λ names. OnOk result (report.new
         ≡ indexed_lists at.entry.case.now names (number_of (file_of at.entry.tree.now)))) }
     ensures asked { Asked F.seen files.old files.new result PageFault.ReadFault }
+    ensures reads { IfTold F.seen files.old (λ names. ReadAtMost
+        (duplicate_reads names at.entry.heap.now at.entry.tree.now) F.seen files.old files.new) }
 {
     heaps_and_indexes_are_judged();
     if !is_empty(report) {
@@ -92,6 +98,8 @@ pub(crate) fn index_report<F: Files>(
     ensures report { Tells F.seen files.old result (λ report names.
         report ≡ indexed_lists at.entry.case.now names (number_of (file_of at.entry.tree.now))) }
     ensures asked { Asked F.seen files.old files.new result PageFault.ReadFault }
+    ensures reads { IfTold F.seen files.old (λ names. ReadAtMost
+        (looking_reads names at.entry.case.now at.entry.heap.now at.entry.tree.now) F.seen files.old files.new) }
 {
     let mut look_ups = LookUps::new(alloc)?;
     let mut report = Report::new(alloc);
@@ -119,6 +127,8 @@ pub fn check_indexed<F: Files>(
     ensures lists { IfTold F.seen files.old (λ names. AddsIn report_lists result report.old report.new
         (indexed_lists at.entry.case.now names (number_of (file_of at.entry.tree.now)))) }
     ensures asked { Asked F.seen files.old files.new result PageFault.ReadFault }
+    ensures reads { IfTold F.seen files.old (λ names. ReadAtMost
+        (looking_reads names at.entry.case.now at.entry.heap.now at.entry.tree.now) F.seen files.old files.new) }
 {
     let own = index_report(alloc, files, at)?;
     report.append(own)?;

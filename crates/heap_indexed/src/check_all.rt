@@ -1,27 +1,30 @@
 //! The check of a heap against all its indexes.
-ghost use Rattle.std.specs.Prelude.{◌≡◌, ◌+◌, ◌*◌, ◌≤◌, ◌++◌, ◌∷◌, [], IfOk, List, OnOk, length, map};
+ghost use Rattle.std.specs.Prelude.{◌≡◌, ◌+◌, ◌*◌, ◌≤◌, ◌++◌, ◌∷◌, [], All, IfOk, OnOk, length, map, sum_by};
 ghost use Rattle.outside.specs.Outside.{Asked, IfTold, Names, Tells};
 ghost use Rattle.rel_files.specs.Relation.{count_of};
-ghost use Rattle.reports.specs.Added.{joined, nothing};
+ghost use Rattle.reports.specs.Added.{nothing};
 ghost use Rattle.key_attrs.specs.Columns.{tree_columns};
 ghost use Rattle.bt_levels.specs.Files.{number_of};
 ghost use Rattle.bt_levels.specs.Sound.{file_of};
 ghost use Rattle.heap_table_check.specs.Files.{heap_in};
+ghost use Rattle.heap_rows.specs.Reads.{ReadAtMost, page_reads};
 ghost use Rattle.heap_rows.specs.RowCursor.{AreAsked, asked_at};
 ghost use Rattle.heap_rows.specs.declared.row_cursor.RowCursor.{RowCursor as Cursor};
-ghost use Rattle.join_rules.specs.Lists.{indexed_lists, joined_lists};
-ghost use Rattle.join_row_keys.specs.Joined.{BelongTogether, HoldTogether};
-ghost use Rattle.heap_indexed.specs.Meetings.{AreApartWhere, AreFirsts, AreInWork, BelongToIt, HoldIt};
-ghost use Rattle.heap_indexed.specs.Meetings.{columns_of_all};
+ghost use Rattle.join_rules.specs.Lists.{indexed_lists};
+ghost use Rattle.heap_indexed.specs.Meetings.{BelongToIt, HoldIt, columns_of_all};
+ghost use Rattle.heap_indexed.specs.Reads.{indexes_reads, looking_reads, meeting_reads, rounds_reads};
+ghost use Rattle.heap_indexed.specs.Works.{AreAskedEach, AreInWork, AreWorksOf, BelongEach, HoldEach, IsMet};
+ghost use Rattle.heap_indexed.specs.Works.{indexes_of, lists_of, tree_of};
+ghost use Rattle.join_unique.specs.Reads.{duplicate_reads};
 ghost use Rattle.join_row_keys.specs.Rows.{columns_in};
 
-use crate::check::{add_duplicates, index_report};
-use crate::meeting::Meeting;
-use crate::ranges::Ranges;
+use crate::check::index_report;
+use crate::ranges::judge_all;
+use crate::work::IndexWork;
 use bt_levels::SoundTree;
 use heap_rows::RowCursor;
 use heap_targets::set_tells_of_pages;
-use join_row_keys::{IndexedHeap, IndexedTable, columns_of};
+use join_row_keys::{IndexedHeap, IndexedTable, KeyedHeap, columns_of};
 use key_attrs::IndexColumns;
 use outside::{Files, NoMemory};
 use rel_files::PageFault;
@@ -64,32 +67,28 @@ fn next_first(first: usize, columns: &IndexColumns<'_>) -> Result<usize, NoMemor
     behind_key.checked_add(columns.more.len()).ok_or(NoMemory)
 }
 
-// Where the columns of each index begin among those of all.
-fn firsts_of(alloc: Global, trees: &[SoundTree]) -> Result<Vec<usize>, NoMemory>
-    ensures { IfOk result (λ firsts. (cursor : Cursor) → AreAsked (columns_of_all trees.now) (asked_at cursor)
-        → AreFirsts firsts.items trees.now cursor) }
+// What is in work for each index before the first row.
+fn new_works<'a>(alloc: Global, at: IndexedTable<'a>) -> Result<Vec<IndexWork<'a>>, NoMemory>
+    ensures works { IfOk result (λ works. AreWorksOf at.entry works.items) }
+    ensures asked { IfOk result (λ works. (cursor : Cursor)
+        → AreAsked (columns_of_all at.entry.trees.now) (asked_at cursor) → AreAskedEach cursor works.items) }
+    ensures work { IfOk result (λ works. (names : Names)
+        → AreInWork names (λ tree. nothing) (λ tree. nothing) [] works.items) }
 {
-    let mut firsts = Vec::new(alloc);
+    let IndexedTable { case, heap, trees } = at;
+    let mut works = Vec::new(alloc);
     let mut first = 0;
     for j in 0..trees.len() {
-        firsts.push(first)?;
-        first = next_first(first, &trees[j].columns())?;
+        let tree = &trees[j];
+        let index = KeyedHeap {
+            at: IndexedHeap { case, heap, tree },
+            first,
+        };
+        let work = IndexWork::new(alloc, index)?;
+        works.push(work)?;
+        first = next_first(first, &tree.columns())?;
     }
-    Ok(firsts)
-}
-
-// What is in work for each index before the first row.
-fn new_meetings(alloc: Global, trees: &[SoundTree]) -> Result<Vec<Meeting>, NoMemory>
-    ensures count { IfOk result (λ meetings. length meetings.items ≡ length trees.now) }
-    ensures work { IfOk result (λ meetings. (names : Names)
-        → AreInWork names (λ tree. nothing) (λ tree. nothing) [] trees.now meetings.items) }
-{
-    let mut meetings = Vec::new(alloc);
-    for j in 0..trees.len() {
-        let meeting = Meeting::new(alloc)?;
-        meetings.push(meeting)?;
-    }
-    Ok(meetings)
+    Ok(works)
 }
 
 // Puts a report behind others.
@@ -100,37 +99,28 @@ fn push_report(reports: &mut VecDeque<Report>, report: Report) -> Result<(), NoM
     Ok(())
 }
 
-// What was found for each index.
-fn reports_of(alloc: Global, meetings: Vec<Meeting>) -> Result<VecDeque<Report>, NoMemory>
-    ensures { IfOk result (λ reports. reports.items ≡ map (λ m. joined m.rows m.entries) meetings.items) }
+// The report on each index, after its rows and entries were judged.
+fn reports_of<F: Files>(
+    alloc: Global,
+    files: &mut F,
+    works: Vec<IndexWork<'_>>,
+) -> Result<VecDeque<Report>, PageFault>
+    requires belong { BelongEach works.items }
+    requires hold { IfTold F.seen files.old (λ names. HoldEach names works.items) }
+    requires met { IfTold F.seen files.old (λ names. All (IsMet names) works.items) }
+    ensures reports { Tells F.seen files.old result (λ reports names. reports.items
+        ≡ map (lists_of names) works.entry.items) }
+    ensures asked { Asked F.seen files.old files.new result PageFault.ReadFault }
+    ensures reads { IfTold F.seen files.old (λ names. ReadAtMost
+        (sum_by (λ work. duplicate_reads names work.index.at.heap.now (tree_of work)) works.entry.items) F.seen
+        files.old files.new) }
 {
     let mut reports = VecDeque::new(alloc);
-    for meeting in meetings {
-        let report = meeting.report()?;
+    for work in works {
+        let report = work.report(alloc, files)?;
         push_report(&mut reports, report)?;
     }
     Ok(reports)
-}
-
-// Whether it is known of each index that no two of its entries have the same values.
-fn aparts_of(alloc: Global, meetings: &[Meeting]) -> Result<Vec<bool>, NoMemory>
-    ensures are { IfOk result (λ aparts. aparts.items ≡ map (λ m. m.apart) meetings.now) }
-    ensures count { IfOk result (λ aparts. length aparts.items ≡ length meetings.now) }
-{
-    let mut aparts = Vec::new(alloc);
-    for j in 0..meetings.len() {
-        aparts.push(meetings[j].apart)?;
-    }
-    Ok(aparts)
-}
-
-// What is found of the rows and the entries of indexes, a report for each, of which of them it is known that no two
-// entries have the same values, and how many times a block of the heap was taken in hand.
-#[derive(Drop)]
-struct Met {
-    reports: VecDeque<Report>,
-    aparts: Vec<bool>,
-    blocks: u64,
 }
 
 /// What is found of a heap together with indexes of it, by entries that meet rows.
@@ -142,73 +132,38 @@ pub struct IndexesMet {
     pub blocks: u64,
 }
 
-// What is found of the rows and the entries of each index (X1, U6, X2), told by entries that meet rows.
-fn meet_all<F: Files>(alloc: Global, files: &mut F, at: IndexedTable<'_>) -> Result<Met, PageFault>
-    requires belong { BelongToIt at }
-    requires hold { IfTold F.seen files.old (λ names. HoldIt names at) }
-    ensures reports { Tells F.seen files.old result (λ met names. met.reports.items
-        ≡ map (λ tree. joined_lists at.entry.case.now names (number_of (file_of tree))) at.entry.trees.now) }
-    ensures count { IfOk result (λ met. length met.reports.items ≡ length at.entry.trees.now) }
-    ensures aparts { Tells F.seen files.old result (λ met names.
-        AreApartWhere names at.entry.trees.now met.aparts.items) }
-    ensures aparts_count { IfOk result (λ met. length met.aparts.items ≡ length at.entry.trees.now) }
-    ensures blocks { IfOk result (λ met. met.blocks
-        ≤ count_of (heap_in at.entry.heap.now) * (1 + length at.entry.trees.now)) }
-    ensures asked { Asked F.seen files.old files.new result PageFault.ReadFault }
-{
-    set_tells_of_pages();
-    at.case.sound();
-    let mut meetings = new_meetings(alloc, at.trees)?;
-    let firsts = firsts_of(alloc, at.trees)?;
-    let columns = columns_of_all(alloc, at.trees)?;
-    let mut cursor = RowCursor::new(alloc, at.case, at.heap, &columns)?;
-    let ranges = Ranges {
-        at,
-        firsts: &firsts,
-    };
-    ranges.judge_all(files, &mut meetings, &mut cursor)?;
-    let blocks = cursor.taken();
-    let aparts = aparts_of(alloc, &meetings)?;
-    let reports = reports_of(alloc, meetings)?;
-    Ok(Met {
-        reports,
-        aparts,
-        blocks,
-    })
-}
-
-// Adds to the report on each index, where nothing is in it, the rows whose keys earlier rows have (X3). Of some indexes
-// it is known that no two entries have the same values.
-fn judge_keys<F: Files>(
+// What is found of the rows and the entries of each index (X1, U6, X2), told by entries that meet rows; how many times
+// a block of the heap was taken in hand.
+fn meet_all<F: Files>(
     alloc: Global,
     files: &mut F,
     at: IndexedTable<'_>,
-    joined: VecDeque<Report>,
-    aparts: &[bool],
-) -> Result<VecDeque<Report>, PageFault>
+    works: &mut [IndexWork<'_>],
+) -> Result<u64, PageFault>
     requires belong { BelongToIt at }
     requires hold { IfTold F.seen files.old (λ names. HoldIt names at) }
-    requires count { length joined.items ≡ length at.trees.now }
-    requires joined { IfTold F.seen files.old (λ names. joined.items
-        ≡ map (λ tree. joined_lists at.case.now names (number_of (file_of tree))) at.trees.now) }
-    requires aparts_count { length aparts.now ≡ length at.trees.now }
-    requires aparts { IfTold F.seen files.old (λ names. AreApartWhere names at.trees.now aparts.now) }
-    ensures reports { Tells F.seen files.old result (λ reports names. reports.items
-        ≡ map (λ tree. indexed_lists at.entry.case.now names (number_of (file_of tree))) at.entry.trees.now) }
+    requires works { AreWorksOf at works.old }
+    requires asks { (cursor : Cursor) → AreAsked (columns_of_all at.trees.now) (asked_at cursor)
+        → AreAskedEach cursor works.old }
+    requires work { (names : Names) → AreInWork names (λ tree. nothing) (λ tree. nothing) [] works.old }
+    ensures met { IfTold F.seen files.old (λ names. OnOk result (All (IsMet names) works.new)) }
+    ensures indexes { OnOk result (indexes_of works.new ≡ indexes_of works.old) }
+    ensures blocks { IfOk result (λ blocks. blocks
+        ≤ count_of (heap_in at.entry.heap.now) * (1 + length at.entry.trees.now)) }
     ensures asked { Asked F.seen files.old files.new result PageFault.ReadFault }
+    ensures reads { IfTold F.seen files.old (λ names. ReadAtMost (page_reads at.entry.heap.now
+        (length (columns_of_all at.entry.trees.now)) * count_of (heap_in at.entry.heap.now)
+        + sum_by (rounds_reads names at.entry.case.now at.entry.heap.now (length (columns_of_all at.entry.trees.now))
+        (count_of (heap_in at.entry.heap.now) + 1) 0 (count_of (heap_in at.entry.heap.now))) at.entry.trees.now) F.seen
+        files.old files.new) }
 {
-    let IndexedTable { case, heap, trees } = at;
-    let mut joined = joined;
-    let mut reports = VecDeque::new(alloc);
-    while let Some(found) = joined.pop_front() {
-        let mut report = found;
-        let tree = &trees[reports.len()];
-        let apart = aparts[reports.len()];
-        let index = IndexedHeap { case, heap, tree };
-        add_duplicates(alloc, files, index, apart, &mut report)?;
-        push_report(&mut reports, report)?;
-    }
-    Ok(reports)
+    set_tells_of_pages();
+    at.case.sound();
+    let columns = columns_of_all(alloc, at.trees)?;
+    let mut cursor = RowCursor::new(alloc, at.case, at.heap, &columns)?;
+    judge_all(files, at.case, at.heap, works, &mut cursor)?;
+    let blocks = cursor.taken();
+    Ok(blocks)
 }
 
 /// Judges a heap together with each of these indexes of it, in all of which nothing was found, and gives a report for
@@ -217,6 +172,8 @@ fn judge_keys<F: Files>(
 /// heap is read once for all indexes, and again only in a range with a row that no entry met. Blocks of the heap are
 /// taken in hand once, and once more for each index at most; `blocks` says how many times. What equal keys (X3) are
 /// looked for in is not counted there.
+///
+/// In all, files are read at most as often as `meeting_reads` says.
 ///
 /// `ReadFault` comes only where the count of the files' faults rose.
 pub fn meet_indexes<F: Files>(
@@ -231,13 +188,12 @@ pub fn meet_indexes<F: Files>(
     ensures blocks { IfOk result (λ met. met.blocks
         ≤ count_of (heap_in at.entry.heap.now) * (1 + length at.entry.trees.now)) }
     ensures asked { Asked F.seen files.old files.new result PageFault.ReadFault }
+    ensures reads { IfTold F.seen files.old (λ names.
+        ReadAtMost (meeting_reads names at.entry) F.seen files.old files.new) }
 {
-    let Met {
-        reports: joined,
-        aparts,
-        blocks,
-    } = meet_all(alloc, files, at)?;
-    let reports = judge_keys(alloc, files, at, joined, &aparts)?;
+    let mut works = new_works(alloc, at)?;
+    let blocks = meet_all(alloc, files, at, &mut works)?;
+    let reports = reports_of(alloc, files, works)?;
     Ok(IndexesMet { reports, blocks })
 }
 
@@ -252,6 +208,9 @@ fn probe_indexes<F: Files>(
     ensures reports { Tells F.seen files.old result (λ reports names. reports.items
         ≡ map (λ tree. indexed_lists at.entry.case.now names (number_of (file_of tree))) at.entry.trees.now) }
     ensures asked { Asked F.seen files.old files.new result PageFault.ReadFault }
+    ensures reads { IfTold F.seen files.old (λ names. ReadAtMost
+        (sum_by (looking_reads names at.entry.case.now at.entry.heap.now) at.entry.trees.now) F.seen files.old
+        files.new) }
 {
     let IndexedTable { case, heap, trees } = at;
     let mut reports = VecDeque::new(alloc);
@@ -267,6 +226,8 @@ fn probe_indexes<F: Files>(
 /// each, in their order: that which [`check_indexed`](crate::check_indexed) adds. The rows of a heap of fewer than 64
 /// blocks are looked up, and those of a larger one are met ([`meet_indexes`]).
 ///
+/// Files are read at most as often as `indexes_reads` says.
+///
 /// `ReadFault` comes only where the count of the files' faults rose.
 pub fn check_indexes<F: Files>(
     alloc: Global,
@@ -278,6 +239,8 @@ pub fn check_indexes<F: Files>(
     ensures reports { Tells F.seen files.old result (λ reports names. reports.items
         ≡ map (λ tree. indexed_lists at.entry.case.now names (number_of (file_of tree))) at.entry.trees.now) }
     ensures asked { Asked F.seen files.old files.new result PageFault.ReadFault }
+    ensures reads { IfTold F.seen files.old (λ names.
+        ReadAtMost (indexes_reads names at.entry) F.seen files.old files.new) }
 {
     if at.heap.heap().blocks() < MEET_BLOCKS {
         probe_indexes(alloc, files, at)

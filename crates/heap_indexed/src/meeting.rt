@@ -1,21 +1,23 @@
 //! The rows of a range of heap blocks against one index: its entries meet them, and those that none met are looked up.
-ghost use Rattle.std.specs.Prelude.{◌≡◌, ◌∷◌, ◌++◌, ◌+◌, ◌-◌, ◌<◌, ◌≤◌, [], IfOk, List, OnErr, OnOk};
+ghost use Rattle.std.specs.Prelude.{◌≡◌, ◌∷◌, ◌++◌, ◌+◌, ◌-◌, ◌*◌, ◌<◌, ◌≤◌, [], IfOk, List, OnOk, length};
 ghost use Rattle.std.specs.Prelude.{true, false};
 ghost use Rattle.std.specs.Option.{option_copied};
-ghost use Rattle.outside.specs.Outside.{Asked, IfTold, Names};
+ghost use Rattle.outside.specs.Outside.{Asked, AskedAtMost, IfTold, Names};
 ghost use Rattle.rel_files.specs.Relation.{count_of};
 ghost use Rattle.reports.specs.Added.{joined, nothing};
 ghost use Rattle.reports.specs.Lists.{Lists};
 ghost use Rattle.bt_levels.specs.declared.sound.SoundTree.{SoundTree as Tree};
 ghost use Rattle.bt_levels.specs.Sound.{HoldsTree, block_count, held_block, index_columns};
 ghost use Rattle.heap_table_check.specs.Files.{heap_in};
-ghost use Rattle.heap_rows.specs.RowCursor.{IsAtRow, IsCursorOf, IsSameCursor, next_in, rows_here, taken_in};
+ghost use Rattle.heap_rows.specs.Reads.{ReadAtMost, columns_at, page_reads};
+ghost use Rattle.heap_rows.specs.RowCursor.{IsAtRow, IsCursorOf, IsSameCursor, heap_at, next_in, rows_here, taken_in};
 ghost use Rattle.heap_rows.specs.declared.rows.LiveRow.{LiveRow as Row};
 ghost use Rattle.join_leaf_pass.specs.Passes.{strays_of};
 ghost use Rattle.join_meet.specs.Meeting.{HaveMetSome, all_entries};
 ghost use Rattle.join_slots.specs.Slots.{AreAllMet, IsBegun, keys_in, met_in};
-ghost use Rattle.join_look_ups.specs.Looking.{AreOf};
+ghost use Rattle.join_look_ups.specs.Looking.{AreOf, look_length};
 ghost use Rattle.join_look_ups.specs.Judging.{IsBehind};
+ghost use Rattle.heap_indexed.specs.Reads.{rounds_reads};
 ghost use Rattle.heap_indexed.specs.Meetings.{InWork, IsKept, IsPut, IsReadyBehind, IsToFinish, rows_kept};
 ghost use Rattle.join_row_keys.specs.Rows.{IsFound, IsIndexAt};
 ghost use Rattle.join_look_ups.specs.Rows.{owed_for, rows_from};
@@ -200,6 +202,10 @@ impl Meeting {
         ensures taken { taken_in cursor.new ≤ taken_in cursor.old + (next_in cursor.old - first) }
         ensures same { IsSameCursor cursor.old cursor.new }
         ensures asked { Asked F.seen files.old files.new result PageFault.ReadFault }
+        ensures reads { IfTold F.seen files.old (λ names. ReadAtMost
+            (page_reads (heap_at cursor.old) (columns_at cursor.old) * (next_in cursor.old - first)
+            + length (rows_from index.entry.at.case.now names first (next_in cursor.old - first))
+            * look_length names index.entry.at.tree.now) F.seen files.old files.new) }
     {
         if self.is_all_met() {
             return Ok(());
@@ -241,7 +247,7 @@ impl Meeting {
         ensures all { IfOk result (λ all. all ≡ true → (self.new.is_whole ≡ true) × AreAllMet self.new.slots) }
         ensures later { IfOk result (λ all. all ≡ true → option_copied targets.entry ≡ None) }
         ensures same { self.new ≡ record self.old { slots = self.new.slots } }
-        ensures asked { Asked F.seen files.old files.new result PageFault.ReadFault }
+        ensures asked { AskedAtMost (block_count tree.now) F.seen files.old files.new result PageFault.ReadFault }
     {
         if targets.is_some() || !self.is_whole {
             return Ok(false);
@@ -278,6 +284,9 @@ impl Meeting {
         ensures taken { taken_in cursor.new ≤ taken_in cursor.old + (next_in cursor.old - first) }
         ensures same { IsSameCursor cursor.old cursor.new }
         ensures asked { Asked F.seen files.old files.new result PageFault.ReadFault }
+        ensures reads { IfTold F.seen files.old (λ names. ReadAtMost
+            (rounds_reads names index.entry.at.case.now (heap_at cursor.old) (columns_at cursor.old) 1 first
+            (next_in cursor.old - first) index.entry.at.tree.now) F.seen files.old files.new) }
     {
         let end = cursor.next_block();
         let range = HeapRange { first, end };

@@ -123,7 +123,7 @@ group-sum blocks p n =
 
 -- a cursor over the heap of an index that is asked for its columns
 pub key-page : (at : IndexedHeap) (cursor : RowCursor) (numbers : List ℕ) → heap_at cursor ≡ at.heap.now → AreAsked numbers (asked_at cursor) → numbers ≡ columns_in (index_columns at.tree.now)
-    → page_reads (heap_at cursor) (columns_at cursor) ≡ key_page_reads at
+    → page_reads (heap_at cursor) (columns_at cursor) ≡ key_page_reads at.heap.now at.tree.now
 key-page at cursor numbers heap are columns =
     let count = columns-asked (length (case_at cursor).columns) numbers (asked_at cursor) are ∙ ap length columns in
     λ i. page_reads (heap i) (count i)

@@ -134,7 +134,7 @@ fn group_rows<F: Files>(
     ensures done { Tells F.seen files.old result (λ group names. IsDone names at.entry unique roots.now group) }
     ensures asked { Asked F.seen files.old files.new result PageFault.ReadFault }
     ensures reads { IfTold F.seen files.old (λ names.
-        ReadAtMost (group_reads names at.entry) F.seen files.old files.new) }
+        ReadAtMost (group_reads names at.entry.heap.now at.entry.tree.now) F.seen files.old files.new) }
 {
     at.case.sound();
     let columns = columns_of(alloc, &at.tree.columns())?;
@@ -184,7 +184,7 @@ fn later_rows<F: Files>(
     ensures looks { Tells F.seen files.old result (λ later names. AreLooks names at.entry unique later.looks) }
     ensures asked { Asked F.seen files.old files.new result PageFault.ReadFault }
     ensures reads { IfTold F.seen files.old (λ names.
-        ReadAtMost (duplicate_reads names at.entry) F.seen files.old files.new) }
+        ReadAtMost (duplicate_reads names at.entry.heap.now at.entry.tree.now) F.seen files.old files.new) }
 {
     rows_are_live_tuples();
     key_orders_are_total();
@@ -237,7 +237,7 @@ pub fn check_duplicates<F: Files>(
         → AskedAtMost 0 F.seen files.old files.new result PageFault.ReadFault }
     ensures asked { Asked F.seen files.old files.new result PageFault.ReadFault }
     ensures reads { IfTold F.seen files.old (λ names.
-        ReadAtMost (duplicate_reads names at.entry) F.seen files.old files.new) }
+        ReadAtMost (duplicate_reads names at.entry.heap.now at.entry.tree.now) F.seen files.old files.new) }
 {
     searches_go_in_steps();
     if apart {

@@ -71,7 +71,7 @@ returns-clause-reads g c = λ names told.
     let page = key-page at cursor c.deref.result.now c.in_ok-cursor.ensures.heap c.in_ok-cursor.ensures.asked columns in
     let free = ap (λ (b : Bounds). yielded names tree b) c.in-Ok.ensures.ok in
     let walked = pages-for page free in
-    let sum = group-sum (block_count tree) (key_page_reads at) (unkilled names tree) in
+    let sum = group-sum (block_count tree) (key_page_reads at.heap.now tree) (unkilled names tree) in
     let last = page-same cursor c.walk.new.cursor c.walk.ensures.same ∙ page in
     omega (arith, sum, walked, last, c.walk.ensures.reads names told, c.close.ensures.asked.most)
 
@@ -84,7 +84,7 @@ returns-in_err-close-clause-reads g c = λ names told.
     let page = key-page at cursor c.deref.result.now c.in_ok-cursor.ensures.heap c.in_ok-cursor.ensures.asked columns in
     let free = ap (λ (b : Bounds). yielded names tree b) c.in-Ok.ensures.ok in
     let walked = pages-for page free in
-    let sum = group-sum (block_count tree) (key_page_reads at) (unkilled names tree) in
+    let sum = group-sum (block_count tree) (key_page_reads at.heap.now tree) (unkilled names tree) in
     let last = page-same cursor c.walk.new.cursor c.walk.ensures.same ∙ page in
     omega (arith, sum, walked, last, c.walk.ensures.reads names told, c.close.ensures.asked.most)
 
@@ -97,5 +97,5 @@ returns-in_err-walk-clause-reads g c = λ names told.
     let page = key-page at cursor c.deref.result.now c.in_ok-cursor.ensures.heap c.in_ok-cursor.ensures.asked columns in
     let free = ap (λ (b : Bounds). yielded names tree b) c.in-Ok.ensures.ok in
     let walked = pages-for page free in
-    let sum = group-sum (block_count tree) (key_page_reads at) (unkilled names tree) in
+    let sum = group-sum (block_count tree) (key_page_reads at.heap.now tree) (unkilled names tree) in
     omega (arith, sum, walked, c.walk.ensures.reads names told)

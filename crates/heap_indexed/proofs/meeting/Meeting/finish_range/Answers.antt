@@ -1,11 +1,11 @@
-use Rattle.std.proofs.Common.{◌∙◌, ◌-◌, List, ap, subst, sym}
+use Rattle.std.proofs.Common.{◌∙◌, ◌-◌, List, ap, subst, sym, arith}
 use Rattle.std.specs.Option.{option_copied}
 use Rattle.std.proofs.lemmas.List.Elements.{All-nil}
 use Rattle.std.specs.Prelude.{Bool, Option}
 use Rattle.reports.specs.Added.{joined, report_lists}
 use Rattle.reports.specs.Lists.{Lists}
 use Rattle.bt_levels.specs.Sound.{index_columns}
-use Rattle.heap_rows.specs.RowCursor.{next_in}
+use Rattle.heap_rows.specs.RowCursor.{next_in, heap_at}
 use Rattle.heap_rows.specs.declared.rows.LiveRow.{LiveRow}
 use Rattle.join_leaf_pass.specs.Passes.{AreTargets, strays_of}
 use Rattle.join_look_ups.specs.declared.joined.LookUps.{LookUps}
@@ -16,6 +16,8 @@ use Rattle.join_look_ups.specs.Rows.{owed_for, rows_from}
 use Rattle.heap_indexed.proofs.Cases.{no-strays}
 use Rattle.heap_indexed.proofs.KeptLaws.{kept-same, roots-named, rows-met}
 use Rattle.heap_indexed.proofs.MetLaws.{sound-of, tells-of}
+use Rattle.heap_rows.specs.Reads.{columns_at}
+use Rattle.heap_indexed.proofs.Rounds.{rounds-one}
 use Rattle.heap_indexed.proofs.meeting.Meeting.finish_range.Goals as goal
 use Rattle.heap_indexed.proofs.meeting.Meeting.finish_range.Goals.{then-self, else-self}
 
@@ -106,3 +108,30 @@ returns-clause-work g c = λ names told done strays work.
 
 pub returns-clause-behind : goal.returns-clause-behind
 returns-clause-behind g c = λ names told. c.in_ok-judge_rows.ensures.behind names (c.check_entries.ensures.asked.same ∙ c.meet_near.ensures.asked.same ∙ told)
+
+-- How often files are read
+
+pub returns-in_err-all_met-clause-reads : goal.returns-in_err-all_met-clause-reads
+returns-in_err-all_met-clause-reads g c = λ names told.
+    let one = rounds-one names c.args.index.at.case.now (heap_at c.args.cursor.now) (columns_at c.args.cursor.now) c.args.first (next_in c.args.cursor.now - c.args.first) c.args.index.at.tree.now in
+    omega (arith, one, c.meet_near.ensures.asked.most)
+
+pub returns-then-all_met-clause-reads : goal.returns-then-all_met-clause-reads
+returns-then-all_met-clause-reads g c = λ names told.
+    let one = rounds-one names c.args.index.at.case.now (heap_at c.args.cursor.now) (columns_at c.args.cursor.now) c.args.first (next_in c.args.cursor.now - c.args.first) c.args.index.at.tree.now in
+    omega (arith, one, c.meet_near.ensures.asked.most)
+
+pub returns-in_err-apart-clause-reads : goal.returns-in_err-apart-clause-reads
+returns-in_err-apart-clause-reads g c = λ names told.
+    let one = rounds-one names c.args.index.at.case.now (heap_at c.args.cursor.now) (columns_at c.args.cursor.now) c.args.first (next_in c.args.cursor.now - c.args.first) c.args.index.at.tree.now in
+    omega (arith, one, c.meet_near.ensures.asked.most, c.check_entries.ensures.asked.most)
+
+pub returns-in_err-judge_rows-clause-reads : goal.returns-in_err-judge_rows-clause-reads
+returns-in_err-judge_rows-clause-reads g c = λ names told.
+    let one = rounds-one names c.args.index.at.case.now (heap_at c.args.cursor.now) (columns_at c.args.cursor.now) c.args.first (next_in c.args.cursor.now - c.args.first) c.args.index.at.tree.now in
+    omega (arith, one, c.meet_near.ensures.asked.most, c.check_entries.ensures.asked.most, c.judge_rows.ensures.reads names (c.check_entries.ensures.asked.same ∙ c.meet_near.ensures.asked.same ∙ told))
+
+pub returns-clause-reads : goal.returns-clause-reads
+returns-clause-reads g c = λ names told.
+    let one = rounds-one names c.args.index.at.case.now (heap_at c.args.cursor.now) (columns_at c.args.cursor.now) c.args.first (next_in c.args.cursor.now - c.args.first) c.args.index.at.tree.now in
+    omega (arith, one, c.meet_near.ensures.asked.most, c.check_entries.ensures.asked.most, c.judge_rows.ensures.reads names (c.check_entries.ensures.asked.same ∙ c.meet_near.ensures.asked.same ∙ told))

@@ -1,9 +1,12 @@
-use Rattle.std.proofs.Common.{◌∙◌, ◌-◌, ap, sym, arith}
+use Rattle.std.proofs.Common.{◌∙◌, ◌-◌, ap, sym, arith, ◌≡◌, ◌+◌, ◌*◌, length}
 use Rattle.std.proofs.lemmas.Result.{on_ok_weaker}
 use Rattle.reports.specs.Added.{joined, report_lists}
-use Rattle.heap_rows.specs.RowCursor.{next_in}
+use Rattle.heap_rows.specs.RowCursor.{next_in, heap_at}
 use Rattle.join_look_ups.specs.Rows.{rows_from}
 use Rattle.heap_indexed.proofs.KeptLaws.{rows-met}
+use Rattle.heap_rows.specs.Reads.{columns_at, page_reads}
+use Rattle.heap_rows.proofs.ReadLaws.{page-same}
+use Rattle.join_look_ups.specs.Looking.{look_length}
 use Rattle.heap_indexed.proofs.meeting.Meeting.judge_rows.Goals as goal
 
 pub returns-then-is_all_met-clause-behind : goal.returns-then-is_all_met-clause-behind
@@ -30,3 +33,19 @@ returns-clause-behind g c = λ names told. on_ok_weaker c.judge_blocks.result (�
 
 pub returns-clause-taken : goal.returns-clause-taken
 returns-clause-taken g c = omega (arith, c.judge_blocks.ensures.taken, c.go_to.ensures.taken, c.go_to.ensures.next, c.next_block-end.ensures)
+
+-- How often files are read
+
+pub returns-then-is_all_met-clause-reads : goal.returns-then-is_all_met-clause-reads
+returns-then-is_all_met-clause-reads g c = λ names told. omega arith
+
+pub returns-clause-reads : goal.returns-clause-reads
+returns-clause-reads g c = λ names told.
+    let cursor = c.args.cursor.now in
+    let page = page-same cursor c.go_to.new.self c.go_to.ensures.same in
+    let looks = look_length names c.args.index.at.tree.now in
+    let so : page_reads (heap_at c.go_to.new.self) (columns_at c.go_to.new.self) * (c.next_block-end.result - next_in c.go_to.new.self)
+    + length (rows_from c.args.index.at.case.now names (next_in c.go_to.new.self) (c.next_block-end.result - next_in c.go_to.new.self)) * looks
+    ≡ page_reads (heap_at cursor) (columns_at cursor) * (next_in cursor - c.args.first) + length (rows_from c.args.index.at.case.now names c.args.first (next_in cursor - c.args.first)) * looks =
+    (λ i. page i * (c.next_block-end.ensures i - c.go_to.ensures.next i) + length (rows_from c.args.index.at.case.now names (c.go_to.ensures.next i) (c.next_block-end.ensures i - c.go_to.ensures.next i)) * looks) in
+    omega (arith, so, c.judge_blocks.ensures.reads names told)
