@@ -1,8 +1,6 @@
 -- Keys are asked where nothing else is found of an index.
-use Rattle.std.proofs.Common.{◌≡◌, ◌∙◌, ◌+◌, ◌<◌, ◌≤◌, ◌⊎◌, ◌++◌, inl, inr, ℕ, zero, suc, Bool, true, false, List, [], ◌∷◌, length, drop, get_or, map, refl, ap, sym, arith, add-one, drop-cons}
-use Rattle.std.specs.Prelude.{Option, Some, ◌↔◌, take}
-use Rattle.std.specs.Option.{option_to_list}
-use Rattle.std.proofs.lemmas.List.{map-append, take_more}
+use Rattle.std.proofs.Common.{◌≡◌, ◌∙◌, ◌≤◌, ◌⊎◌, ◌++◌, inl, inr, ℕ, zero, suc, Bool, true, false, List, [], ◌∷◌, length, refl, sym, arith}
+use Rattle.std.specs.Prelude.{◌↔◌}
 use Rattle.std.proofs.lemmas.Bool.{false≢true}
 use Rattle.std.proofs.lemmas.List.{nil_from_length}
 use Rattle.outside.specs.Outside.{Names}
@@ -45,24 +43,3 @@ pub some-of : (a b : ℕ) (r : Bool) → r ≡ false → ((r ≡ true) ↔ (a �
 some-of zero zero r is both = absurd (false≢true (sym is ∙ both.1 (refl, refl)))
 some-of zero (suc b) r is both = inr (omega arith)
 some-of (suc a) b r is both = inl (omega arith)
-
--- what is taken from the front
-pub popped : {X : Type 0} (old new : List X) (o : Option X) (x : X) → old ≡ option_to_list o ++ new → o ≡ Some x → old ≡ x ∷ new
-popped old new o x e is = e ∙ ap (λ (p : Option _). option_to_list p ++ new) is
-
-front-is : {X : Type 0} (x y : X) (xs ys : List X) → x ∷ xs ≡ y ∷ ys → (x ≡ y) × (xs ≡ ys)
-front-is x y xs ys e = (cc, cc)
-
--- the first of what is left is that of the next, and the others are left
-pub next-left : {X Y : Type 0} (f : X → Y) (xs : List X) (k : ℕ) (x : X) (y : Y) (ys : List Y) → x ≡ get_or xs k x → k < length xs → y ∷ ys ≡ map f (drop k xs) → (y ≡ f x) × (ys ≡ map f (drop (k + 1) xs))
-next-left {X} f xs k x y ys at lt are =
-    let cut : drop k xs ≡ get_or xs k x ∷ drop (k + 1) xs = drop-cons xs k x lt ∙ ap (λ (n : ℕ). get_or xs k x ∷ drop n xs) (sym (add-one k)) in
-    let both = front-is y (f (get_or xs k x)) ys (map f (drop (k + 1) xs)) (are ∙ ap (map f) cut) in
-    (both.0 ∙ ap f (sym at), both.1)
-
--- one more is done
-pub next-done : {X Y : Type 0} (f : X → Y) (xs : List X) (k : ℕ) (x : X) → x ≡ get_or xs k x → k < length xs → map f (take k xs) ++ f x ∷ [] ≡ map f (take (k + 1) xs)
-next-done f xs k x at lt =
-    ap (λ y. map f (take k xs) ++ f y ∷ []) at
-    ∙ sym (map-append f (take k xs) (get_or xs k x ∷ []))
-    ∙ ap (map f) (sym (take_more xs k x lt))

@@ -1,114 +1,65 @@
--- Indexes and what is in work for them, place by place.
-use Rattle.std.proofs.Common.{◌≡◌, ◌∙◌, ◌≢◌, ◌⊎◌, ℕ, zero, suc, true, false, ◌+◌, ◌<◌, ◌≤◌, List, [], ◌∷◌, ◌++◌, inl, inr, drop, length, get_or, set, map, refl, sym, ap, subst, arith}
-use Rattle.std.specs.Prelude.{take}
+-- What is in work for indexes, place by place.
+use Rattle.std.proofs.Common.{◌≡◌, ◌∙◌, ◌≢◌, ◌⊎◌, ℕ, ◌+◌, ◌<◌, ◌≤◌, List, ◌++◌, inl, inr, drop, length, get_or, set, sym, ap, subst, arith}
+use Rattle.std.specs.Prelude.{All, take}
 use Rattle.std.proofs.lemmas.Bool.{cases_eq}
-use Rattle.std.proofs.Math.ListN.{get_or-append}
-use Rattle.std.proofs.Math.Seq.{get_or-append_seam, take-append_seam}
-use Rattle.std.proofs.lemmas.List.{get_or_default, get_or-set_same, get_or-set_other, length-set}
-use Rattle.reports.specs.Added.{joined}
-use Rattle.reports.specs.Lists.{Lists}
+use Rattle.std.proofs.Math.ListN.{get_or-map}
+use Rattle.std.proofs.Math.Seq.{map-set_same, take-append_seam}
+use Rattle.std.proofs.lemmas.List.{get_or-set_same, get_or-set_other, length-map}
 use Rattle.bt_levels.specs.declared.sound.SoundTree.{SoundTree}
-use Rattle.heap_indexed.specs.declared.meeting.Meeting.{Meeting}
-use Rattle.heap_indexed.specs.Meetings.{EachFor}
-
--- the tree at a place, whatever stands past the end
-pub at-place : (trees : List SoundTree) (j : ℕ) (tree other : SoundTree) → tree ≡ get_or trees j tree → j < length trees → get_or trees j other ≡ tree
-at-place trees j tree other is lt = get_or_default trees j other tree lt ∙ sym is
-
-module _ (R : SoundTree → Meeting → Type 0) (trees : List SoundTree) (meetings : List Meeting) where
-  -- what is so of the index at a place
-  pub each-at : EachFor R trees meetings → (j : ℕ) (tree : SoundTree) (meeting : Meeting) → tree ≡ get_or trees j tree → j < length trees → R tree (get_or meetings j meeting)
-  each-at all j tree meeting is lt = subst (λ (t : SoundTree). R t (get_or meetings j meeting)) (sym is) (all.each j tree meeting lt)
-
-  -- one of them was changed, and it is still so
-  pub each-set : EachFor R trees meetings → (j : ℕ) (tree : SoundTree) (new : Meeting) → tree ≡ get_or trees j tree → j < length trees → R tree new → EachFor R trees (set meetings j new)
-  each-set all j tree new is lt here = record {
-    same = length-set meetings j new ∙ all.same;
-    each = λ k t d below. by k t d below (cases_eq k j);
-  }
-    where
-      by : (k : ℕ) (t : SoundTree) (d : Meeting) → k < length trees → (k ≡ j) ⊎ (k ≢ j) → R (get_or trees k t) (get_or (set meetings j new) k d)
-      by k t d below (inl e) =
-          let within : j < length meetings = omega (arith, all.same) in
-          subst (λ (x : SoundTree). R x (get_or (set meetings j new) k d)) (sym (ap (λ (i : ℕ). get_or trees i t) e ∙ at-place trees j tree t is lt))
-          (subst (R tree) (sym (ap (λ (i : ℕ). get_or (set meetings j new) i d) e ∙ get_or-set_same meetings j new d within)) here)
-      by k t d below (inr other) =
-          subst (R (get_or trees k t)) (sym (get_or-set_other meetings j k new d other)) (all.each k t d below)
+use Rattle.join_row_keys.specs.declared.keys.KeyedHeap.{KeyedHeap}
+use Rattle.heap_indexed.specs.declared.work.IndexWork.{IndexWork}
+use Rattle.heap_indexed.specs.Works.{indexes_of, tree_of}
 
 -- Places up to one: after it was changed
 
-module _ (Before : SoundTree → Meeting → Type 0) (trees : List SoundTree) (start meetings : List Meeting) (j : ℕ) (left : (k : ℕ) (d : Meeting) → j ≤ k → get_or meetings k d ≡ get_or start k d) (before : EachFor Before trees start) where
-  -- at the place all is as it was
-  pub still-before : (tree : SoundTree) (meeting : Meeting) → tree ≡ get_or trees j tree → j < length trees → Before tree (get_or meetings j meeting)
-  still-before tree meeting is lt =
-      subst (Before tree) (sym (left j meeting (omega arith))) (each-at Before trees start before j tree meeting is lt)
-
 -- the places below one, and that one
-pub below-set : (After : SoundTree → Meeting → Type 0) (trees : List SoundTree) (meetings : List Meeting) (j : ℕ) (tree : SoundTree) (new : Meeting) → length meetings ≡ length trees → tree ≡ get_or trees j tree → j < length trees → ((k : ℕ) (t : SoundTree) (d : Meeting) → k < j → After (get_or trees k t) (get_or meetings k d)) → After tree new
-    → (k : ℕ) (t : SoundTree) (d : Meeting) → k < j + 1 → After (get_or trees k t) (get_or (set meetings j new) k d)
-below-set After trees meetings j tree new same is lt below here k t d up = by (cases_eq k j)
+pub done-set : (After : IndexWork → Type 0) (works : List IndexWork) (j : ℕ) (new : IndexWork) → j < length works → ((k : ℕ) (d : IndexWork) → k < j → After (get_or works k d)) → After new
+    → (k : ℕ) (d : IndexWork) → k < j + 1 → After (get_or (set works j new) k d)
+done-set After works j new within below here k d up = by (cases_eq k j)
   where
-    by : (k ≡ j) ⊎ (k ≢ j) → After (get_or trees k t) (get_or (set meetings j new) k d)
-    by (inl e) =
-        let within : j < length meetings = omega (arith, same) in
-        subst (λ (x : SoundTree). After x (get_or (set meetings j new) k d)) (sym (ap (λ (i : ℕ). get_or trees i t) e ∙ at-place trees j tree t is lt))
-        (subst (After tree) (sym (ap (λ (i : ℕ). get_or (set meetings j new) i d) e ∙ get_or-set_same meetings j new d within)) here)
-    by (inr other) =
-        subst (After (get_or trees k t)) (sym (get_or-set_other meetings j k new d other)) (below k t d (omega (arith, other)))
+    by : (k ≡ j) ⊎ (k ≢ j) → After (get_or (set works j new) k d)
+    by (inl e) = subst After (sym (ap (λ (i : ℕ). get_or (set works j new) i d) e ∙ get_or-set_same works j new d within)) here
+    by (inr other) = subst After (sym (get_or-set_other works j k new d other)) (below k d (omega (arith, other)))
 
 -- the places above it are as they were
-pub above-set : (start meetings : List Meeting) (j : ℕ) (new : Meeting) → ((k : ℕ) (d : Meeting) → j ≤ k → get_or meetings k d ≡ get_or start k d) → (k : ℕ) (d : Meeting) → j + 1 ≤ k → get_or (set meetings j new) k d ≡ get_or start k d
-above-set start meetings j new left k d up =
+pub above-set : (start works : List IndexWork) (j : ℕ) (new : IndexWork) → ((k : ℕ) (d : IndexWork) → j ≤ k → get_or works k d ≡ get_or start k d) → (k : ℕ) (d : IndexWork) → j + 1 ≤ k → get_or (set works j new) k d ≡ get_or start k d
+above-set start works j new left k d up =
     let other : k ≢ j = λ e. absurd (omega (arith, e)) in
-    get_or-set_other meetings j k new d other ∙ left k d (omega arith)
+    get_or-set_other works j k new d other ∙ left k d (omega arith)
+
+-- at the place all is as it was
+pub still-before : (Before : IndexWork → Type 0) (start works : List IndexWork) (j : ℕ) (d : IndexWork) → ((k : ℕ) (e : IndexWork) → j ≤ k → get_or works k e ≡ get_or start k e) → j < length start → All Before start → Before (get_or works j d)
+still-before Before start works j d left lt all = subst Before (sym (left j d (omega arith))) (all j d lt)
 
 -- all places are below the end
-pub below-all : (After : SoundTree → Meeting → Type 0) (trees : List SoundTree) (meetings : List Meeting) (j : ℕ) → length meetings ≡ length trees → length trees ≤ j → ((k : ℕ) (t : SoundTree) (d : Meeting) → k < j → After (get_or trees k t) (get_or meetings k d)) → EachFor After trees meetings
-below-all After trees meetings j same end below = record { same = same; each = λ k t d lt. below k t d (omega arith) }
-
--- one more at the end
-pub below-push : (After : SoundTree → Meeting → Type 0) (trees : List SoundTree) (meetings : List Meeting) (j : ℕ) (tree : SoundTree) (new : Meeting) → length meetings ≡ j → tree ≡ get_or trees j tree → j < length trees → ((k : ℕ) (t : SoundTree) (d : Meeting) → k < j → After (get_or trees k t) (get_or meetings k d)) → After tree new
-    → (k : ℕ) (t : SoundTree) (d : Meeting) → k < j + 1 → After (get_or trees k t) (get_or (meetings ++ new ∷ []) k d)
-below-push After trees meetings j tree new many is lt below here k t d up = by (cases_eq k j)
-  where
-    by : (k ≡ j) ⊎ (k ≢ j) → After (get_or trees k t) (get_or (meetings ++ new ∷ []) k d)
-    by (inl e) =
-        let seam : get_or (meetings ++ new ∷ []) k d ≡ new = ap (λ (i : ℕ). get_or (meetings ++ new ∷ []) i d) (e ∙ sym many) ∙ get_or-append_seam meetings new [] d in
-        subst (λ (x : SoundTree). After x (get_or (meetings ++ new ∷ []) k d)) (sym (ap (λ (i : ℕ). get_or trees i t) e ∙ at-place trees j tree t is lt))
-        (subst (After tree) (sym seam) here)
-    by (inr other) =
-        let within : k < length meetings = omega (arith, many, other) in
-        subst (After (get_or trees k t)) (sym (get_or-append meetings (new ∷ []) d k within)) (below k t d (omega (arith, other)))
+pub all-done : (After : IndexWork → Type 0) (works : List IndexWork) (j : ℕ) → length works ≤ j → ((k : ℕ) (d : IndexWork) → k < j → After (get_or works k d)) → All After works
+all-done After works j end below k d lt = below k d (omega (arith, lt, end))
 
 -- what follows for each
-pub each-map : (R S : SoundTree → Meeting → Type 0) (trees : List SoundTree) (meetings : List Meeting) → ((tree : SoundTree) (meeting : Meeting) → R tree meeting → S tree meeting) → EachFor R trees meetings → EachFor S trees meetings
-each-map R S trees meetings f all = record { same = all.same; each = λ k t d lt. f (get_or trees k t) (get_or meetings k d) (all.each k t d lt) }
+pub each-map : (P Q : IndexWork → Type 0) (works : List IndexWork) → ((work : IndexWork) → P work → Q work) → All P works → All Q works
+each-map P Q works f all k d lt = f (get_or works k d) (all k d lt)
 
--- reports that are what this function of the indexes says
-pub reports-are : (f : SoundTree → Lists) (trees : List SoundTree) (meetings : List Meeting) → EachFor (λ (tree : SoundTree) (m : Meeting). joined m.rows m.entries ≡ f tree) trees meetings → map (λ (m : Meeting). joined m.rows m.entries) meetings ≡ map f trees
-reports-are f [] [] all = refl
-reports-are f [] (m ∷ meetings) all = absurd (omega (arith, all.same))
-reports-are f (t ∷ trees) [] all = absurd (omega (arith, all.same))
-reports-are f (t ∷ trees) (m ∷ meetings) all =
-    let here : joined m.rows m.entries ≡ f t = all.each 0 t m (omega arith) in
-    let rest : EachFor (λ (tree : SoundTree) (n : Meeting). joined n.rows n.entries ≡ f tree) trees meetings = record {
-      same = omega (arith, all.same);
-      each = λ k x y lt. all.each (suc k) x y (omega arith);
-    } in
-    λ i. here i ∷ reports-are f trees meetings rest i
+-- Their indexes
 
--- what is so of each index of which its work says that it is
-pub each-known : (P : SoundTree → Type 0) (trees : List SoundTree) (meetings : List Meeting) → EachFor (λ (tree : SoundTree) (m : Meeting). m.apart ≡ true → P tree) trees meetings → (k : ℕ) (tree : SoundTree) → k < length trees → get_or (map (λ (m : Meeting). m.apart) meetings) k false ≡ true → P (get_or trees k tree)
-each-known P [] meetings all k tree lt known = absurd (omega (arith, lt))
-each-known P (t ∷ trees) [] all k tree lt known = absurd (omega (arith, all.same))
-each-known P (t ∷ trees) (m ∷ meetings) all zero tree lt known = all.each 0 t m (omega arith) known
-each-known P (t ∷ trees) (m ∷ meetings) all (suc k) tree lt known =
-    let rest : EachFor (λ (x : SoundTree) (n : Meeting). n.apart ≡ true → P x) trees meetings = record {
-      same = omega (arith, all.same);
-      each = λ j x y below. all.each (suc j) x y (omega arith);
-    } in
-    each-known P trees meetings rest k tree (omega (arith, lt)) known
+-- the work for an index was changed, and not the index
+pub indexes-set : (works : List IndexWork) (j : ℕ) (new d : IndexWork) → new.index ≡ (get_or works j d).index → indexes_of (set works j new) ≡ indexes_of works
+indexes-set works j new d same = map-set_same (λ (w : IndexWork). w.index) works j new d same
+
+pub same-many : (old new : List IndexWork) → indexes_of new ≡ indexes_of old → length new ≡ length old
+same-many old new same =
+    sym (length-map new (λ (w : IndexWork). w.index)) ∙ ap length same ∙ length-map old (λ (w : IndexWork). w.index)
+
+-- what is so of their trees
+pub by-tree : (P : SoundTree → Type 0) (old new : IndexWork) → new.index ≡ old.index → P (tree_of old) → P (tree_of new)
+by-tree P old new same = subst P (sym (ap (λ (i : KeyedHeap). i.at.tree.now) same))
+
+-- what is so of each index still is
+pub same-each : (P : KeyedHeap → Type 0) (old new : List IndexWork) → indexes_of new ≡ indexes_of old → All (λ (w : IndexWork). P w.index) old → All (λ (w : IndexWork). P w.index) new
+same-each P old new same all k d lt =
+    let f : IndexWork → KeyedHeap = λ (w : IndexWork). w.index in
+    let there : (get_or old k d).index ≡ (get_or new k d).index = sym (get_or-map f old k d) ∙ ap (λ (is : List KeyedHeap). get_or is k d.index) (sym same) ∙ get_or-map f new k d in
+    subst P there (all k d (omega (arith, lt, same-many old new same)))
 
 -- what a slice of all of a vector leaves behind
-pub written-back : (n : ℕ) (new old : List Meeting) → n ≡ length new → take n (new ++ drop (length new) old) ≡ new
+pub written-back : (n : ℕ) (new old : List IndexWork) → n ≡ length new → take n (new ++ drop (length new) old) ≡ new
 written-back n new old is = ap (λ (m : ℕ). take m (new ++ drop (length new) old)) is ∙ take-append_seam new (drop (length new) old)

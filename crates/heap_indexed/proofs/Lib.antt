@@ -7,3 +7,4 @@ pub mod MetLaws
 pub mod Places
 mod RootLaws
 mod Taken
+mod WorkLaws

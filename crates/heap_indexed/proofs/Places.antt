@@ -1,42 +1,19 @@
--- The index at a place, and a cursor that went on.
-use Rattle.std.proofs.Common.{◌∙◌, ℕ, ◌<◌, length, get_or, sym, subst}
-use Rattle.case_file.specs.Record.{CaseRecord}
-use Rattle.bt_levels.specs.declared.sound.SoundTree.{SoundTree}
-use Rattle.bt_levels.specs.Sound.{index_columns}
-use Rattle.heap_table_check.specs.declared.files.SoundHeap.{SoundHeap}
+-- A cursor that went on, and work that was done.
+use Rattle.std.proofs.Common.{◌≡◌, List, get_or}
 use Rattle.heap_rows.specs.declared.row_cursor.RowCursor.{RowCursor}
-use Rattle.heap_rows.specs.RowCursor.{IsSameCursor, asked_at}
+use Rattle.heap_rows.specs.RowCursor.{IsSameCursor}
 use Rattle.join_row_keys.specs.declared.keys.KeyedHeap.{KeyedHeap}
-use Rattle.heap_indexed.specs.declared.ranges.Ranges.{Ranges}
-use Rattle.join_row_keys.specs.Joined.{BelongTogether}
-use Rattle.heap_indexed.specs.Meetings.{IsIndexNo, IsOfTable}
-use Rattle.join_row_keys.specs.Rows.{AreAskedFrom, IsIndexAt, columns_in}
+use Rattle.join_row_keys.specs.Rows.{IsIndexAt}
+use Rattle.join_row_keys.proofs.Places.{same-index}
+use Rattle.heap_indexed.specs.declared.work.IndexWork.{IndexWork}
+use Rattle.heap_indexed.specs.Works.{AreIndexesAt, indexes_of}
+use Rattle.heap_indexed.proofs.Each.{same-each}
 
 -- a cursor of the same heap that is asked for the same columns
-pub same-table : (ranges : Ranges) (old new : RowCursor) → IsSameCursor old new → IsOfTable ranges old → IsOfTable ranges new
-same-table ranges old new same at = record {
-  belong = at.belong;
-  case = same.case ∙ at.case;
-  heap = same.heap ∙ at.heap;
-  firsts = record {
-    same = at.firsts.same;
-    each = λ k tree lt. subst (AreAskedFrom (get_or ranges.firsts.now k 0) (columns_in (index_columns (get_or ranges.at.trees.now k tree)))) (sym same.asked) (at.firsts.each k tree lt);
-  };
-}
+pub same-cursor : (works : List IndexWork) (old new : RowCursor) → IsSameCursor old new → AreIndexesAt old works → AreIndexesAt new works
+same-cursor works old new same at k d lt = same-index (get_or works k d).index old new same (at k d lt)
 
--- the index at a place is one of the table's
-pub index-at : (ranges : Ranges) (cursor : RowCursor) (j : ℕ) (index : KeyedHeap) → IsOfTable ranges cursor → IsIndexNo ranges j index → j < length ranges.at.trees.now → IsIndexAt index cursor
-index-at ranges cursor j index table at lt =
-    let trees = ranges.at.trees.now in
-    let tree : SoundTree = index.at.tree.now in
-    let belong : BelongTogether ranges.at.case.now ranges.at.heap.now tree =
-    subst (λ (t : SoundTree). BelongTogether ranges.at.case.now ranges.at.heap.now t) (sym at.tree) (table.belong.each j tree lt) in
-    let asked : AreAskedFrom (get_or ranges.firsts.now j 0) (columns_in (index_columns tree)) (asked_at cursor) =
-    subst (λ (t : SoundTree). AreAskedFrom (get_or ranges.firsts.now j 0) (columns_in (index_columns t)) (asked_at cursor)) (sym at.tree) (table.firsts.each j tree lt) in
-    record {
-      belong = subst (λ (case : CaseRecord). BelongTogether case index.at.heap.now tree) (sym at.case)
-          (subst (λ (heap : SoundHeap). BelongTogether ranges.at.case.now heap tree) (sym at.heap) belong);
-      case = table.case ∙ sym at.case;
-      heap = table.heap ∙ sym at.heap;
-      asked = subst (λ (n : ℕ). AreAskedFrom n (columns_in (index_columns tree)) (asked_at cursor)) (sym at.first) asked;
-    }
+-- and work for the same indexes
+pub same-indexes : (old-works new-works : List IndexWork) (old new : RowCursor) → indexes_of new-works ≡ indexes_of old-works → IsSameCursor old new → AreIndexesAt old old-works → AreIndexesAt new new-works
+same-indexes old-works new-works old new is same at =
+    same-cursor new-works old new same (same-each (λ (i : KeyedHeap). IsIndexAt i old) old-works new-works is at)

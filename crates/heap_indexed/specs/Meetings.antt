@@ -1,7 +1,6 @@
 -- What is in work for each index of a heap while the rows of its blocks are gone through, range by range.
-use Rattle.std.specs.Prelude.{◌≡◌, ◌≢◌, ℕ, ◌-◌, ◌<◌, ◌++◌, Bool, true, false, List, All, Contains, Option, None, Some}
-use Rattle.std.specs.Prelude.{cond, length}
-use Rattle.std.specs.Prelude.{slice_index_or}
+use Rattle.std.specs.Prelude.{◌≡◌, ◌≢◌, ℕ, ◌-◌, ◌++◌, Bool, true, false, List, All, Contains, Option, None, Some}
+use Rattle.std.specs.Prelude.{cond}
 use Rattle.std.specs.List.{flat_map}
 use Rattle.outside.specs.Outside.{Names}
 use Rattle.key_orders.specs.declared.columns.Value.{Value}
@@ -9,27 +8,22 @@ use Rattle.key_orders.specs.declared.Tid.{Tid}
 use Rattle.key_attrs.specs.Columns.{TreeColumns}
 use Rattle.bt_levels.specs.declared.sound.SoundTree.{SoundTree}
 use Rattle.bt_levels.specs.Sound.{HoldsTree, index_columns}
-use Rattle.case_file.specs.Record.{CaseRecord}
-use Rattle.reports.specs.Added.{joined}
 use Rattle.reports.specs.Lists.{Lists}
 use Rattle.heap_table_check.specs.Files.{BelongTo, IsSoundHeapOf, files_of}
 use Rattle.heap_table_check.specs.Found.{IsQuiet}
 use Rattle.heap_rows.specs.declared.row_cursor.RowCursor.{RowCursor}
 use Rattle.heap_rows.specs.declared.rows.LiveRow.{LiveRow}
-use Rattle.heap_rows.specs.RowCursor.{asked_at, case_at, heap_at}
 use Rattle.join_distinct.specs.Apart.{AreApart}
-use Rattle.join_leaf_pass.specs.Passes.{strays_of}
 use Rattle.heap_targets.specs.Targets.{is_in}
 use Rattle.join_slots.specs.Slots.{Tables, keys_in, keys_with, met_in}
 use Rattle.join_row_keys.specs.declared.joined.IndexedTable.{IndexedTable}
 use Rattle.join_row_keys.specs.declared.keys.KeyedHeap.{KeyedHeap}
 use Rattle.heap_indexed.specs.declared.meeting.Meeting.{Meeting}
-use Rattle.heap_indexed.specs.declared.ranges.Ranges.{Ranges}
 use Rattle.join_row_keys.specs.Joined.{BelongTogether, HoldTogether}
 use Rattle.join_look_ups.specs.Judging.{IsBehind, TellsOf}
 use Rattle.join_look_ups.specs.Looking.{AreOf}
-use Rattle.join_row_keys.specs.Rows.{AreAskedFrom, columns_in}
-use Rattle.join_look_ups.specs.Rows.{HasValues, owed_for, rows_from}
+use Rattle.join_row_keys.specs.Rows.{columns_in}
+use Rattle.join_look_ups.specs.Rows.{HasValues, rows_from}
 
 -- The heap and its indexes
 
@@ -47,27 +41,6 @@ pub record HoldIt (names : Names) (at : IndexedTable) : Type 0 where
 -- the columns of indexes, one index after another
 abbrev pub columns_of_all : List SoundTree → List ℕ
 columns_of_all trees = flat_map (λ tree. columns_in (index_columns tree)) trees
-
--- for each index these say which of the values that are asked for is its first
-pub record AreFirsts (firsts : List ℕ) (trees : List SoundTree) (cursor : RowCursor) : Type 0 where
-  pub same : length firsts ≡ length trees
-  pub each : (k : ℕ) (tree : SoundTree) → k < length trees
-      → AreAskedFrom (slice_index_or firsts k 0) (columns_in (index_columns (slice_index_or trees k tree)))
-      (asked_at cursor)
-
--- the cursor is one of the heap, and asked for the columns of all indexes
-pub record IsOfTable (ranges : Ranges) (cursor : RowCursor) : Type 0 where
-  pub belong : BelongToIt ranges.at
-  pub case : case_at cursor ≡ ranges.at.case.now
-  pub heap : heap_at cursor ≡ ranges.at.heap.now
-  pub firsts : AreFirsts ranges.firsts.now ranges.at.trees.now cursor
-
--- the index at a place, from 0
-pub record IsIndexNo (ranges : Ranges) (j : ℕ) (index : KeyedHeap) : Type 0 where
-  pub case : index.at.case.now ≡ ranges.at.case.now
-  pub heap : index.at.heap.now ≡ ranges.at.heap.now
-  pub tree : index.at.tree.now ≡ slice_index_or ranges.at.trees.now j index.at.tree.now
-  pub first : index.first ≡ slice_index_or ranges.firsts.now j 0
 
 -- Rows that are kept
 
@@ -134,54 +107,6 @@ pub record IsToFinish (names : Names) (index : KeyedHeap) (targets : Option (Lis
   pub work : InWork names done strays range index.at.tree.now meeting
   pub roots : HasRoots targets range
 
--- something is so of each index and of what is in work for it
-pub record EachFor (R : SoundTree → Meeting → Type 0) (trees : List SoundTree) (meetings : List Meeting) : Type 0 where
-  pub same : length meetings ≡ length trees
-  pub each : (k : ℕ) (tree : SoundTree) (meeting : Meeting) → k < length trees
-      → R (slice_index_or trees k tree) (slice_index_or meetings k meeting)
-
-abbrev pub AreInWork : Names → (done strays : SoundTree → Lists) → List LiveRow → List SoundTree → List Meeting
-    → Type 0
-AreInWork names done strays range =
-    EachFor (λ tree meeting. InWork names (done tree) (strays tree) range tree meeting)
-
--- for each index all of these rows are kept where those of the page in hand were kept at once, and else those that were
--- passed
+-- all of these rows are kept where those of the page in hand were kept at once, and else those that were passed
 abbrev pub rows_kept : Meeting → (all passed : List LiveRow) → List LiveRow
 rows_kept meeting all passed = cond meeting.has_page all passed
-
-abbrev pub AreKeptOf : Names → (done strays : SoundTree → Lists) → (all passed : List LiveRow) → List SoundTree
-    → List Meeting → Type 0
-AreKeptOf names done strays all passed =
-    EachFor (λ tree meeting. InWork names (done tree) (strays tree) (rows_kept meeting all passed) tree meeting)
-
--- of all rows those that are not left are kept, behind those that were before
-pub record HaveKept (names : Names) (done strays : SoundTree → Lists) (all left : List LiveRow) (trees : List SoundTree)
-    (meetings : List Meeting) : Type 0 where
-  pub range : List LiveRow
-  pub is : all ≡ range ++ left
-  pub each : AreKeptOf names done strays all range trees meetings
-
--- the names hold all, a cursor is behind the rows of a block, these rows of the range are in work, and what entries may
--- name has their roots
-pub record AreToFinish (names : Names) (ranges : Ranges) (targets : Option (List (List Bool))) (range : List LiveRow)
-    (meetings : List Meeting) (cursor : RowCursor) : Type 0 where
-  pub hold : HoldIt names ranges.at
-  pub behind : IsBehind names cursor
-  pub done : SoundTree → Lists
-  pub strays : SoundTree → Lists
-  pub work : AreInWork names done strays range ranges.at.trees.now meetings
-  pub roots : HasRoots targets range
-
--- all rows and all entries were judged, and no two entries have the same values, where it says so
-pub record IsJudged (case : CaseRecord) (names : Names) (blocks : ℕ) (targets : List (List Bool)) (tree : SoundTree)
-    (meeting : Meeting) : Type 0 where
-  pub lists : joined meeting.rows meeting.entries
-      ≡ joined (owed_for names tree (rows_from case names 0 blocks)) (strays_of names (Some targets) tree)
-  pub apart : meeting.apart ≡ true → AreApart names tree
-
--- so it is of each index of which it is known
-abbrev pub AreApartWhere : Names → List SoundTree → List Bool → Type 0
-AreApartWhere names trees aparts =
-    (k : ℕ) (tree : SoundTree) → k < length trees → slice_index_or aparts k false ≡ true
-    → AreApart names (slice_index_or trees k tree)

@@ -11,6 +11,7 @@ mod check;
 mod check_all;
 mod meeting;
 mod ranges;
+mod work;
 
 pub use check::check_indexed;
 pub use check_all::{IndexesMet, check_indexes, meet_indexes};

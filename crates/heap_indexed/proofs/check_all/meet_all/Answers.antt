@@ -1,25 +1,28 @@
-use Rattle.std.proofs.Common.{◌≡◌, ◌∙◌, ◌<◌, [], ℕ, List, length, map, refl, ap, sym, subst, arith}
-use Rattle.std.specs.Prelude.{All, Bool, false, slice_index_or}
+use Rattle.std.proofs.Common.{◌≡◌, ◌∙◌, ◌+◌, ◌*◌, ◌<◌, ◌≤◌, ℕ, List, length, refl, ap, sym, subst, get_or, arith}
+use Rattle.std.specs.Prelude.{All, Bool}
 use Rattle.rel_files.specs.Relation.{count_of}
-use Rattle.reports.specs.Added.{joined, nothing}
-use Rattle.bt_levels.specs.Files.{number_of}
-use Rattle.bt_levels.specs.Sound.{file_of}
+use Rattle.case_file.specs.Record.{CaseRecord}
+use Rattle.reports.specs.Added.{joined}
+use Rattle.bt_levels.specs.Files.{IsFileOf, number_of}
+use Rattle.bt_levels.specs.Sound.{IsSoundIndexOf, file_of}
 use Rattle.bt_levels.specs.declared.sound.SoundTree.{SoundTree}
+use Rattle.heap_table_check.specs.declared.files.SoundHeap.{SoundHeap}
 use Rattle.heap_table_check.specs.Case.{heap_blocks, heap_page}
 use Rattle.heap_table_check.specs.Files.{heap_in, targets_in}
 use Rattle.heap_rows.specs.RowCursor.{AreAsked, asked_at}
 use Rattle.heap_rows.specs.Rows.{rows_of}
-use Rattle.join_distinct.specs.Apart.{AreApart}
 use Rattle.join_rules.specs.Lists.{joined_lists}
-use Rattle.heap_indexed.specs.declared.meeting.Meeting.{Meeting}
-use Rattle.heap_indexed.specs.Meetings.{AreFirsts, AreInWork, EachFor, columns_of_all}
+use Rattle.join_row_keys.specs.Joined.{BelongTogether, HoldTogether}
+use Rattle.join_row_keys.proofs.Pages.{count-is, set-says}
 use Rattle.join_look_ups.specs.Rows.{rows_from}
 use Rattle.join_look_ups.proofs.Cases.{rows-are}
+use Rattle.join_look_ups.proofs.Owed.{rows-all}
+use Rattle.heap_indexed.specs.declared.work.IndexWork.{IndexWork}
+use Rattle.heap_indexed.specs.Meetings.{columns_of_all}
+use Rattle.heap_indexed.specs.Works.{AreWorksOf, tree_of}
 use Rattle.heap_indexed.proofs.Cases.{both-are, strays-are}
 use Rattle.heap_indexed.proofs.Columns.{all-there}
-use Rattle.heap_indexed.proofs.Each.{each-known, reports-are, written-back}
-use Rattle.join_look_ups.proofs.Owed.{rows-all}
-use Rattle.join_row_keys.proofs.Pages.{count-is, set-says}
+use Rattle.heap_indexed.proofs.WorkLaws.{each-of, still-of, works-many}
 use Rattle.heap_indexed.proofs.check_all.meet_all.Goals as goal
 
 pub new-requires-clause-asked : goal.new-requires-clause-asked
@@ -33,64 +36,68 @@ new-requires-clause-asked g c =
 pub judge_all-requires-clause-begun : goal.judge_all-requires-clause-begun
 judge_all-requires-clause-begun g c = c.in_ok-cursor.ensures.begun
 
-pub judge_all-requires-clause-hold : goal.judge_all-requires-clause-hold
-judge_all-requires-clause-hold g c = λ names told. c.requires.hold names told
+pub judge_all-requires-clause-holds : goal.judge_all-requires-clause-holds
+judge_all-requires-clause-holds g c = λ names told. (c.requires.hold names told).heap
+
+pub judge_all-requires-clause-quiet : goal.judge_all-requires-clause-quiet
+judge_all-requires-clause-quiet g c = λ names told. (c.requires.hold names told).quiet
+
+pub judge_all-requires-clause-each : goal.judge_all-requires-clause-each
+judge_all-requires-clause-each g c = λ names told.
+    each-of (λ (case : CaseRecord) (heap : SoundHeap) (tree : SoundTree). HoldTogether names case heap tree) c.args.at c.args.works.now c.requires.works (c.requires.hold names told).each
 
 pub judge_all-requires-clause-behind : goal.judge_all-requires-clause-behind
 judge_all-requires-clause-behind g c = λ names told.
     let hold = c.requires.hold names told in
     record { cursor_of = c.in_ok-cursor.ensures.told names hold.heap hold.quiet; none = c.in_ok-cursor.ensures.none names }
 
-pub judge_all-requires-clause-table : goal.judge_all-requires-clause-table
-judge_all-requires-clause-table g c =
+pub judge_all-requires-clause-work : goal.judge_all-requires-clause-work
+judge_all-requires-clause-work g c = λ names told. c.requires.work names
+
+pub judge_all-requires-clause-indexes : goal.judge_all-requires-clause-indexes
+judge_all-requires-clause-indexes g c =
     let cursor = c.in_ok-cursor.cursor in
-    let trees = c.args.at.trees.now in
-    let asked : AreAsked (columns_of_all trees) (asked_at cursor) =
+    let asked : AreAsked (columns_of_all c.args.at.trees.now) (asked_at cursor) =
     subst (λ (ks : List ℕ). AreAsked ks (asked_at cursor)) (c.deref.ensures.value ∙ c.in_ok-columns.ensures) c.in_ok-cursor.ensures.asked in
-    record {
-      belong = c.requires.belong;
-      case = c.in_ok-cursor.ensures.case;
-      heap = c.in_ok-cursor.ensures.heap;
-      firsts = subst (λ (ns : List ℕ). AreFirsts ns trees cursor) (sym c.deref-2.ensures.value) (c.in_ok-firsts.ensures cursor asked);
+    let belong = each-of (λ (case : CaseRecord) (heap : SoundHeap) (tree : SoundTree). BelongTogether case heap tree) c.args.at c.args.works.now c.requires.works c.requires.belong.each in
+    λ k d lt. record {
+      belong = belong k d lt;
+      case = c.in_ok-cursor.ensures.case ∙ sym (c.requires.works.each k d lt).case_is;
+      heap = c.in_ok-cursor.ensures.heap ∙ sym (c.requires.works.each k d lt).heap_is;
+      asked = c.requires.asks cursor asked k d lt;
     }
 
-pub judge_all-requires-clause-work : goal.judge_all-requires-clause-work
-judge_all-requires-clause-work g c = λ names told.
-    subst (λ (ms : List Meeting). AreInWork names (λ (t : SoundTree). nothing) (λ (t : SoundTree). nothing) [] c.args.at.trees.now ms) (sym c.deref_mut.ensures.value) (c.in_ok-meetings.ensures.work names)
-
-pub returns-clause-reports : goal.returns-clause-reports
-returns-clause-reports g c = λ names told.
+pub returns-clause-met : goal.returns-clause-met
+returns-clause-met g c = λ names told.
     let case = c.args.at.case.now in
     let heap = c.args.at.heap.now in
-    let trees = c.args.at.trees.now in
     let hold = c.requires.hold names told in
     let set : List (List Bool) = targets_in heap in
+    let works = c.judge_all.new.works in
     let blocks : count_of (heap_in heap) ≡ heap_blocks case names = count-is case names heap c.requires.belong.heap hold.heap in
     let says = set-says case names heap c.requires.belong.heap hold.heap set refl (c.set_tells_of_pages.ensures.tells (heap_page case names) (heap_blocks case names)) in
+    let rows : rows_from case names 0 (count_of (heap_in heap)) ≡ rows_of case names = ap (rows_from case names 0) blocks ∙ rows-all case names in
     let judged = c.in_ok-judge_all.ensures.judged names told in
-    let all : EachFor (λ (tree : SoundTree) (m : Meeting). joined m.rows m.entries ≡ joined_lists case names (number_of (file_of tree))) trees c.judge_all.new.meetings = record {
-      same = judged.same;
-      each = λ k t d lt.
-          let tree : SoundTree = slice_index_or trees k t in
-          let index = (c.requires.belong.each k t lt).index in
-          let file = (hold.each k t lt).file in
-          let rows : rows_from case names 0 (count_of (heap_in heap)) ≡ rows_of case names = ap (rows_from case names 0) blocks ∙ rows-all case names in
-          (judged.each k t d lt).lists
+    let are : AreWorksOf c.args.at works = still-of c.args.at c.args.works.now works c.in_ok-judge_all.ensures.indexes c.requires.works in
+    let belong = each-of (λ (case : CaseRecord) (heap : SoundHeap) (tree : SoundTree). BelongTogether case heap tree) c.args.at works are c.requires.belong.each in
+    let holds = each-of (λ (case : CaseRecord) (heap : SoundHeap) (tree : SoundTree). HoldTogether names case heap tree) c.args.at works are hold.each in
+    λ k d lt.
+    let w : IndexWork = get_or works k d in
+    let of : w.index.at.case.now ≡ case = (are.each k d lt).case_is in
+    let tree : SoundTree = tree_of w in
+    let index = subst (λ (own : CaseRecord). IsSoundIndexOf own (number_of (file_of tree)) tree) of (belong k d lt).index in
+    let file = subst (λ (own : CaseRecord). IsFileOf own names (file_of tree)) of (holds k d lt).file in
+    record {
+      lists =
+          (judged k d lt).lists
           ∙ (λ i. joined (rows-are case names tree index file _ rows i) (strays-are case names tree index file set says i))
-          ∙ sym (both-are case names (number_of (file_of tree)));
-    } in
-    let end = written-back c.in_ok-meetings.meetings.len c.judge_all.new.meetings c.in_ok-meetings.meetings.items (omega (arith, c.in_ok-meetings.ensures.count, judged.same, c.deref_mut.ensures.len, ap length c.deref_mut.ensures.value)) in
-    c.in_ok-reports.ensures ∙ ap (λ (ms : List Meeting). map (λ (m : Meeting). joined m.rows m.entries) ms) end ∙ reports-are (λ (tree : SoundTree). joined_lists case names (number_of (file_of tree))) trees c.judge_all.new.meetings all
-
-pub returns-clause-aparts : goal.returns-clause-aparts
-returns-clause-aparts g c = λ names told k tree lt known.
-    let trees = c.args.at.trees.now in
-    let judged = c.in_ok-judge_all.ensures.judged names told in
-    let meetings : List Meeting = c.judge_all.new.meetings in
-    let end = written-back c.in_ok-meetings.meetings.len meetings c.in_ok-meetings.meetings.items (omega (arith, c.in_ok-meetings.ensures.count, judged.same, c.deref_mut.ensures.len, ap length c.deref_mut.ensures.value)) in
-    let are = c.in_ok-aparts.ensures.are ∙ ap (map (λ (m : Meeting). m.apart)) (c.deref-3.ensures.value ∙ end) in
-    each-known (AreApart names) trees meetings (record { same = judged.same; each = λ j t d below. (judged.each j t d below).apart }) k tree lt
-    (ap (λ (l : List Bool). slice_index_or l k false) (sym are) ∙ known)
+          ∙ sym (both-are case names (number_of (file_of tree)))
+          ∙ ap (λ (own : CaseRecord). joined_lists own names (number_of (file_of tree))) (sym of);
+      apart = (judged k d lt).apart;
+    }
 
 pub returns-clause-blocks : goal.returns-clause-blocks
-returns-clause-blocks g c = omega (arith, c.taken-blocks.ensures, c.in_ok-judge_all.ensures.taken, c.in_ok-cursor.ensures.taken)
+returns-clause-blocks g c =
+    let many : length c.args.works.now ≡ length c.args.at.trees.now = works-many c.args.at c.args.works.now c.requires.works in
+    let here = c.in_ok-judge_all.ensures.taken in
+    subst (λ (m : ℕ). c.taken-blocks.result ≤ count_of (heap_in c.args.at.heap.now) * (1 + m)) many (omega (arith, c.taken-blocks.ensures, here, c.in_ok-cursor.ensures.taken))
