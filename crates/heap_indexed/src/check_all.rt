@@ -126,8 +126,8 @@ pub struct IndexesMet {
     pub blocks: u64,
 }
 
-// What is found of the rows and the entries of each index (X1, U6, X2), told by entries that meet rows; how many times a
-// block of the heap was taken in hand.
+// What is found of the rows and the entries of each index (X1, U6, X2), told by entries that meet rows; how many times
+// a block of the heap was taken in hand.
 fn meet_all<F: Files>(
     alloc: Global,
     files: &mut F,

@@ -181,7 +181,8 @@ fn keep_block<F: Files>(
     requires behind { IfTold F.seen files.old (λ names. IsBehind names cursor.old) }
     ensures kept { IfTold F.seen files.old (λ names. OnOk result
         ((done strays : Tree → Lists) (range : List Row) → AreInWork names done strays range works.old
-        → AreInWork names done strays (range ++ block_rows (case_at cursor.old) names (next_in cursor.old)) works.new)) }
+        → AreInWork names done strays (range ++ block_rows (case_at cursor.old) names (next_in cursor.old))
+        works.new)) }
     ensures indexes { OnOk result (indexes_of works.new ≡ indexes_of works.old) }
     ensures behind { IfTold F.seen files.old (λ names. OnOk result (IsBehind names cursor.new)) }
     ensures next_block { OnOk result (next_in cursor.new ≡ next_in cursor.old + 1) }

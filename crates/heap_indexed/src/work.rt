@@ -94,7 +94,8 @@ impl<'a> IndexWork<'a> {
         requires begun { first ≤ next_in cursor.old }
         requires end { next_in cursor.old ≤ count_of (heap_in self.old.index.at.heap.now) }
         requires told { IfTold F.seen files.old (λ names. IsToFinish names self.old.index (option_copied targets)
-            (rows_from self.old.index.at.case.now names first (next_in cursor.old - first)) self.old.meeting cursor.old) }
+            (rows_from self.old.index.at.case.now names first (next_in cursor.old - first)) self.old.meeting
+            cursor.old) }
         ensures work { IfTold F.seen files.old (λ names. (done strays : Lists) → IsInWork names done strays
             (rows_from self.old.index.at.case.now names first (next_in cursor.old - first)) self.old
             → OnOk result (IsInWork names (joined done (owed_for names (tree_of self.old)
