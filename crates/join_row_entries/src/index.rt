@@ -1,5 +1,5 @@
 //! An index of a case, for which rows are read.
-ghost use Rattle.std.specs.Prelude.{◌≡◌, ◌≤◌, ◌∷◌, [], List, None, Some, if◌then◌else◌, false, length, true};
+ghost use Rattle.std.specs.Prelude.{◌≡◌, ◌≤◌, ◌∷◌, [], List, None, Some, if◌then◌else◌, false, length};
 ghost use Rattle.std.specs.Bool.{OnTrue};
 ghost use Rattle.outside.specs.Outside.{Names};
 ghost use Rattle.key_attrs.specs.Columns.{tree_columns};
