@@ -1,2 +1,7 @@
+mod ColumnReads
+mod Depths
+mod IndexReads
 mod Pairs
+mod Places
 mod Puts
+mod ReadsBack

@@ -1,5 +1,5 @@
 -- The document that tells the parts of a case.
-use Rattle.std.specs.Prelude.{ℕ, pos, List, [], ◌∷◌, ◌++◌, map, Bool, true, false, Option, Some, None, codes, String}
+use Rattle.std.specs.Prelude.{ℕ, pos, List, [], ◌∷◌, ◌++◌, map, Bool, true, false, Option, Some, None, option_map, codes, String}
 use Rattle.std.specs.Prelude.{string_bytes, Vec}
 use Rattle.std.specs.declared.alloc.Global.{Global}
 use Rattle.std.specs.Cmp.Lexicographic.{slice_cmp}
@@ -66,23 +66,35 @@ toast_pairs None = []
 unfoldable pub heap_pairs : TablePart → List Pair
 heap_pairs t = (codes "file", text t.file) ∷ toast_pairs t.toast
 
--- the length and the alignment of a type that is told by them
-unfoldable pub storage_pairs : ColType → List Pair
-storage_pairs (Fixed len align) = (codes "len", number len) ∷ (codes "align", number align) ∷ []
-storage_pairs (Varlena align) = (codes "align", number align) ∷ []
-storage_pairs ctype = []
+-- a pair for a value that is there
+abbrev pub number_pairs : List ℕ → Option ℕ → List Pair
+number_pairs k (Some n) = (k, number n) ∷ []
+number_pairs k None = []
+
+abbrev pub text_pairs : List ℕ → Option (List ℕ) → List Pair
+text_pairs k (Some s) = (k, string s) ∷ []
+text_pairs k None = []
+
+-- the length of a type that is told by it, and the alignment
+abbrev pub told_len : ColType → Option ℕ
+told_len (Fixed len align) = Some len
+told_len _ = None
+
+abbrev pub told_align : ColType → Option ℕ
+told_align (Fixed len align) = Some align
+told_align (Varlena align) = Some align
+told_align _ = None
 
 -- the bytes of a missing value, in hexadecimal
-unfoldable pub missing_pairs : Option (Vec ℕ Global) → List Pair
-missing_pairs (Some bytes) = (codes "missing", string (encode_lower bytes.items)) ∷ []
-missing_pairs None = []
+abbrev pub missing_digits : Option (Vec ℕ Global) → Option (List ℕ)
+missing_digits missing = option_map (λ bytes. encode_lower bytes.items) missing
 
 unfoldable pub column_pairs : ColumnPart → List Pair
 column_pairs c =
-    (codes "name", text c.name)
-    ∷ (codes "type", string (word_of c.ctype))
-    ∷ storage_pairs c.ctype
-    ++ missing_pairs c.missing
+    ((codes "name", text c.name) ∷ (codes "type", string (word_of c.ctype)) ∷ [])
+    ++ number_pairs (codes "len") (told_len c.ctype)
+    ++ number_pairs (codes "align") (told_align c.ctype)
+    ++ text_pairs (codes "missing") (missing_digits c.missing)
 
 unfoldable pub column_data : ColumnPart → Data
 column_data c = table (members_with (column_pairs c))

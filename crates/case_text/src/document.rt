@@ -1,15 +1,15 @@
 //! The document that tells the parts of a case.
-ghost use Rattle.std.specs.Prelude.{◌≡◌, map, string_bytes, IfOk, OnOk};
+ghost use Rattle.std.specs.Prelude.{◌≡◌, map, codes, string_bytes, IfOk, OnOk};
 ghost use Rattle.case_rules.specs.Rules.{word_of};
 ghost use Rattle.toml.specs.View.{table_view, view};
 ghost use Rattle.case_text.specs.Written.{cluster_pairs, column_data, column_pairs, document_told, heap_pairs};
-ghost use Rattle.case_text.specs.Written.{index_data, index_pairs, is_unique, key_data, key_pairs, missing_pairs};
-ghost use Rattle.case_text.specs.Written.{more_data, storage_pairs, takes_nulls_as_equal, toast_pairs, top_pairs};
+ghost use Rattle.case_text.specs.Written.{index_data, index_pairs, is_unique, key_data, key_pairs, missing_digits};
+ghost use Rattle.case_text.specs.Written.{more_data, takes_nulls_as_equal, text_pairs, toast_pairs, told_align, told_len, top_pairs};
 ghost use Rattle.case_text.specs.Written.{members_with, with_pairs};
 
 use crate::found::name_at;
 use crate::parts::{ClusterPart, ColumnPart, IndexPart, KeyPart, TablePart, ToastPart};
-use crate::put::{put_flag, put_number, put_table, put_text, put_values};
+use crate::put::{put_flag, put_number, put_number_if, put_table, put_text, put_values};
 use case_file::Unique;
 use key_orders::ColType;
 use outside::NoMemory;
@@ -72,23 +72,27 @@ fn word_of(ctype: ColType) -> &'static str
     }
 }
 
-#[tactic(auto, unfolding(crate::specs::Written::storage_pairs))]
-fn put_storage(alloc: Global, out: &mut Table, ctype: ColType) -> Result<(), NoMemory>
-    ensures { OnOk result (table_view out.new ≡ with_pairs (storage_pairs ctype) (table_view out.old)) }
+fn told_len(ctype: ColType) -> Option<u32>
+    ensures { result ≡ told_len ctype }
 {
     match ctype {
-        ColType::Fixed { len, align } => {
-            put_number(alloc, out, "len", u32::from(len))?;
-            put_number(alloc, out, "align", u32::from(align))
-        }
-        ColType::Varlena { align } => put_number(alloc, out, "align", u32::from(align)),
-        _ => Ok(()),
+        ColType::Fixed { len, .. } => Some(u32::from(len)),
+        _ => None,
     }
 }
 
-#[tactic(auto, unfolding(crate::specs::Written::missing_pairs))]
+fn told_align(ctype: ColType) -> Option<u32>
+    ensures { result ≡ told_align ctype }
+{
+    match ctype {
+        ColType::Fixed { align, .. } | ColType::Varlena { align } => Some(u32::from(align)),
+        _ => None,
+    }
+}
+
 fn put_missing(alloc: Global, out: &mut Table, missing: &Option<Vec<u8>>) -> Result<(), NoMemory>
-    ensures { OnOk result (table_view out.new ≡ with_pairs (missing_pairs missing.now) (table_view out.old)) }
+    ensures { OnOk result (table_view out.new
+        ≡ with_pairs (text_pairs (codes "missing") (missing_digits missing.now)) (table_view out.old)) }
 {
     match missing {
         Some(bytes) => {
@@ -105,7 +109,8 @@ fn put_column(alloc: Global, out: &mut Table, column: &ColumnPart) -> Result<(),
 {
     put_text(alloc, out, "name", column.name.as_str())?;
     put_text(alloc, out, "type", word_of(column.ctype))?;
-    put_storage(alloc, out, column.ctype)?;
+    put_number_if(alloc, out, "len", told_len(column.ctype))?;
+    put_number_if(alloc, out, "align", told_align(column.ctype))?;
     put_missing(alloc, out, &column.missing)
 }
 

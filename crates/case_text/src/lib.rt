@@ -7,6 +7,7 @@ mod document;
 mod fault;
 mod found;
 mod parts;
+mod plain;
 mod put;
 mod text;
 

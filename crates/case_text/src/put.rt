@@ -2,7 +2,7 @@
 ghost use Rattle.std.specs.Prelude.{◌≡◌, pos, map, OnOk};
 ghost use Rattle.toml.specs.Data.{boolean, integer, string, table};
 ghost use Rattle.toml.specs.View.{table_view, view};
-ghost use Rattle.case_text.specs.Written.{values, with_member};
+ghost use Rattle.case_text.specs.Written.{number_pairs, values, with_member, with_pairs};
 
 use outside::NoMemory;
 use std::alloc::Global;
@@ -32,6 +32,21 @@ pub fn put_number(alloc: Global, out: &mut Table, key: &str, n: u32) -> Result<(
     ensures { OnOk result (table_view out.new ≡ with_member key.now (integer (pos n)) (table_view out.old)) }
 {
     put(alloc, out, key, Value::Integer(i64::from(n)))
+}
+
+/// Puts a number at a key, where there is one.
+pub fn put_number_if(
+    alloc: Global,
+    out: &mut Table,
+    key: &str,
+    n: Option<u32>,
+) -> Result<(), NoMemory>
+    ensures { OnOk result (table_view out.new ≡ with_pairs (number_pairs key.now n) (table_view out.old)) }
+{
+    match n {
+        Some(n) => put_number(alloc, out, key, n),
+        None => Ok(()),
+    }
 }
 
 /// Puts a Boolean at a key.

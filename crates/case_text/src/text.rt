@@ -10,6 +10,7 @@ use crate::document::document_of;
 use crate::fault::CaseTextFault;
 use crate::found::are_found;
 use crate::parts::{ClusterPart, TablePart};
+use crate::plain::{cluster_is_plain, table_is_plain};
 use case_file::{CaseFault, read_case};
 use outside::NoMemory;
 use std::alloc::Global;
@@ -39,12 +40,17 @@ pub fn case_text(
     ensures found { IfOk result (λ _. are_found table.now ≡ true) }
     ensures refused { IfErr result (TellsText cluster.now table.now) }
 {
+    table_is_plain(table);
+    cluster_is_plain(cluster);
     if !are_found(table) {
         return Err(CaseTextFault::NotFound);
     }
     let text = printed(alloc, cluster, table)?;
     match read_case(alloc, text.as_str().as_bytes()) {
-        Ok(_) => Ok(text),
+        Ok(case) => {
+            case.sound();
+            Ok(text)
+        }
         Err(CaseFault::Refused { rule, place }) => Err(CaseTextFault::Refused { rule, place }),
         Err(CaseFault::NoMemory) => Err(CaseTextFault::NoMemory),
     }
