@@ -5,3 +5,4 @@ mod Pairs
 mod Places
 mod Puts
 mod ReadsBack
+mod Texts

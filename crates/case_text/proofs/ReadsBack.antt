@@ -76,7 +76,7 @@ unfolding index_data
 index_is_table cs i = refl
 
 -- the columns and the indexes of the document
-columns_in : (c : ClusterPart) (t : TablePart) → tables_at (codes "column") (document_told c t) ≡ map column_data t.columns.items
+pub columns_in : (c : ClusterPart) (t : TablePart) → tables_at (codes "column") (document_told c t) ≡ map column_data t.columns.items
 unfolding document_told top_pairs tables_at with_member
 columns_in c t = tables_back (map column_data t.columns.items) (are_tables column_data t.columns.items column_is_table)
 

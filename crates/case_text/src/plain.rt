@@ -1,4 +1,5 @@
 //! Laws: each number and each byte of the parts is in the range of its type.
+ghost use Rattle.std.specs.Prelude.{◌<◌};
 ghost use Rattle.hex.specs.Hex.{IsBytes};
 ghost use Rattle.std.specs.List.{AllByRecursion};
 ghost use Rattle.case_text.specs.Plain.{AreBytes, IsPlainCluster, IsPlainColumn, IsPlainTable, IsPlainToast};
@@ -6,6 +7,12 @@ ghost use Rattle.case_text.specs.Plain.{IsStorable};
 
 use crate::parts::{ClusterPart, ColumnPart, TablePart, ToastPart};
 use key_orders::ColType;
+
+fn is_small(n: u32)
+    ensures { n < 4294967296 }
+{
+    let _kept = n;
+}
 
 fn type_is_storable(ctype: ColType)
     ensures { IsStorable ctype }
@@ -55,9 +62,7 @@ fn toast_is_plain(toast: &Option<ToastPart>)
     ensures { IsPlainToast toast.now }
 {
     match toast {
-        Some(toast) => {
-            let _oid = toast.oid;
-        }
+        Some(toast) => is_small(toast.oid),
         None => {}
     }
 }
@@ -74,6 +79,10 @@ pub fn table_is_plain(table: &TablePart)
 pub fn cluster_is_plain(cluster: &ClusterPart)
     ensures { IsPlainCluster cluster.now }
 {
-    let _blocks = cluster.segment_blocks;
-    let _counters = cluster.counters;
+    is_small(cluster.segment_blocks);
+    is_small(cluster.counters.next_xid);
+    is_small(cluster.counters.oldest_xid);
+    is_small(cluster.counters.next_multi);
+    is_small(cluster.counters.oldest_multi);
+    is_small(cluster.counters.next_member);
 }
