@@ -1,21 +1,17 @@
 -- What is read of a column that is written.
-use Rattle.std.proofs.Common.{◌≡◌, ℕ, pos, ◌<◌, List, [], ◌∷◌, ◌++◌, map, Bool, true, false, ◌&&◌, cond, Option, Some, None, is_some, option_map, unwrap_or}
-use Rattle.std.proofs.Common.{find, codes, string_bytes, Vec, Global, refl, sym, ap, ◌∙◌, arith}
+use Rattle.std.proofs.Common.{◌≡◌, ℕ, pos, ◌<◌, List, [], ◌∷◌, ◌++◌, map, Bool, true, false, ◌&&◌, cond, Option, Some, None, is_some, unwrap_or}
+use Rattle.std.proofs.Common.{find, codes, string_bytes, Vec, Global, refl, ap, ◌∙◌, arith}
 use Rattle.std.proofs.lemmas.Bool.{lt-ltb}
 use Rattle.std.specs.List.{AllByRecursion}
 use Rattle.std.specs.Option.{option_map_or}
-use Rattle.std.specs.Str.{bytes_eq}
-use Rattle.hex.specs.Hex.{encode_lower}
 use Rattle.hex.proofs.HexLemmas.{decode_of-encode_lower}
 use Rattle.key_orders.specs.declared.columns.ColType.{ColType}
 use Rattle.key_orders.specs.declared.columns.ColType.TheVariants.{Bool as BoolType, Int2, Int4, Int8, Uuid, Text, Bytea}
 use Rattle.key_orders.specs.declared.columns.ColType.TheVariants.{Oid, Date, Timestamp, Timestamptz, Fixed, Varlena}
 use Rattle.key_orders.specs.Types.{may_be_key}
-use Rattle.key_orders.specs.Values.{value_in}
 use Rattle.toml.specs.Data.{Members, string, members_depth}
 use Rattle.case_rules.specs.Rules.{has_key_type, has_name, has_type, is_key_column, key_type, key_types, same_text, word_of}
 use Rattle.case_rules.specs.Tables.{below_2_32, number_at, text_at}
-use Rattle.case_file.specs.declared.case.Column.{Column}
 use Rattle.case_file.specs.Columns.{below_or_zero, column_of, decoded, missing_of, stored_type, told_type}
 use Rattle.case_text.specs.declared.parts.ColumnPart.{ColumnPart}
 use Rattle.case_text.specs.Plain.{AreBytes, IsPlainColumn, IsStorable}

@@ -1,6 +1,5 @@
 -- How deep the document that is written nests.
-use Rattle.std.proofs.Common.{◌≡◌, ℕ, zero, suc, ◌≤◌, max, List, [], ◌∷◌, ◌++◌, map, Option, Some, None, codes, string_bytes, refl, arith}
-use Rattle.std.specs.List.{AllByRecursion}
+use Rattle.std.proofs.Common.{◌≡◌, ℕ, ◌≤◌, max, List, [], ◌∷◌, map, Option, Some, None, codes, string_bytes, refl, arith}
 use Rattle.toml.specs.Data.{Data, depth, items_depth, members_depth, string}
 use Rattle.toml.specs.View.{items_of}
 use Rattle.case_text.specs.declared.parts.ClusterPart.{ClusterPart}

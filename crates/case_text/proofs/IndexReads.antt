@@ -1,13 +1,12 @@
 -- What is read of an index that is written.
-use Rattle.std.proofs.Common.{◌≡◌, ℕ, ◌<◌, ◌≤◌, List, [], ◌∷◌, length, map, Bool, true, false, ◌&&◌, cond, Option, Some, None, option_map, option_and_then}
-use Rattle.std.proofs.Common.{unwrap_or, codes, refl, sym, ap, ◌∙◌, arith, string_bytes}
+use Rattle.std.proofs.Common.{◌≡◌, ℕ, ◌<◌, ◌≤◌, List, [], ◌∷◌, length, map, Bool, true, false, cond, Option, Some, None, option_map, option_and_then}
+use Rattle.std.proofs.Common.{unwrap_or, refl, sym, ap, ◌∙◌, arith, string_bytes}
 use Rattle.std.proofs.lemmas.Bool.{and_parts, false≢true, lt-ltb}
 use Rattle.std.proofs.lemmas.Option.{slice_get-map}
-use Rattle.std.specs.List.{list_all, position, slice_get}
+use Rattle.std.specs.List.{list_all, slice_get}
 use Rattle.std.specs.Option.{option_map_or}
-use Rattle.key_orders.specs.declared.columns.ColType.{ColType}
 use Rattle.key_orders.specs.declared.columns.ColType.TheVariants.{Text}
-use Rattle.toml.specs.Data.{Data, as_table, string, table}
+use Rattle.toml.specs.Data.{Data, as_table}
 use Rattle.toml.specs.View.{items_of}
 use Rattle.case_rules.specs.Rules.{has_name, is_key_column}
 use Rattle.case_rules.specs.Tables.{as_tables, flag_in, if_tables, is_table, tables_at, tables_in, text_at, text_in, values_at, values_of}
@@ -15,13 +14,13 @@ use Rattle.case_file.specs.declared.case.Column.{Column}
 use Rattle.case_file.specs.declared.case.Unique.{Unique}
 use Rattle.case_file.specs.declared.case.Unique.TheVariants.{No, NullsDistinct, NullsEqual}
 use Rattle.case_file.specs.Columns.{below_or_zero, column_of, told_type}
-use Rattle.case_file.specs.Indexes.{any_column_named, column_named, index_of, key_of, keys_in, more_in, more_of, table_of, unique_in}
+use Rattle.case_file.specs.Indexes.{any_column_named, column_named, index_of, key_of, more_of, table_of, unique_in}
 use Rattle.case_text.specs.declared.parts.ColumnPart.{ColumnPart}
 use Rattle.case_text.specs.declared.parts.IndexPart.{IndexPart}
 use Rattle.case_text.specs.declared.parts.KeyPart.{KeyPart}
 use Rattle.case_text.specs.Told.{column_told, index_is_found, index_told, is_key_named, is_named, key_is_found, key_told, more_is_found, more_told}
 use Rattle.case_text.specs.Told.{name_at, type_at}
-use Rattle.case_text.specs.Written.{column_data, index_data, index_pairs, is_unique, key_data, key_pairs, members_with, more_data, takes_nulls_as_equal}
+use Rattle.case_text.specs.Written.{column_data, index_data, index_pairs, is_unique, key_data, key_pairs, more_data, takes_nulls_as_equal}
 use Rattle.case_text.specs.Written.{values, with_member}
 use Rattle.case_text.proofs.ColumnReads.{key_named_back, named_back}
 use Rattle.case_text.proofs.Places.{below_length, is_there, same_place}
@@ -37,6 +36,7 @@ tables_back ds all = ap if_or_none (values_back ds) ∙ taken (list_all is_table
   where
     if_or_none : List Data → List Data
     if_or_none ds = unwrap_or (if_tables ds) []
+
     taken : (all : Bool) → all ≡ true → unwrap_or (cond all (Some ds) None) [] ≡ ds
     taken true h = refl
     taken false h = absurd (false≢true h)

@@ -1,6 +1,6 @@
 -- Where a list has the first element that passes a test.
-use Rattle.std.proofs.Common.{◌≡◌, ℕ, ◌+◌, ◌<◌, List, [], ◌∷◌, length, map, Bool, true, false, not, cond, nat_lt, Option, Some, None, refl, ap}
-use Rattle.std.proofs.Common.{sym, ◌∙◌, inl, inr}
+use Rattle.std.proofs.Common.{◌≡◌, ℕ, ◌+◌, ◌<◌, List, [], ◌∷◌, length, map, Bool, true, not, cond, nat_lt, Option, Some, None, refl, ap}
+use Rattle.std.proofs.Common.{inl, inr}
 use Rattle.std.proofs.lemmas.Bool.{cases_Bool, eqb-true, false≢true, ltb-true}
 use Rattle.std.proofs.lemmas.List.{length-map}
 use Rattle.std.proofs.lemmas.Option.{none-some}
@@ -26,15 +26,16 @@ place_below : (n len k : ℕ) → cond (nat_lt n len) (Some n) None ≡ Some k �
 place_below n len k is =
     elim (cases_Bool (nat_lt n len)) [
       | inl below ↦
-        let same : Some n ≡ Some k = rw below at is in
-        let here : n ≡ k = some_same n k same in
-        rw here at (ltb-true n len below)
+          let same : Some n ≡ Some k = rw below at is in
+          let here : n ≡ k = some_same n k same in
+          rw here at (ltb-true n len below)
       | inr past ↦ absurd (none-some k (rw past at is))
     ]
   where
     or_n : ℕ → Option ℕ → ℕ
     or_n n (Some m) = m
     or_n n None = n
+
     some_same : (n k : ℕ) → Some n ≡ Some k → n ≡ k
     some_same n k same = ap (or_n n) same
 

@@ -1,10 +1,8 @@
 -- What is read of the document that is written.
-use Rattle.std.proofs.Common.{◌≡◌, ℕ, pos, ◌<◌, ◌≤◌, List, ◌∷◌, length, map, true, Option, Some, None, option_map, option_and_then, codes, refl, ap, ◌∙◌}
-use Rattle.std.proofs.Common.{string_bytes, cond}
+use Rattle.std.proofs.Common.{◌≡◌, ℕ, pos, ◌<◌, ◌≤◌, List, ◌∷◌, length, map, true, Option, Some, None, codes, refl, ap, ◌∙◌}
+use Rattle.std.proofs.Common.{string_bytes}
 use Rattle.std.proofs.lemmas.Bool.{lt-ltb}
-use Rattle.std.specs.List.{AllByRecursion, list_all}
-use Rattle.rel_files.specs.declared.cluster.Cluster.{Cluster}
-use Rattle.toml.specs.Data.{Data, Members, string}
+use Rattle.toml.specs.Data.{Members, string}
 use Rattle.case_rules.specs.Rules.{at_least_one}
 use Rattle.case_rules.specs.Tables.{below_2_32, has, is_table, number_at, number_in, table_at, tables_at, text_at, text_in}
 use Rattle.case_file.specs.Case.{cluster_of, record_of, segment_blocks_of, toast_of}
@@ -16,7 +14,7 @@ use Rattle.case_text.specs.declared.parts.IndexPart.{IndexPart}
 use Rattle.case_text.specs.declared.parts.TablePart.{TablePart}
 use Rattle.case_text.specs.declared.parts.ToastPart.{ToastPart}
 use Rattle.case_text.specs.Plain.{IsPlainCluster, IsPlainTable, IsPlainToast}
-use Rattle.case_text.specs.Told.{are_found, case_told, counters_told, index_is_found, toast_told}
+use Rattle.case_text.specs.Told.{are_found, case_told, counters_told, toast_told}
 use Rattle.case_text.specs.Written.{cluster_pairs, column_data, document_told, heap_pairs, index_data, members_with, toast_pairs, top_pairs, with_member}
 use Rattle.case_text.proofs.ColumnReads.{columns_back}
 use Rattle.case_text.proofs.IndexReads.{AreBack, are_tables, indexes_back, tables_back}
@@ -118,7 +116,7 @@ reads_back c t small plain few found =
     let columns = ap (map column_of) written ∙ back.columns in
     let listed = indexes_in c t in
     let read : map (index_of (tables_at (codes "column") (document_told c t))) (tables_at (codes "index") (document_told c t))
-        ≡ map (index_of (map column_data cs)) (map (index_data cs) t.indexes.items) =
+    ≡ map (index_of (map column_data cs)) (map (index_data cs) t.indexes.items) =
     λ i. map (index_of (written i)) (listed i) in
     let indexes = read ∙ indexes_back cs back t.indexes.items found in
     λ i. record {

@@ -1,11 +1,10 @@
 -- What the text of the document means.
-use Rattle.std.proofs.Common.{◌≡◌, ℕ, ◌≤◌, List, length, map, Bool, true, cond, Option, Some, None, Result, Ok, Err, codes, refl, sym, ap, ◌∙◌, subst}
+use Rattle.std.proofs.Common.{◌≡◌, ℕ, ◌≤◌, List, length, map, true, cond, Option, Some, None, Ok, Err, codes, refl, sym, ap, ◌∙◌, subst}
 use Rattle.std.proofs.lemmas.List.{length-map}
 use Rattle.std.specs.Str.{is_utf8}
 use Rattle.toml.specs.Data.{Members}
 use Rattle.toml.specs.Parse.{parse_document}
 use Rattle.case_rules.specs.declared.fault.CaseRule.{CaseRule}
-use Rattle.case_rules.specs.Rules.{at_least_one}
 use Rattle.case_rules.specs.Spots.{Spot}
 use Rattle.case_rules.specs.Tables.{tables_at}
 use Rattle.case_file.specs.Case.{Meaning, case_of, document_of, judged, meaning_of, record_of}
@@ -33,6 +32,7 @@ case_meant top None case is = ok_same (record_of top) case is
     ok_or : CaseRecord → Meaning → CaseRecord
     ok_or case (Ok c) = c
     ok_or case (Err e) = case
+
     ok_same : (a b : CaseRecord) → ◌≡◌ {A = Meaning} (Ok a) (Ok b) → a ≡ b
     ok_same a b same = ap (ok_or a) same
 

@@ -4,7 +4,8 @@ ghost use Rattle.case_rules.specs.Rules.{word_of};
 ghost use Rattle.toml.specs.View.{table_view, view};
 ghost use Rattle.case_text.specs.Written.{cluster_pairs, column_data, column_pairs, document_told, heap_pairs};
 ghost use Rattle.case_text.specs.Written.{index_data, index_pairs, is_unique, key_data, key_pairs, missing_digits};
-ghost use Rattle.case_text.specs.Written.{more_data, takes_nulls_as_equal, text_pairs, toast_pairs, told_align, told_len, top_pairs};
+ghost use Rattle.case_text.specs.Written.{more_data, takes_nulls_as_equal, text_pairs, toast_pairs, told_align};
+ghost use Rattle.case_text.specs.Written.{told_len, top_pairs};
 ghost use Rattle.case_text.specs.Written.{members_with, with_pairs};
 
 use crate::found::name_at;
@@ -221,9 +222,19 @@ fn put_index(
     put_text(alloc, out, "name", index.name.as_str())?;
     put_text(alloc, out, "file", index.file.as_str())?;
     put_values(alloc, out, "key", key_values(alloc, columns, &index.keys)?)?;
-    put_values(alloc, out, "include", more_values(alloc, columns, &index.more)?)?;
+    put_values(
+        alloc,
+        out,
+        "include",
+        more_values(alloc, columns, &index.more)?,
+    )?;
     put_flag(alloc, out, "unique", is_unique(index.unique))?;
-    put_flag(alloc, out, "nulls_not_distinct", takes_nulls_as_equal(index.unique))
+    put_flag(
+        alloc,
+        out,
+        "nulls_not_distinct",
+        takes_nulls_as_equal(index.unique),
+    )
 }
 
 #[tactic(auto, unfolding(crate::specs::Written::index_data), using(crate::proofs::Puts::value_laws))]

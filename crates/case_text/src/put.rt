@@ -73,12 +73,7 @@ pub fn put_values(
 
 /// Puts a table at a key.
 #[tactic(auto, using(crate::proofs::Puts::value_laws))]
-pub fn put_table(
-    alloc: Global,
-    out: &mut Table,
-    key: &str,
-    inner: Table,
-) -> Result<(), NoMemory>
+pub fn put_table(alloc: Global, out: &mut Table, key: &str, inner: Table) -> Result<(), NoMemory>
     ensures { OnOk result
         (table_view out.new ≡ with_member key.now (table (table_view inner)) (table_view out.old)) }
 {
