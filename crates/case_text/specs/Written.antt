@@ -1,6 +1,6 @@
 -- The document that tells the parts of a case.
-use Rattle.std.specs.Prelude.{ℕ, pos, List, [], ◌∷◌, ◌++◌, map, Bool, true, false, Option, Some, None, option_map, codes, String}
-use Rattle.std.specs.Prelude.{string_bytes, Vec}
+use Rattle.std.specs.Prelude.{ℕ, pos, List, [], ◌∷◌, ◌++◌, map, Bool, true, false, Option, Some, None, option_map}
+use Rattle.std.specs.Prelude.{codes, String, string_bytes, Vec}
 use Rattle.std.specs.declared.alloc.Global.{Global}
 use Rattle.std.specs.Cmp.Lexicographic.{slice_cmp}
 use Rattle.std.specs.Ordering.{match_ordering, nat_cmp}
@@ -24,7 +24,8 @@ use Rattle.case_text.specs.Told.{name_at}
 unfoldable pub with_member : List ℕ → Data → Members → Members
 with_member k d no_members = member k d no_members
 with_member k d (member l e ms) =
-    match_ordering (slice_cmp nat_cmp k l) (member k d (member l e ms)) (member l d ms) (member l e (with_member k d ms))
+    match_ordering (slice_cmp nat_cmp k l) (member k d (member l e ms)) (member l d ms)
+    (member l e (with_member k d ms))
 
 abbrev pub Pair : Type 0
 Pair = List ℕ × Data
