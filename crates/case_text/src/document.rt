@@ -1,5 +1,5 @@
 //! The document that tells the parts of a case.
-ghost use Rattle.std.specs.Prelude.{◌≡◌, map, codes, string_bytes, IfOk, OnOk};
+ghost use Rattle.std.specs.Prelude.{◌≡◌, map, codes, IfOk, OnOk};
 ghost use Rattle.case_rules.specs.Rules.{word_of};
 ghost use Rattle.toml.specs.View.{table_view, view};
 ghost use Rattle.case_text.specs.Written.{cluster_pairs, column_data, column_pairs, document_told, heap_pairs};

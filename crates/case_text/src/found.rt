@@ -1,5 +1,5 @@
 //! Whether the columns of indexes are found by their names.
-ghost use Rattle.std.specs.Prelude.{◌≡◌, position, string_bytes};
+ghost use Rattle.std.specs.Prelude.{◌≡◌, position};
 ghost use Rattle.std.specs.List.{list_all};
 ghost use Rattle.case_text.specs.Told.{are_found, index_is_found, is_at, is_key_named, is_named, key_is_found};
 ghost use Rattle.case_text.specs.Told.{more_is_found, name_at};
