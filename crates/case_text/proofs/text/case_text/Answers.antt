@@ -18,4 +18,5 @@ returns-in-Err-Refused-clause-refused c =
     let utf8 = is_utf8-from_IsUtf8 c.as_bytes.result.now c.as_bytes.ensures.utf8 in
     let means = text_means (string_bytes c.in_ok-text.text) (document_told c.args.cluster.now c.args.table.now) (rw same at utf8) c.in_ok-text.ensures in
     let told = rw same at c.in-Err-Refused.ensures.err in
-    sym means ∙ subst (λ fault. Tells (case_of (string_bytes c.in_ok-text.text)) fault) c.in-Err-Refused.field-0-is told
+    let broken = subst (λ fault. Tells (case_of (string_bytes c.in_ok-text.text)) fault) c.in-Err-Refused.field-0-is told in
+    (sym c.if-not-are_found.ensures, sym means ∙ broken)
