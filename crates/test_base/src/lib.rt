@@ -1,11 +1,13 @@
-//! The tests of the crates that reach files and say what was found: `outside`, `case_file`, `reports` and
-//! `rel_files`.
+//! The tests of the crates that reach files and say what was found: `outside`, `case_file`, `case_text`,
+//! `reports` and `rel_files`.
 #![tactic(auto)]
 
 #[cfg(test)]
 mod attach_files_tests;
 #[cfg(test)]
 mod case_file_tests;
+#[cfg(test)]
+mod case_text_tests;
 #[cfg(test)]
 mod case_texts;
 #[cfg(test)]
