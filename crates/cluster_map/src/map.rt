@@ -131,8 +131,8 @@ pub fn read_map(bytes: &[u8]) -> Result<FileMap, MapFault>
     }
 }
 
-/// What `read_map` tells of bytes is true by `SaysTrue`, in the words of each answer, and nothing else is. Of a map that
-/// is told, each entry's file is the one that its oid has.
+/// What `read_map` tells of bytes is true by `SaysTrue`, in the words of each answer, and nothing else is. Of a map
+/// that is told, each entry's file is the one that its oid has.
 pub fn maps_are_told_exactly()
     ensures is { (bytes : List ℕ) → SaysTrue bytes (map_said bytes) }
     ensures alone { (bytes : List ℕ) (other : Result (List Entry) Fault) → SaysTrue bytes other

@@ -52,8 +52,8 @@ fn folder_of_space(
 }
 
 /// The folder of a database's relations in a tablespace, below the data directory: `global` in the one of shared
-/// relations, `base/DATABASE` in the default one, and `pg_tblspc/SPACE/PG_MAJOR_CATALOG/DATABASE` in all others. That of
-/// a database itself is the one in its own tablespace.
+/// relations, `base/DATABASE` in the default one, and `pg_tblspc/SPACE/PG_MAJOR_CATALOG/DATABASE` in all others. That
+/// of a database itself is the one in its own tablespace.
 #[tactic(auto, unfolding(crate::specs::Paths::folder_in))]
 pub fn folder_in(
     alloc: Global,
