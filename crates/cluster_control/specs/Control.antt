@@ -1,8 +1,9 @@
 -- The control file of a cluster: which of its bytes say what, and when it is refused.
-use Rattle.std.specs.Prelude.{◌≡◌, ◌≢◌, ℕ, ◌+◌, ◌-◌, ◌*◌, ◌^◌, ◌==◌, ◌&&◌, ◌||◌, Bool, true, false, not, nat_lt}
+use Rattle.std.specs.Prelude.{◌≡◌, ◌≢◌, ℕ, ◌+◌, ◌-◌, ◌*◌, ◌%◌, ◌^◌, ◌==◌, ◌&&◌, ◌||◌, Bool, true, false, not, nat_lt}
 use Rattle.std.specs.Prelude.{if◌then◌else◌, List, length, take, drop, Option, Some, None, Result, Ok, Err}
 use Rattle.byteorder.specs.Endian.{little_number}
 use Rattle.page_layout.specs.Page.{u32_at}
+use Rattle.rel_files.specs.declared.cluster.Cluster.{Cluster}
 use Rattle.cluster_control.specs.Crc.{IsCrc, crc_of}
 use Rattle.cluster_control.specs.declared.control.ControlFile.{ControlFile}
 use Rattle.cluster_control.specs.declared.fault.ControlFault.{ControlFault}
@@ -33,6 +34,16 @@ control_of bytes = record {
   segment_blocks = u32_at bytes 220;
   log_file_bytes = u32_at bytes 228;
   has_checksums = not (u32_at bytes 252 == 0);
+}
+
+-- the numbers by which transactions are judged: of the next transaction the lower half, which is without its epoch
+abbrev pub numbers_of : ControlFile → Cluster
+numbers_of control = record {
+  next_xid = control.next_xid % 2 ^ 32;
+  oldest_xid = control.oldest_xid;
+  next_multi = control.next_multi;
+  oldest_multi = control.oldest_multi;
+  next_member = control.next_member;
 }
 
 -- the last four bytes that are read are the CRC-32C of the 288 before them

@@ -1,7 +1,7 @@
 //! The control file.
 ghost use Rattle.std.specs.Prelude.{◌≡◌, ◌+◌, ◌≤◌, length, ℕ, List, Result};
 ghost use Rattle.cluster_control.specs.Control.{SaysTrue, control_of, control_said, is_known_version, is_this_build};
-ghost use Rattle.cluster_control.specs.Control.{u64_at};
+ghost use Rattle.cluster_control.specs.Control.{numbers_of, u64_at};
 ghost use Rattle.cluster_control.specs.declared.control.ControlFile.{ControlFile as ControlSaid};
 ghost use Rattle.cluster_control.specs.declared.fault.ControlFault.{ControlFault as FaultSaid};
 
@@ -10,6 +10,7 @@ use crate::fault::ControlFault;
 use crate::state::ClusterState;
 use byteorder::{ByteOrder, LittleEndian};
 use page_layout::u32_at;
+use rel_files::Cluster;
 
 /// How many bytes the control file has (`catalog/pg_control.h`, `PG_CONTROL_FILE_SIZE`).
 pub const CONTROL_BYTES: usize = 8192;
@@ -50,6 +51,21 @@ pub struct ControlFile {
     pub log_file_bytes: u32,
     /// Whether pages carry checksums.
     pub has_checksums: bool,
+}
+
+impl ControlFile {
+    /// The numbers by which transactions are judged, as a case has them: the next transaction is without its epoch.
+    pub fn numbers(&self) -> Cluster
+        ensures { result ≡ numbers_of self.now }
+    {
+        Cluster {
+            next_xid: (self.next_xid % (1 << 32)) as u32,
+            oldest_xid: self.oldest_xid,
+            next_multi: self.next_multi,
+            oldest_multi: self.oldest_multi,
+            next_member: self.next_member,
+        }
+    }
 }
 
 /// The number in the eight bytes at a place, the lowest byte first.
