@@ -1,0 +1,5 @@
+pub mod Bits
+pub mod Division
+pub mod Held
+pub mod Said
+pub mod Sums

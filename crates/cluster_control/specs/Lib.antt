@@ -1,0 +1,4 @@
+pub mod Control
+pub mod Crc
+pub mod State
+pub mod Version
