@@ -1,0 +1,2 @@
+mod ArrayLaws
+mod ElementLaws

@@ -1,0 +1,4 @@
+pub mod Arrays
+pub mod Element
+pub mod Lists
+pub mod Laws
