@@ -174,7 +174,8 @@ fn judge_all_alone<F: Files>(
     Ok(alone)
 }
 
-// The reports on indexes beside the heap, if nothing was found of that; else none.
+// The reports on indexes beside the heap, if nothing was found of that; else none. Where there is no index the heap
+// isn't read again.
 fn join_all<F: Files>(
     alloc: Global,
     files: &mut F,
@@ -193,6 +194,9 @@ fn join_all<F: Files>(
     let Some(heap) = table.heap else {
         return Ok(VecDeque::new(alloc));
     };
+    if trees.is_empty() {
+        return Ok(VecDeque::new(alloc));
+    }
     let case = table.case;
     let reports = check_indexes(alloc, files, IndexedTable { case, heap, trees })?;
     Ok(reports)
